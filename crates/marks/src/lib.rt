@@ -1,0 +1,9 @@
+// The mark of a product (document 01, "The product"): whether it is what the factor times the significand rounds to.
+pub enum Mark {
+    // for every fraction between the ends
+    Right,
+    // for some of them and not for others
+    Open,
+    // for none
+    Wrong,
+}
