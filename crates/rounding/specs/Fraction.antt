@@ -1,0 +1,46 @@
+-- Signed fractions, their exact sums and products, and RN of them: what document 01 says of factors and products is said with these. Definitions only. Assumes nothing.
+use mathlib.Core.Bool.{Bool, true, false, not}
+use Prim.Native.Nat.{ℕ, _+_, _*_, _^_}
+use lib.Dec.{ltb}
+use lib.Ieee.{up, down, unlike}
+use Rattle.rounding.specs.declared.Rounded.{Rounded}
+use Rattle.rounding.specs.Apart.{apart}
+use Rattle.rounding.specs.Grid.{Rule}
+use Rattle.rounding.specs.Round.{rounded}
+
+-- num / den, for a den above 0; negative where `minus`
+pub record Fraction : Type 0 where
+  pub minus : Bool
+  pub num : ℕ
+  pub den : ℕ
+
+-- a / 2 ^ t
+abbrev pub over : (a t : ℕ) → Fraction
+over a t = record { minus = false; num = a; den = 2 ^ t }
+
+abbrev pub negated : Fraction → Fraction
+negated x = record { minus = not (x .minus); num = x .num; den = x .den }
+
+abbrev pub times : Fraction → Fraction → Fraction
+times x y = record { minus = unlike (x .minus) (y .minus); num = x .num * y .num; den = x .den * y .den }
+
+-- ± a ± b; a sum of zero from opposite signs is plus zero
+abbrev pub joined : Bool → Bool → (a b den : ℕ) → Fraction
+joined true true a b d = record { minus = true; num = a + b; den = d }
+joined false false a b d = record { minus = false; num = a + b; den = d }
+joined true false a b d = record { minus = ltb b a; num = apart a b; den = d }
+joined false true a b d = record { minus = ltb a b; num = apart a b; den = d }
+
+abbrev pub plus : Fraction → Fraction → Fraction
+plus x y = joined (x .minus) (y .minus) (x .num * y .den) (y .num * x .den) (x .den * y .den)
+
+abbrev pub less : Fraction → Fraction → Fraction
+less x y = plus x (negated y)
+
+-- a rounded size with a sign
+abbrev pub signed : Bool → Rounded → Fraction
+signed s r = record { minus = s; num = r .significand * up (r .exponent); den = down (r .exponent) }
+
+-- RN of document 01: the size is rounded, the sign stays
+abbrev pub RN : Rule → (n : ℕ) → Fraction → Fraction
+RN rule n x = signed (x .minus) (rounded rule n (x .num) (x .den))

@@ -1,0 +1,144 @@
+-- Signed fractions counted in a unit 2 ^ - t in which they are whole: sums, products and RN of them are those of whole numbers. Assumes nothing.
+use mathlib.Core.Path.{_≡_, refl, sym, ap, ap₂, _∙_}
+use mathlib.Core.Bool.{Bool, true, false, not}
+use Prim.Native.Nat.{ℕ, _+_, _*_, _^_, _≤_, _<_}
+use native.Mathlib.Nat.{mul-pos, mul-lt-mul-of-pos-right, mul-le-mul-right}
+use native.Mathlib.Decide.{decLt}
+use native.Mathlib.Omega.{arith}
+use lib.Dec.{ltb}
+use lib.Pow.{pow-add, pow-pos}
+use lib.Ieee.{unlike}
+use lib.Ieee.Fits.{down-pos}
+use borrow.Author.Tests.{lt-ltb, le-ltb}
+use Rattle.rounding.specs.Apart.{apart, apart-mul}
+use Rattle.rounding.specs.Grid.{Rule}
+use Rattle.rounding.specs.Unit.{rn}
+use Rattle.rounding.specs.Round.{rounded}
+use Rattle.rounding.specs.RoundLaws.{rounded-whole}
+use Rattle.rounding.specs.Fraction.{Fraction, over, negated, times, joined, plus, less, RN}
+
+-- x is a of the unit 2 ^ - t in size, and negative where m
+pub record Counts (t : ℕ) (m : Bool) (a : ℕ) (x : Fraction) : Type 0 where
+  pub some : 0 < x .den
+  pub sign : x .minus ≡ m
+  pub count : x .num * 2 ^ t ≡ a * x .den
+
+pub over-counts : (a t : ℕ) → Counts t false a (over a t)
+over-counts a t = record { some = pow-pos t; sign = refl; count = refl }
+
+-- in a finer unit
+pub counts-finer : (t j : ℕ) (m : Bool) (a : ℕ) (x : Fraction) → Counts t m a x → Counts (t + j) m (a * 2 ^ j) x
+counts-finer t j m a x c =
+    record {
+      some = c .some;
+      sign = c .sign;
+      count = ap (λ (z : ℕ). x .num * z) (pow-add 2 t j) ∙ omega (arith, ap (λ (z : ℕ). z * 2 ^ j) (c .count));
+    }
+
+-- ---- RN
+pub RN-counts : (rule : Rule) (n : ℕ) → 0 < n → (t : ℕ) (m : Bool) (a : ℕ) (x : Fraction) → Counts t m a x → Counts t m (rn rule n a 1) (RN rule n x)
+RN-counts rule n P t m a x c =
+    record {
+      some = down-pos (rounded rule n (x .num) (x .den) .exponent);
+      sign = c .sign;
+      count = rounded-whole rule n P (x .num) (x .den) t a (c .some) (c .count);
+    }
+
+-- ---- products
+pub times-counts : (t s : ℕ) (a b : ℕ) (m : Bool) (x y : Fraction) → Counts t m a x → Counts s false b y → Counts (t + s) m (a * b) (times x y)
+times-counts t s a b m x y c d =
+    record {
+      some = mul-pos (c .some) (d .some);
+      sign = ap₂ unlike (c .sign) (d .sign) ∙ unlike-false m;
+      count =
+          ap (λ (z : ℕ). x .num * y .num * z) (pow-add 2 t s)
+          ∙ regroup (x .num) (y .num) (2 ^ t) (2 ^ s)
+          ∙ ap₂ (λ (p q : ℕ). p * q) (c .count) (d .count)
+          ∙ regroup a (x .den) b (y .den);
+    }
+  where
+    unlike-false : (m : Bool) → unlike m false ≡ m
+    unlike-false true = refl
+    unlike-false false = refl
+
+    regroup : (p q u v : ℕ) → p * q * (u * v) ≡ p * u * (q * v)
+    regroup p q u v = omega arith
+
+-- ---- sums
+-- the sign and the size of ± a ± b
+abbrev pub sumSign : Bool → Bool → (a b : ℕ) → Bool
+sumSign true true a b = true
+sumSign false false a b = false
+sumSign true false a b = ltb b a
+sumSign false true a b = ltb a b
+
+abbrev pub sumSize : Bool → Bool → (a b : ℕ) → ℕ
+sumSize true true a b = a + b
+sumSize false false a b = a + b
+sumSize true false a b = apart a b
+sumSize false true a b = apart a b
+
+joined-sign : (m k : Bool) (a b d : ℕ) → joined m k a b d .minus ≡ sumSign m k a b
+joined-sign true true a b d = refl
+joined-sign true false a b d = refl
+joined-sign false true a b d = refl
+joined-sign false false a b d = refl
+
+joined-size : (m k : Bool) (a b d : ℕ) → joined m k a b d .num ≡ sumSize m k a b
+joined-size true true a b d = refl
+joined-size true false a b d = refl
+joined-size false true a b d = refl
+joined-size false false a b d = refl
+
+joined-den : (m k : Bool) (a b d : ℕ) → joined m k a b d .den ≡ d
+joined-den true true a b d = refl
+joined-den true false a b d = refl
+joined-den false true a b d = refl
+joined-den false false a b d = refl
+
+ltb-scale : (a b c : ℕ) → 0 < c → ltb (a * c) (b * c) ≡ ltb a b
+ltb-scale a b c C = go (decLt a b)
+  where
+    go : Dec (a < b) → ltb (a * c) (b * c) ≡ ltb a b
+    go (yes h) = lt-ltb (a * c) (b * c) (mul-lt-mul-of-pos-right h C) ∙ sym (lt-ltb a b h)
+    go (no h) = let l : b ≤ a = omega arith in le-ltb (a * c) (b * c) (mul-le-mul-right c l) ∙ sym (le-ltb a b l)
+
+sign-scale : (m k : Bool) (a b c : ℕ) → 0 < c → sumSign m k (a * c) (b * c) ≡ sumSign m k a b
+sign-scale true true a b c C = refl
+sign-scale false false a b c C = refl
+sign-scale true false a b c C = ltb-scale b a c C
+sign-scale false true a b c C = ltb-scale a b c C
+
+size-scale : (m k : Bool) (a b c : ℕ) → sumSize m k (a * c) (b * c) ≡ sumSize m k a b * c
+size-scale true true a b c = omega arith
+size-scale false false a b c = omega arith
+size-scale true false a b c = sym (apart-mul a b c)
+size-scale false true a b c = sym (apart-mul a b c)
+
+pub plus-counts : (t : ℕ) (a b : ℕ) (m k : Bool) (x y : Fraction) → Counts t m a x → Counts t k b y → Counts t (sumSign m k a b) (sumSize m k a b) (plus x y)
+plus-counts t a b m k x y c d =
+    let p = x .num * y .den in
+    let q = y .num * x .den in
+    let e = x .den * y .den in
+    let T = 2 ^ t in
+    let u : p * T ≡ a * e = omega (arith, ap (λ (z : ℕ). z * y .den) (c .count)) in
+    let v : q * T ≡ b * e = omega (arith, ap (λ (z : ℕ). z * x .den) (d .count)) in
+    let E : 0 < e = mul-pos (c .some) (d .some) in
+    record {
+      some = rw (joined-den (x .minus) (y .minus) p q e) E;
+      sign =
+          joined-sign (x .minus) (y .minus) p q e
+          ∙ ap₂ (λ (f g : Bool). sumSign f g p q) (c .sign) (d .sign)
+          ∙ sym (sign-scale m k p q T (pow-pos t))
+          ∙ ap₂ (λ (f g : ℕ). sumSign m k f g) u v
+          ∙ sign-scale m k a b e E;
+      count =
+          ap (λ (z : ℕ). z * T) (joined-size (x .minus) (y .minus) p q e ∙ ap₂ (λ (f g : Bool). sumSize f g p q) (c .sign) (d .sign))
+          ∙ sym (size-scale m k p q T)
+          ∙ ap₂ (λ (f g : ℕ). sumSize m k f g) u v
+          ∙ size-scale m k a b e
+          ∙ ap (λ (z : ℕ). sumSize m k a b * z) (sym (joined-den (x .minus) (y .minus) p q e));
+    }
+
+pub less-counts : (t : ℕ) (a b : ℕ) (x y : Fraction) → Counts t false a x → Counts t false b y → Counts t (ltb a b) (apart a b) (less x y)
+less-counts t a b x y c d = plus-counts t a b false true x (negated y) c (record { some = d .some; sign = ap not (d .sign); count = d .count })

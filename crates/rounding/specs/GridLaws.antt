@@ -1,0 +1,150 @@
+-- Laws of the nearest whole number, for every tie rule: what nearest means, and that it is monotone, exact where it can be and constant where no midpoint lies. Assumes nothing.
+use mathlib.Core.Path.{_≡_, refl, sym, ap, _∙_, subst}
+use mathlib.Core.Bool.{Bool, true, false, cond}
+use Prim.Native.Nat.{ℕ, suc, _+_, _*_, _/_, _%_, _≤_, _<_}
+use native.Mathlib.Decide.{decLe}
+use native.Mathlib.Nat.{div-add-mod', mod-lt, mul-le-mul-right, le-antisymm, lt-of-mul-lt-mul-right, eq-of-mul-eq-mul-right, le-of-eq, mul-pos, lt-of-not-le, mul-lt-mul-of-pos-right, le-of-mul-le-mul-right, mul-mod-left}
+use native.Mathlib.Omega.{arith}
+use lib.Dec.{eqb, ltb}
+use borrow.Author.Tests.{eqb-true, eqb-false, ltb-true, ltb-false, eq-eqb, ne-eqb, lt-ltb, le-ltb}
+use Rattle.rounding.specs.declared.Location.{Location}
+use Rattle.rounding.specs.declared.Location.the-variants.{Exact, BelowHalf, Half, AboveHalf}
+use Rattle.rounding.specs.Grid.{Rule, location, choose, nearest}
+
+-- ---- what a location says of the remainder
+abbrev pub Lies : Location → (r d : ℕ) → Type 0
+Lies Exact r d = r ≡ 0
+Lies BelowHalf r d = (0 < r) × (r * 2 < d)
+Lies Half r d = r * 2 ≡ d
+Lies AboveHalf r d = d < r * 2
+
+pub location-lies : (r d : ℕ) → Lies (location r d) r d
+location-lies r d = go (eqb r 0) (ltb (r * 2) d) (eqb (r * 2) d) refl refl refl
+  where
+    go : (x y z : Bool) → eqb r 0 ≡ x → ltb (r * 2) d ≡ y → eqb (r * 2) d ≡ z → Lies (cond x Exact (cond y BelowHalf (cond z Half AboveHalf))) r d
+    go true y z p q s = eqb-true r 0 p
+    go false true z p q s = (omega (arith, eqb-false r 0 p), ltb-true (r * 2) d q)
+    go false false true p q s = eqb-true (r * 2) d s
+    go false false false p q s = omega (arith, ltb-false (r * 2) d q, eqb-false (r * 2) d s)
+
+-- ---- k is a whole number nearest to N / d, and where two are as near it is the rule's
+pub record Nearest (rule : Rule) (N d k : ℕ) : Type 0 where
+  pub low : 2 * (k * d) ≤ 2 * N + d
+  pub high : 2 * N ≤ 2 * (k * d) + d
+  pub tie : (q : ℕ) → 2 * N ≡ 2 * (q * d) + d → k ≡ cond (rule q) (suc q) q
+
+-- a tie's lower neighbour is the whole part
+tie-below : (N d q r p : ℕ) → q * d + r ≡ N → r < d → 2 * N ≡ 2 * (p * d) + d → q ≡ p
+tie-below N d q r p e R t =
+    le-antisymm (omega (arith, lt-of-mul-lt-mul-right d {m = q} {n = suc p} (omega arith))) (omega (arith, lt-of-mul-lt-mul-right d {m = p} {n = suc q} (omega arith)))
+
+pub tie-remainder : (N d q r p : ℕ) → q * d + r ≡ N → r < d → 2 * N ≡ 2 * (p * d) + d → r * 2 ≡ d
+tie-remainder N d q r p e R t = omega (arith, ap (λ (z : ℕ). z * d) (tie-below N d q r p e R t))
+
+pub choose-nearest : (rule : Rule) (N d q r : ℕ) (l : Location) → q * d + r ≡ N → r < d → Lies l r d → Nearest rule N d (choose rule q l)
+choose-nearest rule N d q r Exact e R a = record { low = omega arith; high = omega arith; tie = λ p t. absurd (omega (arith, tie-remainder N d q r p e R t)) }
+choose-nearest rule N d q r BelowHalf e R a = record { low = omega arith; high = omega arith; tie = λ p t. absurd (omega (arith, tie-remainder N d q r p e R t)) }
+choose-nearest rule N d q r Half e R a = go (rule q) (λ p t. ap (λ (z : ℕ). cond (rule z) (suc z) z) (tie-below N d q r p e R t))
+  where
+    go : (b : Bool) → ((p : ℕ) → 2 * N ≡ 2 * (p * d) + d → cond b (suc q) q ≡ cond (rule p) (suc p) p) → Nearest rule N d (cond b (suc q) q)
+    go true t = record { low = omega arith; high = omega arith; tie = t }
+    go false t = record { low = omega arith; high = omega arith; tie = t }
+choose-nearest rule N d q r AboveHalf e R a = record { low = omega arith; high = omega arith; tie = λ p t. absurd (omega (arith, tie-remainder N d q r p e R t)) }
+
+pub nearest-is : (rule : Rule) (N d : ℕ) → 0 < d → Nearest rule N d (nearest rule N d)
+unfolding nearest
+nearest-is rule N d D = choose-nearest rule N d (N / d) (N % d) (location (N % d) d) (div-add-mod' N d) (mod-lt N D) (location-lies (N % d) d)
+
+-- ---- a larger fraction has a nearest that is no smaller; so there is one only
+pub nearest-ordered : (rule : Rule) (N d k M e j : ℕ) → 0 < d → 0 < e → N * e ≤ M * d → Nearest rule N d k → Nearest rule M e j → k ≤ j
+nearest-ordered rule N d k M e j D P h a b = go (decLe k j)
+  where
+    go : Dec (k ≤ j) → k ≤ j
+    go (yes y) = y
+    go (no n) =
+        let l : suc j ≤ k = lt-of-not-le n in
+        let de : 0 < d * e = mul-pos D P in
+        -- both are the tie above j
+        let x : 2 * (k * d) * e ≤ (2 * N + d) * e = mul-le-mul-right e (a .low) in
+        let y : 2 * M * d ≤ (2 * (j * e) + e) * d = mul-le-mul-right d (b .high) in
+        let z : suc j * (d * e) ≤ k * (d * e) = mul-le-mul-right (d * e) l in
+        let s : 2 * N ≡ 2 * (j * d) + d = eq-of-mul-eq-mul-right e P (2 * N) (2 * (j * d) + d) (omega arith) in
+        let t : 2 * M ≡ 2 * (j * e) + e = eq-of-mul-eq-mul-right d D (2 * M) (2 * (j * e) + e) (omega arith) in
+        le-of-eq (a .tie j s ∙ sym (b .tie j t))
+
+pub nearest-mono : (rule : Rule) (N d M e : ℕ) → 0 < d → 0 < e → N * e ≤ M * d → nearest rule N d ≤ nearest rule M e
+nearest-mono rule N d M e D P h = nearest-ordered rule N d (nearest rule N d) M e (nearest rule M e) D P h (nearest-is rule N d D) (nearest-is rule M e P)
+
+-- whatever is nearest is `nearest`
+pub nearest-only : (rule : Rule) (N d k : ℕ) → 0 < d → Nearest rule N d k → nearest rule N d ≡ k
+nearest-only rule N d k D a =
+    le-antisymm (nearest-ordered rule N d (nearest rule N d) N d k D D (le-of-eq refl) (nearest-is rule N d D) a) (nearest-ordered rule N d k N d (nearest rule N d) D D (le-of-eq refl) a (nearest-is rule N d D))
+
+-- it depends on the fraction alone
+pub nearest-same : (rule : Rule) (N d M e : ℕ) → 0 < d → 0 < e → N * e ≡ M * d → nearest rule N d ≡ nearest rule M e
+nearest-same rule N d M e D P h = le-antisymm (nearest-mono rule N d M e D P (le-of-eq h)) (nearest-mono rule M e N d P D (le-of-eq (sym h)))
+
+pub nearest-exact : (rule : Rule) (k d : ℕ) → 0 < d → nearest rule (k * d) d ≡ k
+nearest-exact rule k d D =
+    nearest-only rule (k * d) d k D (record { low = omega arith; high = omega arith; tie = λ p t. absurd (omega (arith, tie-remainder (k * d) d k 0 p (omega arith) D t)) })
+
+-- ---- bounds that are whole numbers go through
+pub nearest-le : (rule : Rule) (N d k : ℕ) → 0 < d → N ≤ k * d → nearest rule N d ≤ k
+nearest-le rule N d k D h = subst (λ (z : ℕ). nearest rule N d ≤ z) (nearest-exact rule k d D) (nearest-mono rule N d (k * d) d D D (mul-le-mul-right d h))
+
+pub nearest-ge : (rule : Rule) (N d k : ℕ) → 0 < d → k * d ≤ N → k ≤ nearest rule N d
+nearest-ge rule N d k D h = subst (λ (z : ℕ). z ≤ nearest rule N d) (nearest-exact rule k d D) (nearest-mono rule (k * d) d N d D D (mul-le-mul-right d h))
+
+-- ---- below the midpoint above q it is at most q, above that midpoint more
+pub nearest-below : (rule : Rule) (N d q : ℕ) → 0 < d → 2 * N < 2 * (q * d) + d → nearest rule N d ≤ q
+nearest-below rule N d q D h = omega (arith, lt-of-mul-lt-mul-right d {m = nearest rule N d} {n = suc q} (omega (arith, nearest-is rule N d D .low)))
+
+pub nearest-above : (rule : Rule) (N d q : ℕ) → 0 < d → 2 * (q * d) + d < 2 * N → suc q ≤ nearest rule N d
+nearest-above rule N d q D h = lt-of-mul-lt-mul-right d {m = q} {n = nearest rule N d} (omega (arith, nearest-is rule N d D .high))
+
+-- ---- the location, too, depends on the fraction alone
+cross : (N d M e : ℕ) → 0 < d → 0 < e → N * e ≡ M * d → N % d * e ≡ M % e * d
+cross N d M e D P h =
+    let a = div-add-mod' N d in
+    let b = div-add-mod' M e in
+    let ra = mod-lt N D in
+    let rb = mod-lt M P in
+    let p = N / d in
+    let q = M / e in
+    let x : (p * d + N % d) * e ≡ (q * e + M % e) * d = ap (λ (z : ℕ). z * e) a ∙ h ∙ ap (λ (z : ℕ). z * d) (sym b) in
+    let y = mul-lt-mul-of-pos-right ra P in
+    let z = mul-lt-mul-of-pos-right rb D in
+    let s : p ≡ q = le-antisymm (omega (arith, lt-of-mul-lt-mul-right (d * e) {m = p} {n = suc q} (omega arith))) (omega (arith, lt-of-mul-lt-mul-right (d * e) {m = q} {n = suc p} (omega arith))) in
+    omega (arith, ap (λ (w : ℕ). w * (d * e)) s)
+
+module _ (r d s e : ℕ) (D : 0 < d) (P : 0 < e) (h : r * e ≡ s * d) where
+  zero-same : eqb r 0 ≡ eqb s 0
+  zero-same = go (eqb r 0) refl
+    where
+      go : (b : Bool) → eqb r 0 ≡ b → b ≡ eqb s 0
+      go true p =
+          let z : 0 * e ≡ s * d = ap (λ (w : ℕ). w * e) (sym (eqb-true r 0 p)) ∙ h in
+          sym (eq-eqb s 0 (eq-of-mul-eq-mul-right d D s 0 (omega arith)))
+      go false p = sym (ne-eqb s 0 (λ q. eqb-false r 0 p (eq-of-mul-eq-mul-right e P r 0 (h ∙ ap (λ (w : ℕ). w * d) q ∙ omega arith))))
+
+  half-same : eqb (r * 2) d ≡ eqb (s * 2) e
+  half-same = go (eqb (r * 2) d) refl
+    where
+      go : (b : Bool) → eqb (r * 2) d ≡ b → b ≡ eqb (s * 2) e
+      go true p = sym (eq-eqb (s * 2) e (eq-of-mul-eq-mul-right d D (s * 2) e (omega (arith, ap (λ (w : ℕ). w * e) (eqb-true (r * 2) d p)))))
+      go false p = sym (ne-eqb (s * 2) e (λ q. eqb-false (r * 2) d p (eq-of-mul-eq-mul-right e P (r * 2) d (omega (arith, ap (λ (w : ℕ). w * d) q)))))
+
+  below-same : ltb (r * 2) d ≡ ltb (s * 2) e
+  below-same = go (ltb (r * 2) d) refl
+    where
+      go : (b : Bool) → ltb (r * 2) d ≡ b → b ≡ ltb (s * 2) e
+      go true p = sym (lt-ltb (s * 2) e (lt-of-mul-lt-mul-right d (omega (arith, mul-lt-mul-of-pos-right (ltb-true (r * 2) d p) P))))
+      go false p = sym (le-ltb (s * 2) e (le-of-mul-le-mul-right {k = d} (omega (arith, mul-le-mul-right e (ltb-false (r * 2) d p))) D))
+
+pub location-same : (N d M e : ℕ) → 0 < d → 0 < e → N * e ≡ M * d → location (N % d) d ≡ location (M % e) e
+location-same N d M e D P h =
+    let c = cross N d M e D P h in
+    rw (zero-same (N % d) d (M % e) e D P c, below-same (N % d) d (M % e) e D P c, half-same (N % d) d (M % e) e D P c)
+
+pub location-exact : (k d : ℕ) → 0 < d → location (k * d % d) d ≡ Exact
+location-exact k d D = rw (mul-mod-left k d)

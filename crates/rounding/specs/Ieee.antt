@@ -1,0 +1,93 @@
+-- RN with ties to even is the toolchain's own account of the standard: over a format of 24 or 53 bits, for every fraction in its normal range,
+-- the value that `lib.Ieee.round` gives. Assumes nothing.
+use mathlib.Core.Path.{_≡_, refl, sym, ap, _∙_, subst}
+use mathlib.Core.Bool.{Bool, true, false, cond}
+use Prim.Native.Nat.{ℕ, suc, _+_, _-_, _*_, _/_, _%_, _^_, _≤_, _<_, compare, Ordering, Ordering·lt, Ordering·eq, Ordering·gt}
+use native.Mathlib.Nat.{div-add-mod', mod-lt, mul-pos, mul-right-comm, eq-of-mul-eq-mul-right, lt-of-le-of-lt}
+use native.Mathlib.Omega.{arith}
+use lib.Dec.{isLe, isEq, lit<}
+use lib.Pow.{pow-pos}
+use lib.Ieee
+use lib.Ieee.{Float, nan, inf, fin, Format, binary32, binary64, prec, emax, low, up, down}
+use lib.Ieee.Exact.{HasValue, units-val}
+use lib.Ieee.Fits.{round-is, two, two-le-pos}
+use lib.Ieee.Nearest.{closest}
+use lib.Ieee.Order
+use lib.Ieee.Order.{drop}
+use lib.Ieee.Scale.{grid, overflow}
+use borrow.Author.Tests.{leb-true, leb-false, eqb-true, eqb-false}
+use Rattle.rounding.specs.declared.Location.the-variants.{Half, AboveHalf}
+use Rattle.rounding.specs.Grid.{nearest, toEven}
+use Rattle.rounding.specs.GridLaws.{Nearest, tie-remainder, choose-nearest, nearest-only}
+use Rattle.rounding.specs.Digits.{pow-half}
+use Rattle.rounding.specs.Unit.{kept, rn}
+use Rattle.rounding.specs.UnitLaws.{rn-le}
+use Rattle.rounding.specs.Round.{rounded, Equals}
+use Rattle.rounding.specs.RoundLaws.{rounded-value}
+
+-- ---- the nearest whole number
+even-up : (q : ℕ) → q + q % 2 ≡ cond (toEven q) (suc q) q
+even-up q = go (toEven q) refl
+  where
+    go : (b : Bool) → toEven q ≡ b → q + q % 2 ≡ cond b (suc q) q
+    go true e = omega (arith, eqb-true (q % 2) 1 e)
+    go false e = omega (arith, eqb-false (q % 2) 1 e)
+
+module _ (N d q r : ℕ) (e : q * d + r ≡ N) (R : r < d) where
+  by-order : (o : Ordering) → compare (r * 2) d ≡ o → Nearest toEven N d (Ieee.nearest q o)
+  by-order Ordering·lt c =
+      let l = leb-true (r * 2) d (ap isLe c) in
+      let f : r * 2 < d = omega (arith, l, eqb-false (r * 2) d (ap isEq c)) in
+      record { low = omega arith; high = omega arith; tie = λ p t. absurd (omega (arith, tie-remainder N d q r p e R t)) }
+  by-order Ordering·eq c = rw (even-up q) (choose-nearest toEven N d q r Half e R (eqb-true (r * 2) d (ap isEq c)))
+  by-order Ordering·gt c = choose-nearest toEven N d q r AboveHalf e R (leb-false (r * 2) d (ap isLe c))
+
+pub closest-is : (N d : ℕ) → 0 < d → nearest toEven N d ≡ closest N d
+closest-is N d D = nearest-only toEven N d (closest N d) D (by-order N d (N / d) (N % d) (div-add-mod' N d) (mod-lt N D) (compare (N % d * 2) d) refl)
+
+-- ---- a format's grid, in units of its smallest value
+pub rn-grid : (f : Format) (a c : ℕ) → 0 < c → rn toEven (prec f) (a * 2 ^ low f) c ≡ grid f a c
+unfolding rn kept
+rn-grid f a c C =
+    let N = a * 2 ^ low f in
+    let k = drop (prec f) N c in
+    ap (λ (z : ℕ). z * 2 ^ k) (closest-is N (c * 2 ^ k) (mul-pos C (pow-pos k)))
+
+-- ---- values
+pub revalue : (x : Float) (s : Bool) (a c b d : ℕ) → 0 < c → a * d ≡ b * c → HasValue x s a c → HasValue x s b d
+revalue nan s a c b d p h v = v
+revalue (inf t) s a c b d p h v = v
+revalue (fin t m e) s a c b d p h v = (
+  v .0,
+  eq-of-mul-eq-mul-right c p (m * up e * d) (b * down e)
+      (mul-right-comm (m * up e) d c ∙ ap (λ (x : ℕ). x * d) (v .1) ∙ mul-right-comm a (down e) d ∙ ap (λ (x : ℕ). x * down e) h ∙ mul-right-comm b c (down e)),
+)
+
+pub round-value : (f : Format) (s : Bool) (a c : ℕ) → grid f a c < overflow f → HasValue (Ieee.round f s a c) s (grid f a c) (2 ^ low f)
+round-value f s a c h =
+    subst (λ (z : Float). HasValue z s (grid f a c) (2 ^ low f)) (sym (round-is f s a c)) (units-val f s (Order.kept (prec f) (a * 2 ^ low f) c) (drop (prec f) (a * 2 ^ low f) c) h)
+
+-- N / d is not below the least normal number of the format nor above its largest
+pub record InRange (f : Format) (N d : ℕ) : Type 0 where
+  pub from : 2 ^ (prec f - 1) * d ≤ N * 2 ^ low f
+  pub to : N * 2 ^ low f ≤ (2 ^ prec f - 1) * 2 ^ (2 * emax f - 1) * d
+
+-- the format's largest number, in units of its smallest, is below the overflow
+largest : (f : Format) → (2 ^ prec f - 1) * 2 ^ (2 * emax f - 1) < overflow f
+largest binary32 = lit< tt
+largest binary64 = lit< tt
+
+pub rounded-is-ieee : (f : Format) (s : Bool) (N d : ℕ) → 0 < d → InRange f N d
+    → HasValue (Ieee.round f s N d) s (rounded toEven (prec f) N d .significand * up (rounded toEven (prec f) N d .exponent)) (down (rounded toEven (prec f) N d .exponent))
+rounded-is-ieee f s N d D w =
+    let p = prec f in
+    let P : 0 < p = two-le-pos p (two f) in
+    let r = rounded toEven p N d in
+    let M = N * 2 ^ low f in
+    let h : 2 ^ p * d ≤ 2 * M = omega (arith, w .from, ap (λ (z : ℕ). z * d) (pow-half p P)) in
+    let v : Equals r (rn toEven p M d) (2 ^ low f) = rounded-value toEven p P N d (low f) M d D D refl h in
+    let g = rn-grid f N d D in
+    let b : rn toEven p M d ≤ (2 ^ p - 1) * 2 ^ (2 * emax f - 1) = rn-le toEven p P M d (2 ^ p - 1) (2 * emax f - 1) D (omega arith) (w .to) in
+    revalue (Ieee.round f s N d) s (grid f N d) (2 ^ low f) (r .significand * up (r .exponent)) (down (r .exponent)) (pow-pos (low f))
+    (sym (v ∙ ap (λ (z : ℕ). z * down (r .exponent)) g))
+    (round-value f s N d (lt-of-le-of-lt (subst (λ (z : ℕ). z ≤ (2 ^ p - 1) * 2 ^ (2 * emax f - 1)) g b) (largest f)))

@@ -1,0 +1,149 @@
+-- Laws of RN: its significand has n bits, its value in every unit that is fine enough is that of `rn`, and it depends on the fraction alone. Assumes nothing.
+use mathlib.Core.Path.{_≡_, refl, sym, ap, _∙_, subst}
+use mathlib.Core.Bool.{Bool, true, false, cond}
+use Prim.Native.Nat.{ℕ, zero, suc, _+_, _-_, _*_, _%_, _^_, _≤_, _<_}
+use native.Mathlib.Decide.{decLe}
+use native.Mathlib.Nat.{le-of-mul-le-mul-right, lt-of-mul-lt-mul-right, mul-pos, mul-le-mul-left, add-comm, mul-le-mul-right, mul-lt-mul-of-pos-right, le-of-eq, le-of-lt, lt-of-not-le, pow-succ', eq-of-mul-eq-mul-right}
+use native.Mathlib.Omega.{arith}
+use lib.Dec.{eqb}
+use lib.Pow.{pow-add, pow-pos}
+use lib.IntN.{ℤ, pos, negsuc}
+use lib.Ieee.{size, minus, up, down}
+use lib.Ieee.Digits.{size-lt, minus-val}
+use lib.Ieee.Order.{drop}
+use borrow.Author.Tests.{eqb-true, eqb-false, le-leb, lt-leb}
+use Rattle.rounding.specs.declared.Location.{Location}
+use Rattle.rounding.specs.declared.Rounded.{Rounded}
+use Rattle.rounding.specs.Grid.{Rule, location, nearest}
+use Rattle.rounding.specs.GridLaws.{nearest-same, location-same}
+use Rattle.rounding.specs.Digits.{pow-half, drop-lower, drop-upper, drop-at}
+use Rattle.rounding.specs.Unit.{kept, rn}
+use Rattle.rounding.specs.UnitLaws.{kept-le, kept-ge, rn-scale-whole, rn-whole-small}
+use Rattle.rounding.specs.Round.{normalised, stepped, roundedIn, rounded, Equals}
+
+-- a significand of n bits
+pub record HasBits (n s : ℕ) : Type 0 where
+  pub least : 2 ^ (n - 1) ≤ s
+  pub most : s < 2 ^ n
+
+-- ---- exponents
+pub minus-add : (a b j : ℕ) → minus (a + j) (b + j) ≡ minus a b
+minus-add a b j = go (decLe b a)
+  where
+    go : Dec (b ≤ a) → minus (a + j) (b + j) ≡ minus a b
+    go (yes h) = rw (le-leb b a h, le-leb (b + j) (a + j) (omega arith)) (ap pos (omega arith))
+    go (no h) = let l : a < b = lt-of-not-le h in rw (lt-leb b a l, lt-leb (b + j) (a + j) (omega arith)) (ap negsuc (omega arith))
+
+pub minus-zero : (a : ℕ) → minus a 0 ≡ pos a
+minus-zero a = rw (le-leb 0 a (omega arith)) (ap pos (omega arith))
+
+-- ---- one fraction in two units: N / d of the unit 2 ^ - t is M / e of the unit 2 ^ - s
+module _ (rule : Rule) (n : ℕ) (P : 0 < n) where
+  -- the same fraction in units that are 2 ^ j apart
+  drop-finer : (N d M e j : ℕ) → 0 < d → 0 < e → N * 2 ^ j * e ≡ M * d → 2 ^ n * d ≤ 2 * N → drop n M e ≡ drop n N d + j
+  drop-finer N d M e j D Q h fine =
+      let k = drop n N d in
+      let w : 2 ^ (n + (k + j)) ≡ 2 ^ (n + k) * 2 ^ j = ap (λ (z : ℕ). 2 ^ z) (omega arith) ∙ pow-add 2 (n + k) j in
+      let v = ap (λ (z : ℕ). z * (d * e)) w in
+      let lo = mul-le-mul-right (2 ^ j * e) (drop-lower n N d D P fine) in
+      let hi = mul-lt-mul-of-pos-right (drop-upper n N d D) (mul-pos (pow-pos j) Q) in
+      drop-at n M e Q (k + j) P
+      (le-of-mul-le-mul-right {k = d} (omega arith) D)
+      (lt-of-mul-lt-mul-right d (omega arith))
+
+  step-same : (t k N u M v j : ℕ) → 0 < u → 0 < v → N * v ≡ M * u → stepped rule n t k N u ≡ stepped rule n (t + j) (k + j) M v
+  unfolding stepped normalised
+  step-same t k N u M v j D Q h =
+      rw (nearest-same rule N u M v D Q h, location-same N u M v D Q h, minus-add k t j)
+      (ap (λ (z : ℤ). cond (eqb (nearest rule M v) (2 ^ n)) (record { significand = 2 ^ (n - 1); exponent = z; location = location (M % v) v }) (record { significand = nearest rule M v; exponent = minus k t; location = location (M % v) v }))
+      (sym (minus-add (suc k) t j) ∙ ap (λ (z : ℕ). minus z (t + j)) (omega arith)))
+
+  finer : (t N d M e j : ℕ) → 0 < d → 0 < e → N * 2 ^ j * e ≡ M * d → 2 ^ n * d ≤ 2 * N → roundedIn rule n t N d ≡ roundedIn rule n (t + j) M e
+  unfolding roundedIn
+  finer t N d M e j D Q h fine =
+      let k = drop n N d in
+      let c : N * (e * 2 ^ (k + j)) ≡ M * (d * 2 ^ k) = omega (arith, ap (λ (z : ℕ). N * (e * z)) (pow-add 2 k j), ap (λ (z : ℕ). z * 2 ^ k) h) in
+      step-same t k N (d * 2 ^ k) M (e * 2 ^ (k + j)) j (mul-pos D (pow-pos k)) (mul-pos Q (pow-pos (k + j))) c
+      ∙ ap (λ (z : ℕ). stepped rule n (t + j) z M (e * 2 ^ z)) (sym (drop-finer N d M e j D Q h fine))
+
+  -- rounding goes by the fraction alone: in any unit 2 ^ - t in which it is M / e with at least n digits
+  pub rounded-at : (N d t M e : ℕ) → 0 < d → 0 < e → N * 2 ^ t * e ≡ M * d → 2 ^ n * e ≤ 2 * M → rounded rule n N d ≡ roundedIn rule n t M e
+  unfolding rounded
+  rounded-at zero d t M e D Q h fine =
+      let m : M * d ≡ 0 * d = sym h ∙ omega arith in
+      absurd (omega (arith, eq-of-mul-eq-mul-right d D M 0 m, mul-pos (pow-pos n) Q))
+  rounded-at (suc K) d t M e D Q h fine =
+      let s = n + size d in
+      let A = suc K * 2 ^ s in
+      let a : 2 ^ n * d ≤ 2 * A = omega (arith, mul-le-mul-left (2 ^ n) (le-of-lt (size-lt d)), pow-add 2 n (size d), mul-le-mul-right (2 ^ s) (one-le K)) in
+      finer s A d (A * 2 ^ t) d t D D refl a
+      ∙ ap (λ (z : ℕ). roundedIn rule n z (A * 2 ^ t) d) (add-comm s t)
+      ∙ sym (finer t M e (A * 2 ^ t) d s Q D (omega (arith, ap (λ (z : ℕ). z * 2 ^ s) h)) fine)
+    where
+      one-le : (k : ℕ) → 1 ≤ suc k
+      one-le k = omega arith
+
+  -- ---- its value
+  normalised-value : (k j t : ℕ) (l : Location) → Equals (normalised n k j t l) (k * 2 ^ j) (2 ^ t)
+  unfolding normalised
+  normalised-value k j t l = go (eqb k (2 ^ n)) refl
+    where
+      go : (b : Bool) → eqb k (2 ^ n) ≡ b
+          → Equals (cond b (record { significand = 2 ^ (n - 1); exponent = minus (suc j) t; location = l }) (record { significand = k; exponent = minus j t; location = l })) (k * 2 ^ j) (2 ^ t)
+      go true e =
+          minus-val (2 ^ (n - 1)) (suc j) t
+          ∙ ap (λ (z : ℕ). z * down (minus (suc j) t)) (omega (arith, ap (λ (z : ℕ). 2 ^ (n - 1) * z) (pow-succ' 2 j), ap (λ (z : ℕ). z * 2 ^ j) (eqb-true k (2 ^ n) e), ap (λ (z : ℕ). z * 2 ^ j) (pow-half n P)))
+      go false e = minus-val k j t
+
+  pub roundedIn-value : (t N d : ℕ) → Equals (roundedIn rule n t N d) (rn rule n N d) (2 ^ t)
+  unfolding roundedIn stepped rn kept
+  roundedIn-value t N d = let j = drop n N d in normalised-value (nearest rule N (d * 2 ^ j)) j t (location (N % (d * 2 ^ j)) (d * 2 ^ j))
+
+  -- in every unit that is fine enough RN's value is that of `rn`
+  pub rounded-value : (N d t M e : ℕ) → 0 < d → 0 < e → N * 2 ^ t * e ≡ M * d → 2 ^ n * e ≤ 2 * M → Equals (rounded rule n N d) (rn rule n M e) (2 ^ t)
+  rounded-value N d t M e D Q h fine = subst (λ (r : Rounded). Equals r (rn rule n M e) (2 ^ t)) (sym (rounded-at N d t M e D Q h fine)) (roundedIn-value t M e)
+
+  -- and in every unit in which the fraction is whole
+  pub rounded-whole : (N d t M : ℕ) → 0 < d → N * 2 ^ t ≡ M * d → Equals (rounded rule n N d) (rn rule n M 1) (2 ^ t)
+  unfolding rounded
+  rounded-whole zero d t M D h =
+      let m : M ≡ 0 = eq-of-mul-eq-mul-right d D M 0 (sym h ∙ omega arith) in
+      let z : rn rule n M 1 ≡ 0 = ap (λ (x : ℕ). rn rule n x 1) m ∙ rn-whole-small rule n P 0 (omega arith) in
+      omega (arith, z)
+  rounded-whole (suc K) d t M D h =
+      let r = rounded rule n (suc K) d in
+      let m : 0 < M = pos-of K d t M D h in
+      let w : 2 ^ (t + n) ≡ 2 ^ t * 2 ^ n = pow-add 2 t n in
+      let v : Equals r (rn rule n (M * 2 ^ n) 1) (2 ^ (t + n)) =
+      rounded-value (suc K) d (t + n) (M * 2 ^ n) 1 D (omega arith) (omega (arith, ap (λ (z : ℕ). suc K * z) w, ap (λ (z : ℕ). z * 2 ^ n) h)) (omega (arith, mul-le-mul-right (2 ^ n) m)) in
+      let a = r .significand * up (r .exponent) in
+      let c = down (r .exponent) in
+      eq-of-mul-eq-mul-right (2 ^ n) (pow-pos n) (a * 2 ^ t) (rn rule n M 1 * c)
+      (omega (arith, v, ap (λ (z : ℕ). a * z) w, ap (λ (z : ℕ). z * c) (rn-scale-whole rule n P M n)))
+    where
+      pos-of : (K d t M : ℕ) → 0 < d → suc K * 2 ^ t ≡ M * d → 0 < M
+      pos-of K d t zero D h = absurd (omega (arith, mul-le-mul-right (2 ^ t) (one-le' K), pow-pos t))
+        where
+          one-le' : (k : ℕ) → 1 ≤ suc k
+          one-le' k = omega arith
+      pos-of K d t (suc M) D h = omega arith
+
+  -- ---- n bits
+  normalised-bits : (k j t : ℕ) (l : Location) → 2 ^ (n - 1) ≤ k → k ≤ 2 ^ n → HasBits n (normalised n k j t l .significand)
+  unfolding normalised
+  normalised-bits k j t l lo hi = go (eqb k (2 ^ n)) refl
+    where
+      go : (b : Bool) → eqb k (2 ^ n) ≡ b
+          → HasBits n (cond {A = Rounded} b (record { significand = 2 ^ (n - 1); exponent = minus (suc j) t; location = l }) (record { significand = k; exponent = minus j t; location = l }) .significand)
+      go true e = record { least = le-of-eq refl; most = omega (arith, pow-half n P, pow-pos (n - 1)) }
+      go false e = record { least = lo; most = omega (arith, eqb-false k (2 ^ n) e) }
+
+  pub rounded-bits : (N d : ℕ) → 0 < N → 0 < d → HasBits n (rounded rule n N d .significand)
+  unfolding rounded roundedIn stepped kept
+  rounded-bits zero d m D = absurd (omega arith)
+  rounded-bits (suc K) d m D =
+      let s = n + size d in
+      let A = suc K * 2 ^ s in
+      let j = drop n A d in
+      let a : 2 ^ n * d ≤ 2 * A = omega (arith, mul-le-mul-left (2 ^ n) (le-of-lt (size-lt d)), pow-add 2 n (size d), mul-le-mul-right (2 ^ s) m) in
+      normalised-bits (kept rule n A d) j s (location (A % (d * 2 ^ j)) (d * 2 ^ j)) (kept-ge rule n P A d D a) (kept-le rule n P A d D)

@@ -1,0 +1,225 @@
+-- Laws of rounding to n bits in a unit, for every precision, tie rule and denominator: monotone, fixed on what has n bits, within half a step,
+-- scaled by powers of two, and constant where none of its midpoints lies. Assumes nothing.
+use mathlib.Core.Path.{_≡_, refl, sym, ap, _∙_, subst}
+use mathlib.Core.Logic.{_⊎_, inl, inr}
+use Prim.Native.Nat.{ℕ, suc, _+_, _-_, _*_, _^_, _≤_, _<_}
+use native.Mathlib.Nat.{mul-le-mul-right, mul-le-mul-left, le-trans, le-of-eq, le-antisymm, lt-of-not-le, mul-assoc, mul-pos, eq-or-lt-of-le, lt-of-mul-lt-mul-right, mul-lt-mul-of-pos-right, mul-one, pow-succ'}
+use native.Mathlib.Decide.{decLe, decLt}
+use native.Mathlib.Omega.{arith}
+use lib.Pow.{pow-add, pow-pos, pow-mono}
+use lib.Ieee.Order.{drop}
+use Rattle.rounding.specs.Grid.{Rule, nearest}
+use Rattle.rounding.specs.GridLaws.{nearest-is, nearest-mono, nearest-same, nearest-exact, nearest-le, nearest-ge, nearest-below, nearest-above}
+use Rattle.rounding.specs.Unit.{kept, rn}
+use Rattle.rounding.specs.Digits.{pow-half, drop-upper, drop-le, drop-some, drop-lower, drop-at}
+
+step-pos : (d k : ℕ) → 0 < d → 0 < d * 2 ^ k
+step-pos d k D = mul-pos D (pow-pos k)
+
+-- The rounded value by its significand of n bits, the carry being the next binade's first; the fraction is not above the midpoint that follows.
+pub record Normal (rule : Rule) (n N d : ℕ) : Type 0 where
+  pub sig : ℕ
+  pub exp : ℕ
+  pub value : rn rule n N d ≡ sig * 2 ^ exp
+  pub least : 2 ^ (n - 1) ≤ sig
+  pub most : sig < 2 ^ n
+  pub under : 2 * N ≤ (2 * sig + 1) * 2 ^ exp * d
+
+module _ (rule : Rule) (n : ℕ) (P : 0 < n) where
+  -- ---- what is kept
+  pub kept-le : (N d : ℕ) → 0 < d → kept rule n N d ≤ 2 ^ n
+  unfolding kept
+  kept-le N d D =
+      let k = drop n N d in
+      nearest-le rule N (d * 2 ^ k) (2 ^ n) (step-pos d k D) (omega (arith, drop-upper n N d D, ap (λ (z : ℕ). z * d) (pow-add 2 n k)))
+
+  pub kept-ge : (N d : ℕ) → 0 < d → 2 ^ n * d ≤ 2 * N → 2 ^ (n - 1) ≤ kept rule n N d
+  unfolding kept
+  kept-ge N d D h =
+      let k = drop n N d in
+      nearest-ge rule N (d * 2 ^ k) (2 ^ (n - 1)) (step-pos d k D)
+      (omega (arith, drop-lower n N d D P h, ap (λ (z : ℕ). z * d) (pow-add 2 n k), ap (λ (z : ℕ). z * (d * 2 ^ k)) (pow-half n P)))
+
+  -- ---- in a binade
+  pub rn-in-binade : (N d k : ℕ) → drop n N d ≡ k → rn rule n N d ≡ nearest rule N (d * 2 ^ k) * 2 ^ k
+  unfolding rn kept
+  rn-in-binade N d k e = ap (λ (z : ℕ). nearest rule N (d * 2 ^ z) * 2 ^ z) e
+
+  normal-of-drop : (N d : ℕ) → 0 < d → 0 < drop n N d → 2 ^ n * d ≤ 2 * N
+  normal-of-drop N d D h = le-trans (mul-le-mul-right d (pow-mono {i = n} {j = n + drop n N d} (omega arith))) (drop-some n N d D P h)
+
+  -- ---- monotone
+  lift : (N d M e j : ℕ) → 0 < d → 0 < e → N * e ≤ M * d → M < 2 ^ (n + j) * e → N < 2 ^ (n + j) * d
+  lift N d M e j D Q h u = lt-of-mul-lt-mul-right e (omega (arith, mul-lt-mul-of-pos-right u D))
+
+  pub rn-mono : (N d M e : ℕ) → 0 < d → 0 < e → N * e ≤ M * d → rn rule n N d ≤ rn rule n M e
+  unfolding rn
+  rn-mono N d M e D Q h =
+      let i = drop n N d in
+      let j = drop n M e in
+      let go : (i ≡ j) ⊎ (i < j) → rn rule n N d ≤ rn rule n M e =
+      elim [
+        | inl s ↦
+            subst (λ (z : ℕ). z ≤ rn rule n M e) (sym (rn-in-binade N d j s))
+            (subst (λ (z : ℕ). nearest rule N (d * 2 ^ j) * 2 ^ j ≤ z) (sym (rn-in-binade M e j refl))
+            (mul-le-mul-right (2 ^ j) (nearest-mono rule N (d * 2 ^ j) M (e * 2 ^ j) (step-pos d j D) (step-pos e j Q) (omega (arith, mul-le-mul-right (2 ^ j) h)))))
+        | inr l ↦
+            -- a power of two lies between
+            let x = mul-le-mul-right (2 ^ i) (kept-le N d D) in
+            let y = mul-le-mul-right (2 ^ j) (kept-ge M e Q (normal-of-drop M e Q (omega arith))) in
+            let z : 2 ^ n * 2 ^ i ≤ 2 ^ (n - 1) * 2 ^ j = le-trans (le-of-eq (sym (pow-add 2 n i))) (le-trans (pow-mono {i = n + i} {j = n - 1 + j} (omega arith)) (le-of-eq (pow-add 2 (n - 1) j))) in
+            le-trans x (le-trans z y)
+      ]
+      in
+      go (eq-or-lt-of-le (drop-le n N d D j (lift N d M e j D Q h (drop-upper n M e Q))))
+
+  pub rn-same : (N d M e : ℕ) → 0 < d → 0 < e → N * e ≡ M * d → rn rule n N d ≡ rn rule n M e
+  rn-same N d M e D Q h = le-antisymm (rn-mono N d M e D Q (le-of-eq h)) (rn-mono M e N d Q D (le-of-eq (sym h)))
+
+  -- ---- what has n bits is itself, the carry 2 ^ n included
+  rn-fixed-lt : (q k d : ℕ) → 0 < d → q < 2 ^ n → rn rule n (q * 2 ^ k * d) d ≡ q * 2 ^ k
+  rn-fixed-lt q k d D h =
+      let N = q * 2 ^ k * d in
+      let j = drop n N d in
+      let l : j ≤ k = drop-le n N d D k (omega (arith, mul-lt-mul-of-pos-right h (step-pos d k D), ap (λ (z : ℕ). z * d) (pow-add 2 n k))) in
+      let e : 2 ^ k ≡ 2 ^ (k - j) * 2 ^ j = ap (λ (z : ℕ). 2 ^ z) (omega arith) ∙ pow-add 2 (k - j) j in
+      rn-in-binade N d j refl
+      ∙ ap (λ (z : ℕ). nearest rule z (d * 2 ^ j) * 2 ^ j) (omega (arith, ap (λ (z : ℕ). q * z * d) e))
+      ∙ ap (λ (z : ℕ). z * 2 ^ j) (nearest-exact rule (q * 2 ^ (k - j)) (d * 2 ^ j) (step-pos d j D))
+      ∙ omega (arith, ap (λ (z : ℕ). q * z) e)
+
+  pub rn-fixed : (q k d : ℕ) → 0 < d → q ≤ 2 ^ n → rn rule n (q * 2 ^ k * d) d ≡ q * 2 ^ k
+  rn-fixed q k d D h = elim (eq-or-lt-of-le h) [
+    | inl e ↦
+        let t : 1 < 2 ^ n = omega (arith, pow-half n P, pow-pos (n - 1)) in
+        let s : q * 2 ^ k ≡ 1 * 2 ^ (n + k) = ap (λ (z : ℕ). z * 2 ^ k) e ∙ omega (arith, pow-add 2 n k) in
+        ap (λ (z : ℕ). rn rule n (z * d) d) s ∙ rn-fixed-lt 1 (n + k) d D t ∙ sym s
+    | inr l ↦ rn-fixed-lt q k d D l
+  ]
+
+  -- so a bound that is such a value goes through
+  pub rn-le : (N d q k : ℕ) → 0 < d → q ≤ 2 ^ n → N ≤ q * 2 ^ k * d → rn rule n N d ≤ q * 2 ^ k
+  rn-le N d q k D h l = subst (λ (z : ℕ). rn rule n N d ≤ z) (rn-fixed q k d D h) (rn-mono N d (q * 2 ^ k * d) d D D (mul-le-mul-right d l))
+
+  pub rn-ge : (N d q k : ℕ) → 0 < d → q ≤ 2 ^ n → q * 2 ^ k * d ≤ N → q * 2 ^ k ≤ rn rule n N d
+  rn-ge N d q k D h l = subst (λ (z : ℕ). z ≤ rn rule n N d) (rn-fixed q k d D h) (rn-mono (q * 2 ^ k * d) d N d D D (mul-le-mul-right d l))
+
+  -- ---- rule to 2 ^ (n + k), that value included, the error is at most half of 2 ^ k
+  err-lt : (N d k : ℕ) → 0 < d → N < 2 ^ (n + k) * d → (2 * (rn rule n N d * d) ≤ 2 * N + d * 2 ^ k) × (2 * N ≤ 2 * (rn rule n N d * d) + d * 2 ^ k)
+  err-lt N d k D h =
+      let j = drop n N d in
+      let q = nearest rule N (d * 2 ^ j) in
+      let r = nearest-is rule N (d * 2 ^ j) (step-pos d j D) in
+      let l : d * 2 ^ j ≤ d * 2 ^ k = mul-le-mul-left d (pow-mono (drop-le n N d D k h)) in
+      let e = ap (λ (z : ℕ). z * d) (rn-in-binade N d j refl) in
+      (omega (arith, r .low), omega (arith, r .high))
+
+  pub rn-error : (N d k : ℕ) → 0 < d → N ≤ 2 ^ (n + k) * d → (2 * (rn rule n N d * d) ≤ 2 * N + d * 2 ^ k) × (2 * N ≤ 2 * (rn rule n N d * d) + d * 2 ^ k)
+  rn-error N d k D h = elim (eq-or-lt-of-le h) [
+    | inl e ↦
+        let s : N ≡ 2 ^ n * 2 ^ k * d = e ∙ ap (λ (z : ℕ). z * d) (pow-add 2 n k) in
+        let f : rn rule n N d * d ≡ N = ap (λ (z : ℕ). rn rule n z d * d) s ∙ ap (λ (z : ℕ). z * d) (rn-fixed (2 ^ n) k d D (le-of-eq refl)) ∙ sym s in
+        (omega arith, omega arith)
+    | inr l ↦ err-lt N d k D l
+  ]
+
+  -- ---- scaling by a power of two: anywhere for a whole number, and for a fraction whose unit is fine enough
+  pub rn-scale : (N d t : ℕ) → 0 < d → 2 ^ n * d ≤ 2 * N → rn rule n (N * 2 ^ t) d ≡ rn rule n N d * 2 ^ t
+  rn-scale N d t D h =
+      let k = drop n N d in
+      let lo = drop-lower n N d D P h in
+      let hi = drop-upper n N d D in
+      let w : 2 ^ (n + (k + t)) ≡ 2 ^ (n + k) * 2 ^ t = ap (λ (z : ℕ). 2 ^ z) (omega arith) ∙ pow-add 2 (n + k) t in
+      let v = ap (λ (z : ℕ). z * d) w in
+      let a : drop n (N * 2 ^ t) d ≡ k + t = drop-at n (N * 2 ^ t) d D (k + t) P (omega (arith, mul-le-mul-right (2 ^ t) lo)) (omega (arith, mul-lt-mul-of-pos-right hi (pow-pos t))) in
+      let e = pow-add 2 k t in
+      rn-in-binade (N * 2 ^ t) d (k + t) a
+      ∙ ap (λ (z : ℕ). nearest rule (N * 2 ^ t) (d * z) * z) e
+      ∙ ap (λ (z : ℕ). z * (2 ^ k * 2 ^ t)) (nearest-same rule (N * 2 ^ t) (d * (2 ^ k * 2 ^ t)) N (d * 2 ^ k) (mul-pos D (mul-pos (pow-pos k) (pow-pos t))) (step-pos d k D) (omega arith))
+      ∙ sym (mul-assoc (nearest rule N (d * 2 ^ k)) (2 ^ k) (2 ^ t))
+      ∙ ap (λ (z : ℕ). z * 2 ^ t) (sym (rn-in-binade N d k refl))
+
+  pub rn-whole-small : (N : ℕ) → N ≤ 2 ^ n → rn rule n N 1 ≡ N
+  rn-whole-small N h = ap (λ (z : ℕ). rn rule n z 1) (omega arith) ∙ rn-fixed N 0 1 (omega arith) h ∙ mul-one N
+
+  pub rn-scale-whole : (N t : ℕ) → rn rule n (N * 2 ^ t) 1 ≡ rn rule n N 1 * 2 ^ t
+  rn-scale-whole N t = go (decLe (2 ^ n) N)
+    where
+      go : Dec (2 ^ n ≤ N) → rn rule n (N * 2 ^ t) 1 ≡ rn rule n N 1 * 2 ^ t
+      go (yes h) = rn-scale N 1 t (omega arith) (omega arith)
+      go (no h) =
+          let l : N ≤ 2 ^ n = omega (arith, lt-of-not-le h) in
+          ap (λ (z : ℕ). rn rule n z 1) (omega arith) ∙ rn-fixed N t 1 (omega arith) l ∙ ap (λ (z : ℕ). z * 2 ^ t) (sym (rn-whole-small N l))
+
+  -- ---- in a binade with both its ends
+  pub rn-at : (N d k : ℕ) → 0 < d → 2 ^ (n + k) * d ≤ 2 * N → N ≤ 2 ^ (n + k) * d → rn rule n N d ≡ nearest rule N (d * 2 ^ k) * 2 ^ k
+  rn-at N d k D l u = elim (eq-or-lt-of-le u) [
+    | inl e ↦
+        let s : N ≡ 2 ^ n * 2 ^ k * d = e ∙ ap (λ (z : ℕ). z * d) (pow-add 2 n k) in
+        ap (λ (z : ℕ). rn rule n z d) s ∙ rn-fixed (2 ^ n) k d D (le-of-eq refl)
+        ∙ ap (λ (z : ℕ). z * 2 ^ k) (sym (ap (λ (z : ℕ). nearest rule z (d * 2 ^ k)) (s ∙ omega arith) ∙ nearest-exact rule (2 ^ n) (d * 2 ^ k) (step-pos d k D)))
+    | inr g ↦ rn-in-binade N d k (drop-at n N d D k P l g)
+  ]
+
+  -- ---- on one side of a midpoint. RN's midpoints are (j + 1/2) * 2 ^ k with 2 ^ (n - 1) ≤ j < 2 ^ n
+  pub rn-below : (N d j k : ℕ) → 0 < d → 2 ^ (n - 1) ≤ j → j < 2 ^ n → 2 * N < (2 * j + 1) * 2 ^ k * d → rn rule n N d ≤ j * 2 ^ k
+  rn-below N d j k D lo hi h = go (decLe (2 ^ (n + k) * d) (2 * N))
+    where
+      go : Dec (2 ^ (n + k) * d ≤ 2 * N) → rn rule n N d ≤ j * 2 ^ k
+      go (yes l) =
+          let w = ap (λ (z : ℕ). z * d) (pow-add 2 n k) in
+          let u : N < 2 ^ (n + k) * d = omega (arith, mul-le-mul-right (2 ^ k * d) hi) in
+          rw (rn-in-binade N d k (drop-at n N d D k P l u)) (mul-le-mul-right (2 ^ k) (nearest-below rule N (d * 2 ^ k) j (step-pos d k D) (omega arith)))
+      go (no l) =
+          let w = ap (λ (z : ℕ). z * d) (pow-add 2 n k) in
+          let v = ap (λ (z : ℕ). z * 2 ^ k * d) (pow-half n P) in
+          le-trans (rn-le N d (2 ^ (n - 1)) k D (omega (arith, pow-half n P)) (omega (arith, lt-of-not-le l))) (mul-le-mul-right (2 ^ k) lo)
+
+  pub rn-above : (N d j k : ℕ) → 0 < d → 2 ^ (n - 1) ≤ j → j < 2 ^ n → (2 * j + 1) * 2 ^ k * d < 2 * N → suc j * 2 ^ k ≤ rn rule n N d
+  rn-above N d j k D lo hi h = go (decLt N (2 ^ (n + k) * d))
+    where
+      go : Dec (N < 2 ^ (n + k) * d) → suc j * 2 ^ k ≤ rn rule n N d
+      go (yes u) =
+          let w = ap (λ (z : ℕ). z * d) (pow-add 2 n k) in
+          let v = ap (λ (z : ℕ). z * 2 ^ k * d) (pow-half n P) in
+          let l : 2 ^ (n + k) * d ≤ 2 * N = omega (arith, mul-le-mul-right (2 ^ k * d) lo) in
+          rw (rn-in-binade N d k (drop-at n N d D k P l u)) (mul-le-mul-right (2 ^ k) (nearest-above rule N (d * 2 ^ k) j (step-pos d k D) (omega arith)))
+      go (no u) =
+          let w = ap (λ (z : ℕ). z * d) (pow-add 2 n k) in
+          le-trans (mul-le-mul-right (2 ^ k) hi) (rn-ge N d (2 ^ n) k D (le-of-eq refl) (omega (arith, lt-of-not-le u)))
+
+  pub normal : (N d : ℕ) → 0 < d → 2 ^ n * d ≤ 2 * N → Normal rule n N d
+  unfolding rn kept
+  normal N d D fine =
+      let k = drop n N d in
+      let go : (kept rule n N d ≡ 2 ^ n) ⊎ (kept rule n N d < 2 ^ n) → Normal rule n N d =
+      elim [
+        | inl e ↦
+            let v : 2 ^ n * 2 ^ k ≡ 2 ^ (n - 1) * 2 ^ suc k = ap (λ (z : ℕ). z * 2 ^ k) (pow-half n P) ∙ omega (arith, ap (λ (z : ℕ). 2 ^ (n - 1) * z) (pow-succ' 2 k)) in
+            let u = drop-upper n N d D in
+            let w = ap (λ (z : ℕ). z * d) (pow-add 2 n k) in
+            record {
+              sig = 2 ^ (n - 1);
+              exp = suc k;
+              value = ap (λ (z : ℕ). z * 2 ^ k) e ∙ v;
+              least = le-of-eq refl;
+              most = omega (arith, pow-half n P, pow-pos (n - 1));
+              under = omega (arith, ap (λ (z : ℕ). z * d) v);
+            }
+        | inr l ↦ record { sig = kept rule n N d; exp = k; value = refl; least = kept-ge N d D fine; most = l; under = let r = nearest-is rule N (d * 2 ^ k) (step-pos d k D) .high in omega arith }
+      ]
+      in
+      go (eq-or-lt-of-le (kept-le N d D))
+
+  -- ---- no midpoint between two fractions, themselves included: they round alike, also where two binades meet
+  pub rn-constant : (a b d : ℕ) → 0 < d → 2 ^ n * d ≤ 2 * a → a ≤ b
+      → ((j k : ℕ) → 2 ^ (n - 1) ≤ j → j < 2 ^ n → 2 * a ≤ (2 * j + 1) * 2 ^ k * d → (2 * j + 1) * 2 ^ k * d ≤ 2 * b → ⊥)
+      → rn rule n a d ≡ rn rule n b d
+  rn-constant a b d D fine h none = le-antisymm (rn-mono a d b d D D (mul-le-mul-right d h)) (rw (r .value) (go (decLt (2 * b) ((2 * r .sig + 1) * 2 ^ r .exp * d))))
+    where
+      r : Normal rule n a d
+      r = normal a d D fine
+
+      go : Dec (2 * b < (2 * r .sig + 1) * 2 ^ r .exp * d) → rn rule n b d ≤ r .sig * 2 ^ r .exp
+      go (yes l) = rn-below b d (r .sig) (r .exp) D (r .least) (r .most) l
+      go (no l) = absurd (none (r .sig) (r .exp) (r .least) (r .most) (r .under) (omega (arith, lt-of-not-le l)))
