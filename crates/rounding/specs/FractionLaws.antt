@@ -44,6 +44,10 @@ RN-counts rule n P t m a x c =
       count = rounded-whole rule n P (x .num) (x .den) t a (c .some) (c .count);
     }
 
+-- RN is symmetric in sign
+pub RN-negated : (rule : Rule) (n : ℕ) (x : Fraction) → RN rule n (negated x) ≡ negated (RN rule n x)
+RN-negated rule n x = refl
+
 -- ---- products
 pub times-counts : (t s : ℕ) (a b : ℕ) (m : Bool) (x y : Fraction) → Counts t m a x → Counts s false b y → Counts (t + s) m (a * b) (times x y)
 times-counts t s a b m x y c d =

@@ -7,11 +7,11 @@ use native.Mathlib.Nat.{le-of-mul-le-mul-right, lt-of-mul-lt-mul-right, mul-pos,
 use native.Mathlib.Omega.{arith}
 use lib.Dec.{eqb}
 use lib.Pow.{pow-add, pow-pos}
-use lib.IntN.{ℤ, pos, negsuc}
+use lib.IntN.{ℤ, pos, negsuc, _+ℤ_}
 use lib.Ieee.{size, minus, up, down}
 use lib.Ieee.Digits.{size-lt, minus-val}
 use lib.Ieee.Order.{drop}
-use borrow.Author.Tests.{eqb-true, eqb-false, le-leb, lt-leb}
+use borrow.Author.Tests.{eqb-true, eqb-false, eq-eqb, le-leb, lt-leb, le-ltb, lt-ltb}
 use Rattle.rounding.specs.declared.Location.{Location}
 use Rattle.rounding.specs.declared.Rounded.{Rounded}
 use Rattle.rounding.specs.Grid.{Rule, location, nearest}
@@ -26,6 +26,10 @@ pub record HasBits (n s : ℕ) : Type 0 where
   pub least : 2 ^ (n - 1) ≤ s
   pub most : s < 2 ^ n
 
+-- r * 2 ^ j
+abbrev pub shifted : ℕ → Rounded → Rounded
+shifted j r = record { significand = r .significand; exponent = r .exponent +ℤ pos j; location = r .location }
+
 -- ---- exponents
 pub minus-add : (a b j : ℕ) → minus (a + j) (b + j) ≡ minus a b
 minus-add a b j = go (decLe b a)
@@ -33,6 +37,19 @@ minus-add a b j = go (decLe b a)
     go : Dec (b ≤ a) → minus (a + j) (b + j) ≡ minus a b
     go (yes h) = rw (le-leb b a h, le-leb (b + j) (a + j) (omega arith)) (ap pos (omega arith))
     go (no h) = let l : a < b = lt-of-not-le h in rw (lt-leb b a l, lt-leb (b + j) (a + j) (omega arith)) (ap negsuc (omega arith))
+
+pub minus-shift : (a b j : ℕ) → minus a (b + j) +ℤ pos j ≡ minus a b
+minus-shift a b j = go (decLe (b + j) a) (decLe b a)
+  where
+    go : Dec (b + j ≤ a) → Dec (b ≤ a) → minus a (b + j) +ℤ pos j ≡ minus a b
+    go (yes h) (yes k) = rw (le-leb (b + j) a h, le-leb b a k) (ap pos (omega arith))
+    go (yes h) (no k) = absurd (omega arith)
+    go (no h) (yes k) =
+        let l : a < b + j = lt-of-not-le h in
+        rw (lt-leb (b + j) a l, le-leb b a k, le-ltb j (suc (b + j - suc a)) (omega arith)) (ap pos (omega arith))
+    go (no h) (no k) =
+        let l : a < b = lt-of-not-le k in
+        rw (lt-leb (b + j) a (omega arith), lt-leb b a l, lt-ltb j (suc (b + j - suc a)) (omega arith)) (ap negsuc (omega arith))
 
 pub minus-zero : (a : ℕ) → minus a 0 ≡ pos a
 minus-zero a = rw (le-leb 0 a (omega arith)) (ap pos (omega arith))
@@ -147,3 +164,32 @@ module _ (rule : Rule) (n : ℕ) (P : 0 < n) where
       let j = drop n A d in
       let a : 2 ^ n * d ≤ 2 * A = omega (arith, mul-le-mul-left (2 ^ n) (le-of-lt (size-lt d)), pow-add 2 n (size d), mul-le-mul-right (2 ^ s) m) in
       normalised-bits (kept rule n A d) j s (location (A % (d * 2 ^ j)) (d * 2 ^ j)) (kept-ge rule n P A d D a) (kept-le rule n P A d D)
+
+  -- ---- the carry: what is kept may be 2 ^ n, which is the next binade's first
+  pub rounded-carry : (t N d : ℕ) → kept rule n N d ≡ 2 ^ n → (roundedIn rule n t N d .significand ≡ 2 ^ (n - 1)) × (roundedIn rule n t N d .exponent ≡ minus (suc (drop n N d)) t)
+  unfolding roundedIn stepped normalised kept
+  rounded-carry t N d e = let h = eq-eqb (kept rule n N d) (2 ^ n) e in (rw h, rw h)
+
+  -- ---- scaling by a power of two moves the exponent alone
+  normalised-shift : (k i t j : ℕ) (l : Location) → shifted j (normalised n k i (t + j) l) ≡ normalised n k i t l
+  unfolding normalised
+  normalised-shift k i t j l = go (eqb k (2 ^ n))
+    where
+      go : (b : Bool)
+          → shifted j (cond b (record { significand = 2 ^ (n - 1); exponent = minus (suc i) (t + j); location = l }) (record { significand = k; exponent = minus i (t + j); location = l }))
+          ≡ cond b (record { significand = 2 ^ (n - 1); exponent = minus (suc i) t; location = l }) (record { significand = k; exponent = minus i t; location = l })
+      go true = rw (minus-shift (suc i) t j)
+      go false = rw (minus-shift i t j)
+
+  pub rounded-scale : (N d j : ℕ) → 0 < N → 0 < d → rounded rule n (N * 2 ^ j) d ≡ shifted j (rounded rule n N d)
+  unfolding roundedIn stepped
+  rounded-scale N d j M D =
+      let t = n + size d in
+      let A = N * 2 ^ (t + j) in
+      let i = drop n A d in
+      let w = pow-add 2 t j in
+      let v = ap (λ (z : ℕ). N * z) w in
+      let fine : 2 ^ n * d ≤ 2 * A = omega (arith, mul-le-mul-left (2 ^ n) (le-of-lt (size-lt d)), pow-add 2 n (size d), mul-le-mul-right (2 ^ t) M, mul-le-mul-left (N * 2 ^ t) (pow-pos j)) in
+      rounded-at (N * 2 ^ j) d t A d D D (omega (arith, ap (λ (z : ℕ). z * d) v)) fine
+      ∙ sym (normalised-shift (nearest rule A (d * 2 ^ i)) i t j (location (A % (d * 2 ^ i)) (d * 2 ^ i)))
+      ∙ ap (shifted j) (sym (rounded-at N d (t + j) A d D D refl fine))
