@@ -1,12 +1,12 @@
--- Signed fractions counted in a unit 2 ^ - t in which they are whole: sums, products and RN of them are those of whole numbers. Assumes nothing.
+-- Signed fractions counted in a unit: sums, products and RN of them are those of whole numbers. Assumes nothing.
 use mathlib.Core.Path.{_≡_, refl, sym, ap, ap₂, _∙_}
 use mathlib.Core.Bool.{Bool, true, false, not}
 use Prim.Native.Nat.{ℕ, _+_, _*_, _^_, _≤_, _<_}
-use native.Mathlib.Nat.{mul-pos, mul-lt-mul-of-pos-right, mul-le-mul-right}
+use native.Mathlib.Nat.{mul-assoc, eq-of-mul-eq-mul-right, mul-pos, mul-lt-mul-of-pos-right, mul-le-mul-right}
 use native.Mathlib.Decide.{decLt}
 use native.Mathlib.Omega.{arith}
 use lib.Dec.{ltb}
-use lib.Pow.{pow-add, pow-pos}
+use lib.Pow.{pow-pos}
 use lib.Ieee.{unlike}
 use lib.Ieee.Fits.{down-pos}
 use borrow.Author.Tests.{lt-ltb, le-ltb}
@@ -14,34 +14,41 @@ use Rattle.rounding.specs.Apart.{apart, apart-mul}
 use Rattle.rounding.specs.Grid.{Rule}
 use Rattle.rounding.specs.Unit.{rn}
 use Rattle.rounding.specs.Round.{rounded}
-use Rattle.rounding.specs.RoundLaws.{rounded-whole}
+use Rattle.rounding.specs.RoundLaws.{rounded-whole, rounded-value}
 use Rattle.rounding.specs.Fraction.{Fraction, over, negated, times, joined, plus, less, RN}
 
--- x is a of the unit 2 ^ - t in size, and negative where m
-pub record Counts (t : ℕ) (m : Bool) (a : ℕ) (x : Fraction) : Type 0 where
+-- x is a / T in size, and negative where m
+pub record Counts (T : ℕ) (m : Bool) (a : ℕ) (x : Fraction) : Type 0 where
+  pub unit : 0 < T
   pub some : 0 < x .den
   pub sign : x .minus ≡ m
-  pub count : x .num * 2 ^ t ≡ a * x .den
+  pub count : x .num * T ≡ a * x .den
 
-pub over-counts : (a t : ℕ) → Counts t false a (over a t)
-over-counts a t = record { some = pow-pos t; sign = refl; count = refl }
+pub over-counts : (a t : ℕ) → Counts (2 ^ t) false a (over a t)
+over-counts a t = record { unit = pow-pos t; some = pow-pos t; sign = refl; count = refl }
 
 -- in a finer unit
-pub counts-finer : (t j : ℕ) (m : Bool) (a : ℕ) (x : Fraction) → Counts t m a x → Counts (t + j) m (a * 2 ^ j) x
-counts-finer t j m a x c =
-    record {
-      some = c .some;
-      sign = c .sign;
-      count = ap (λ (z : ℕ). x .num * z) (pow-add 2 t j) ∙ omega (arith, ap (λ (z : ℕ). z * 2 ^ j) (c .count));
-    }
+pub counts-finer : (T c : ℕ) → 0 < c → (m : Bool) (a : ℕ) (x : Fraction) → Counts T m a x → Counts (T * c) m (a * c) x
+counts-finer T c C m a x k = record { unit = mul-pos (k .unit) C; some = k .some; sign = k .sign; count = omega (arith, ap (λ (z : ℕ). z * c) (k .count)) }
 
 -- ---- RN
-pub RN-counts : (rule : Rule) (n : ℕ) → 0 < n → (t : ℕ) (m : Bool) (a : ℕ) (x : Fraction) → Counts t m a x → Counts t m (rn rule n a 1) (RN rule n x)
-RN-counts rule n P t m a x c =
+pub RN-counts : (rule : Rule) (n : ℕ) → 0 < n → (t : ℕ) (m : Bool) (a : ℕ) (x : Fraction) → Counts (2 ^ t) m a x → Counts (2 ^ t) m (rn rule n a 1) (RN rule n x)
+RN-counts rule n P t m a x k =
     record {
+      unit = pow-pos t;
       some = down-pos (rounded rule n (x .num) (x .den) .exponent);
-      sign = c .sign;
-      count = rounded-whole rule n P (x .num) (x .den) t a (c .some) (c .count);
+      sign = k .sign;
+      count = rounded-whole rule n P (x .num) (x .den) t a (k .some) (k .count);
+    }
+
+-- and of a fraction a / e of the unit, if that has n digits
+pub RN-counts-fraction : (rule : Rule) (n : ℕ) → 0 < n → (t e : ℕ) (m : Bool) (a : ℕ) (x : Fraction) → 0 < e → 2 ^ n * e ≤ 2 * a → Counts (2 ^ t * e) m a x → Counts (2 ^ t) m (rn rule n a e) (RN rule n x)
+RN-counts-fraction rule n P t e m a x E fine k =
+    record {
+      unit = pow-pos t;
+      some = down-pos (rounded rule n (x .num) (x .den) .exponent);
+      sign = k .sign;
+      count = rounded-value rule n P (x .num) (x .den) t a e (k .some) E (mul-assoc (x .num) (2 ^ t) e ∙ k .count) fine;
     }
 
 -- RN is symmetric in sign
@@ -49,16 +56,13 @@ pub RN-negated : (rule : Rule) (n : ℕ) (x : Fraction) → RN rule n (negated x
 RN-negated rule n x = refl
 
 -- ---- products
-pub times-counts : (t s : ℕ) (a b : ℕ) (m : Bool) (x y : Fraction) → Counts t m a x → Counts s false b y → Counts (t + s) m (a * b) (times x y)
-times-counts t s a b m x y c d =
+pub times-counts : (T S : ℕ) (a b : ℕ) (m : Bool) (x y : Fraction) → Counts T m a x → Counts S false b y → Counts (T * S) m (a * b) (times x y)
+times-counts T S a b m x y c d =
     record {
+      unit = mul-pos (c .unit) (d .unit);
       some = mul-pos (c .some) (d .some);
       sign = ap₂ unlike (c .sign) (d .sign) ∙ unlike-false m;
-      count =
-          ap (λ (z : ℕ). x .num * y .num * z) (pow-add 2 t s)
-          ∙ regroup (x .num) (y .num) (2 ^ t) (2 ^ s)
-          ∙ ap₂ (λ (p q : ℕ). p * q) (c .count) (d .count)
-          ∙ regroup a (x .den) b (y .den);
+      count = regroup (x .num) (y .num) T S ∙ ap₂ (λ (p q : ℕ). p * q) (c .count) (d .count) ∙ regroup a (x .den) b (y .den);
     }
   where
     unlike-false : (m : Bool) → unlike m false ≡ m
@@ -119,21 +123,21 @@ size-scale false false a b c = omega arith
 size-scale true false a b c = sym (apart-mul a b c)
 size-scale false true a b c = sym (apart-mul a b c)
 
-pub plus-counts : (t : ℕ) (a b : ℕ) (m k : Bool) (x y : Fraction) → Counts t m a x → Counts t k b y → Counts t (sumSign m k a b) (sumSize m k a b) (plus x y)
-plus-counts t a b m k x y c d =
+pub plus-counts : (T : ℕ) (a b : ℕ) (m k : Bool) (x y : Fraction) → Counts T m a x → Counts T k b y → Counts T (sumSign m k a b) (sumSize m k a b) (plus x y)
+plus-counts T a b m k x y c d =
     let p = x .num * y .den in
     let q = y .num * x .den in
     let e = x .den * y .den in
-    let T = 2 ^ t in
     let u : p * T ≡ a * e = omega (arith, ap (λ (z : ℕ). z * y .den) (c .count)) in
     let v : q * T ≡ b * e = omega (arith, ap (λ (z : ℕ). z * x .den) (d .count)) in
     let E : 0 < e = mul-pos (c .some) (d .some) in
     record {
+      unit = c .unit;
       some = rw (joined-den (x .minus) (y .minus) p q e) E;
       sign =
           joined-sign (x .minus) (y .minus) p q e
           ∙ ap₂ (λ (f g : Bool). sumSign f g p q) (c .sign) (d .sign)
-          ∙ sym (sign-scale m k p q T (pow-pos t))
+          ∙ sym (sign-scale m k p q T (c .unit))
           ∙ ap₂ (λ (f g : ℕ). sumSign m k f g) u v
           ∙ sign-scale m k a b e E;
       count =
@@ -144,5 +148,15 @@ plus-counts t a b m k x y c d =
           ∙ ap (λ (z : ℕ). sumSize m k a b * z) (sym (joined-den (x .minus) (y .minus) p q e));
     }
 
-pub less-counts : (t : ℕ) (a b : ℕ) (x y : Fraction) → Counts t false a x → Counts t false b y → Counts t (ltb a b) (apart a b) (less x y)
-less-counts t a b x y c d = plus-counts t a b false true x (negated y) c (record { some = d .some; sign = ap not (d .sign); count = d .count })
+pub less-counts : (T : ℕ) (a b : ℕ) (x y : Fraction) → Counts T false a x → Counts T false b y → Counts T (ltb a b) (apart a b) (less x y)
+less-counts T a b x y c d = plus-counts T a b false true x (negated y) c (record { unit = d .unit; some = d .some; sign = ap not (d .sign); count = d .count })
+
+-- ---- two fractions of the same sign and size
+abbrev pub Same : Fraction → Fraction → Type 0
+Same x y = (x .minus ≡ y .minus) × (x .num * y .den ≡ y .num * x .den)
+
+pub counts-same : (T : ℕ) (m : Bool) (a : ℕ) (x y : Fraction) → Counts T m a x → Counts T m a y → Same x y
+counts-same T m a x y c d = (
+  c .sign ∙ sym (d .sign),
+  eq-of-mul-eq-mul-right T (c .unit) (x .num * y .den) (y .num * x .den) (omega (arith, ap (λ (z : ℕ). z * y .den) (c .count), ap (λ (z : ℕ). z * x .den) (d .count))),
+)

@@ -1,0 +1,212 @@
+-- Ends with the same parts: they are close, and every fraction between them has these parts. Assumes nothing.
+use mathlib.Core.Path.{_≡_, refl, sym, ap, _∙_, subst}
+use mathlib.Core.Bool.{Bool, true, false}
+use Prim.Native.Nat.{ℕ, _+_, _-_, _*_, _^_, _≤_, _<_}
+use native.Mathlib.Nat.{mul-le-mul-right, mul-le-mul-left, mul-lt-mul-of-pos-right, mul-pos, le-trans, le-of-eq, le-of-lt, le-antisymm, lt-of-not-le, eq-of-mul-eq-mul-right}
+use native.Mathlib.Decide.{decLe}
+use native.Mathlib.Omega.{arith}
+use lib.Dec.{ltb}
+use lib.Pow.{pow-add, pow-pos, pow-mono}
+use lib.Ieee.{size}
+use lib.Ieee.Digits.{size-lt}
+use borrow.Author.Tests.{ltb-true, ltb-false, lt-ltb, le-ltb}
+use Rattle.rounding.specs.Apart.{apart}
+use Rattle.rounding.specs.Grid.{Rule}
+use Rattle.rounding.specs.GridLaws.{nearest-mono}
+use Rattle.rounding.specs.Unit.{rn}
+use Rattle.rounding.specs.UnitLaws.{rn-mono, rn-scale-whole, rn-whole-small, rn-fixed}
+use Rattle.rounding.specs.Fraction.{Fraction, less, RN}
+use Rattle.rounding.specs.FractionLaws.{Counts, RN-counts, RN-counts-fraction, less-counts, counts-finer, counts-same, Same}
+use Rattle.factor.specs.Parts.{highPart, lowPart, partsAt}
+use Rattle.factor.specs.Whole.{End, Whole, step, plusOrMinus, whole, worth, wholeOf}
+use Rattle.factor.specs.PartsLaws.{top-is, width-is, worth-near, high-counts, low-counts, rn-high, whole-of-parts}
+
+-- a fraction C with L ≤ C * 2 ^ E ≤ U
+pub record Between (E L U : ℕ) (C : Fraction) : Type 0 where
+  pub some : 0 < C .den
+  pub sign : C .minus ≡ false
+  pub least : L * C .den ≤ C .num * 2 ^ E
+  pub most : C .num * 2 ^ E ≤ U * C .den
+
+module _ (rule : Rule) (n E : ℕ) (P : 0 < n) (F : 2 * n ≤ E) (L U : ℕ) (le : End E L) (ue : End E U) (same : partsAt rule n E L ≡ partsAt rule n E U) where
+  pub whole-same : whole rule n E L ≡ whole rule n E U
+  whole-same = whole-of-parts rule n E P F L le ∙ ap (wholeOf E) same ∙ sym (whole-of-parts rule n E P F U ue)
+
+  -- ---- the ends are close
+  pub close : U ≤ L + 2 ^ (E - 2 * n)
+  close =
+      let e = ap (worth n E) whole-same in
+      omega (arith, worth-near rule n E P F L le .0, worth-near rule n E P F L le .1, worth-near rule n E P F U ue .0, worth-near rule n E P F U ue .1)
+
+  -- D ≤ W
+  pub spread : (U - L) * 2 ^ n ≤ 2 ^ (E - n)
+  spread = let c : U - L ≤ 2 ^ (E - 2 * n) = omega (arith, close) in omega (arith, mul-le-mul-right (2 ^ n) c, width-is n E F)
+
+  pub narrow : (U - L) * 2 ^ (2 * n) ≤ 2 ^ E
+  narrow =
+      let w : 2 ^ (2 * n) ≡ 2 ^ n * 2 ^ n = ap (λ (z : ℕ). 2 ^ z) (omega arith) ∙ pow-add 2 n n in
+      omega (arith, mul-le-mul-right (2 ^ n) spread, ap (λ (z : ℕ). (U - L) * z) w, top-is n E F)
+
+  -- ---- a fraction between them, num / den of the unit 2 ^ - E
+  module _ (num den : ℕ) (d : 0 < den) (l : L * den ≤ num) (u : num ≤ U * den) where
+    abbrev p : Whole
+    p = whole rule n E L
+
+    abbrev t : ℕ
+    t = p .high * step n E
+
+    -- its high part
+    high-between : rn rule n num den ≡ t
+    high-between =
+        le-antisymm
+        (le-trans (rn-mono rule n P num den U 1 d (omega arith) (omega arith)) (le-of-eq (rn-high rule n E P F U ue ∙ ap (λ (w : Whole). w .high * step n E) (sym whole-same))))
+        (le-trans (le-of-eq (sym (rn-high rule n E P F L le))) (rn-mono rule n P L 1 num den (omega arith) d (omega arith)))
+
+    minus-U : ltb U t ≡ p .minus
+    unfolding whole
+    minus-U = ap (λ (w : Whole). ltb U (w .high * step n E)) whole-same ∙ sym (ap (λ (w : Whole). w .minus) whole-same)
+
+    low-U : rn rule n (apart U t) 1 ≡ p .low
+    unfolding whole
+    low-U = ap (λ (w : Whole). rn rule n (apart U (w .high * step n E)) 1) whole-same ∙ sym (ap (λ (w : Whole). w .low) whole-same)
+
+    -- in a finer unit, 2 ^ - (E + s)
+    scaled : (a b e f s : ℕ) → 0 < e → 0 < f → a * f ≤ b * e → rn rule n (a * 2 ^ s) e ≤ rn rule n (b * 2 ^ s) f
+    scaled a b e f s p q k = rn-mono rule n P (a * 2 ^ s) e (b * 2 ^ s) f p q (omega (arith, mul-le-mul-right (2 ^ s) k))
+
+    at-end : (c s : ℕ) → rn rule n (apart c t) 1 ≡ p .low → rn rule n (apart c t * 2 ^ s) 1 ≡ p .low * 2 ^ s
+    at-end c s e = rn-scale-whole rule n P (apart c t) s ∙ ap (λ (z : ℕ). z * 2 ^ s) e
+
+    by-sign : (b : Bool) → ltb L t ≡ b → ltb U t ≡ b → (s : ℕ)
+        → (ltb num (t * den) ≡ b) × (rn rule n (apart L t) 1 ≡ p .low → rn rule n (apart num (t * den) * 2 ^ s) den ≡ p .low * 2 ^ s)
+    by-sign true x y s =
+        let a = ltb-true L t x in
+        let b = ltb-true U t y in
+        let v : num < t * den = omega (arith, mul-lt-mul-of-pos-right b d) in (
+          lt-ltb num (t * den) v,
+          λ e. le-antisymm
+              (le-trans (scaled (apart num (t * den)) (apart L t) den 1 s d (omega arith) (farther v a)) (le-of-eq (at-end L s e)))
+              (le-trans (le-of-eq (sym (at-end U s low-U))) (scaled (apart U t) (apart num (t * den)) 1 den s (omega arith) d (nearer v b))),
+        )
+      where
+        farther : num < t * den → L < t → apart num (t * den) * 1 ≤ apart L t * den
+        farther v x = let e : L + apart L t ≡ t = omega arith in omega (arith, ap (λ (z : ℕ). z * den) e)
+
+        nearer : num < t * den → U < t → apart U t * den ≤ apart num (t * den) * 1
+        nearer v y = let e : U + apart U t ≡ t = omega arith in omega (arith, ap (λ (z : ℕ). z * den) e)
+    by-sign false x y s =
+        let a = ltb-false L t x in
+        let b = ltb-false U t y in
+        let v : t * den ≤ num = omega (arith, mul-le-mul-right den a) in (
+          le-ltb num (t * den) v,
+          λ e. le-antisymm
+              (le-trans (scaled (apart num (t * den)) (apart U t) den 1 s d (omega arith) (farther v b)) (le-of-eq (at-end U s low-U)))
+              (le-trans (le-of-eq (sym (at-end L s e))) (scaled (apart L t) (apart num (t * den)) 1 den s (omega arith) d (nearer v a))),
+        )
+      where
+        farther : t * den ≤ num → t ≤ U → apart num (t * den) * 1 ≤ apart U t * den
+        farther v x = let e : t + apart U t ≡ U = omega arith in omega (arith, ap (λ (z : ℕ). z * den) e)
+
+        nearer : t * den ≤ num → t ≤ L → apart L t * den ≤ apart num (t * den) * 1
+        nearer v y = let e : t + apart L t ≡ L = omega arith in omega (arith, ap (λ (z : ℕ). z * den) e)
+
+    minus-between : ltb num (t * den) ≡ p .minus
+    unfolding whole
+    minus-between = by-sign (ltb L t) refl minus-U 0 .0
+
+    low-between : (s : ℕ) → rn rule n (apart num (t * den) * 2 ^ s) den ≡ p .low * 2 ^ s
+    unfolding whole
+    low-between s = by-sign (ltb L t) refl minus-U s .1 refl
+
+  -- ---- Ch is RN(C) and Cl is RN(C - Ch) for every fraction C between the ends
+  module _ (C : Fraction) (k : Between E L U C) where
+    abbrev N : ℕ
+    N = C .num * 2 ^ E
+
+    abbrev D : ℕ
+    D = C .den
+
+    C-counts : Counts (2 ^ E * D) false N C
+    C-counts = record { unit = mul-pos (pow-pos E) (k .some); some = k .some; sign = k .sign; count = omega arith }
+
+    fine : 2 ^ n * D ≤ 2 * N
+    fine =
+        let w : 2 ^ n ≤ 2 ^ E = pow-mono {i = n} {j = E} (omega arith) in
+        omega (arith, k .least, mul-le-mul-right D (le .from), mul-le-mul-right D w)
+
+    high-counts-C : Counts (2 ^ E) false (p N D (k .some) (k .least) (k .most) .high * step n E) (RN rule n C)
+    high-counts-C = subst (λ (z : ℕ). Counts (2 ^ E) false z (RN rule n C)) (high-between N D (k .some) (k .least) (k .most)) (RN-counts-fraction rule n P E D false N C (k .some) fine C-counts)
+
+    pub high-everywhere : Same (RN rule n C) (highPart rule n E L)
+    high-everywhere = counts-same (2 ^ E) false (whole rule n E L .high * step n E) (RN rule n C) (highPart rule n E L) high-counts-C (high-counts rule n E P F L le)
+
+    abbrev T : ℕ
+    T = whole rule n E L .high * step n E
+
+    abbrev A : ℕ
+    A = apart N (T * D)
+
+    abbrev m : Bool
+    m = whole rule n E L .minus
+
+    abbrev l : ℕ
+    l = whole rule n E L .low
+
+    abbrev rest-C : Fraction
+    rest-C = less C (RN rule n C)
+
+    rest-counts-C : Counts (2 ^ E * D) m A rest-C
+    rest-counts-C =
+        subst (λ (b : Bool). Counts (2 ^ E * D) b A rest-C) (minus-between N D (k .some) (k .least) (k .most))
+        (less-counts (2 ^ E * D) N (T * D) C (RN rule n C) C-counts (counts-finer (2 ^ E) D (k .some) false T (RN rule n C) high-counts-C))
+
+    low-is : (s : ℕ) → rn rule n (A * 2 ^ s) D ≡ l * 2 ^ s
+    low-is = low-between N D (k .some) (k .least) (k .most)
+
+    -- C is Ch
+    none-left : A ≡ 0 → Same (RN rule n rest-C) (lowPart rule n E L)
+    none-left e =
+        let c = rest-counts-C in
+        let z : rest-C .num ≡ 0 = eq-of-mul-eq-mul-right (2 ^ E * D) (c .unit) (rest-C .num) 0 (omega (arith, c .count, ap (λ (x : ℕ). x * rest-C .den) e)) in
+        let a : Counts (2 ^ E) m 0 rest-C = record { unit = pow-pos E; some = c .some; sign = c .sign; count = ap (λ (x : ℕ). x * 2 ^ E) z ∙ omega arith } in
+        let w : rn rule n (A * 2 ^ 0) D ≡ 0 * 2 ^ 0 = ap (λ (x : ℕ). rn rule n x D) (omega arith) ∙ rn-fixed rule n P 0 0 D (k .some) (omega arith) in
+        let b : l ≡ rn rule n 0 1 = omega (arith, low-is 0, w, rn-whole-small rule n P 0 (omega arith)) in
+        counts-same (2 ^ E) m l (RN rule n rest-C) (lowPart rule n E L) (subst (λ (x : ℕ). Counts (2 ^ E) m x (RN rule n rest-C)) (sym b) (RN-counts rule n P E m 0 rest-C a)) (low-counts rule n E P F L le)
+
+    some-left : 0 < A → Same (RN rule n rest-C) (lowPart rule n E L)
+    some-left h =
+        let s = n + size D in
+        let w : 2 ^ E * D * 2 ^ s ≡ 2 ^ (E + s) * D = omega (arith, ap (λ (x : ℕ). x * D) (pow-add 2 E s)) in
+        let a : Counts (2 ^ (E + s) * D) m (A * 2 ^ s) rest-C = subst (λ (x : ℕ). Counts x m (A * 2 ^ s) rest-C) w (counts-finer (2 ^ E * D) (2 ^ s) (pow-pos s) m A rest-C rest-counts-C) in
+        let g : 2 ^ n * D ≤ 2 * (A * 2 ^ s) = omega (arith, mul-le-mul-left (2 ^ n) (le-of-lt (size-lt D)), pow-add 2 n (size D), mul-le-mul-right (2 ^ s) h) in
+        let b : Counts (2 ^ (E + s)) m (l * 2 ^ s) (RN rule n rest-C) = subst (λ (x : ℕ). Counts (2 ^ (E + s)) m x (RN rule n rest-C)) (low-is s) (RN-counts-fraction rule n P (E + s) D m (A * 2 ^ s) rest-C (k .some) g a) in
+        let c : Counts (2 ^ (E + s)) m (l * 2 ^ s) (lowPart rule n E L) = subst (λ (x : ℕ). Counts x m (l * 2 ^ s) (lowPart rule n E L)) (sym (pow-add 2 E s)) (counts-finer (2 ^ E) (2 ^ s) (pow-pos s) m l (lowPart rule n E L) (low-counts rule n E P F L le)) in
+        counts-same (2 ^ (E + s)) m (l * 2 ^ s) (RN rule n rest-C) (lowPart rule n E L) b c
+
+    pub low-everywhere : Same (RN rule n rest-C) (lowPart rule n E L)
+    low-everywhere = go (decLe A 0)
+      where
+        go : Dec (A ≤ 0) → Same (RN rule n rest-C) (lowPart rule n E L)
+        go (yes h) = none-left (omega arith)
+        go (no h) = some-left (lt-of-not-le h)
+
+-- ---- in one direction: the high part in the end, and the low part under one high part
+module _ (rule : Rule) (n E : ℕ) (P : 0 < n) (a b : ℕ) (ab : a ≤ b) where
+  pub high-mono : whole rule n E a .high ≤ whole rule n E b .high
+  unfolding whole
+  high-mono = nearest-mono rule a (step n E) b (step n E) (pow-pos (E + 1 - n)) (pow-pos (E + 1 - n)) (mul-le-mul-right (step n E) ab)
+
+  pub low-mono : whole rule n E a .high ≡ whole rule n E b .high → worth n E (whole rule n E a) ≤ worth n E (whole rule n E b)
+  unfolding whole
+  low-mono e =
+      let t = whole rule n E a .high * step n E in
+      subst (λ (h : ℕ). worth n E (whole rule n E a) ≤ plusOrMinus (ltb b (h * step n E)) (h * step n E) (rn rule n (apart b (h * step n E)) 1)) e (go t (ltb a t) (ltb b t) refl refl)
+    where
+      round-mono : (x y : ℕ) → x ≤ y → rn rule n x 1 ≤ rn rule n y 1
+      round-mono x y h = rn-mono rule n P x 1 y 1 (omega arith) (omega arith) (omega arith)
+
+      go : (t : ℕ) (x y : Bool) → ltb a t ≡ x → ltb b t ≡ y → plusOrMinus x t (rn rule n (apart a t) 1) ≤ plusOrMinus y t (rn rule n (apart b t) 1)
+      go t true true p q = let u = ltb-true a t p in let v = ltb-true b t q in omega (arith, round-mono (apart b t) (apart a t) (omega arith))
+      go t true false p q = omega arith
+      go t false true p q = absurd (omega (arith, ltb-false a t p, ltb-true b t q))
+      go t false false p q = let u = ltb-false a t p in let v = ltb-false b t q in omega (arith, round-mono (apart a t) (apart b t) (omega arith))

@@ -1,0 +1,47 @@
+-- A factor's parts as whole numbers of the unit 2 ^ - E, in which proofs are made. Definitions only. Assumes nothing.
+use mathlib.Core.Bool.{Bool, true, false, cond}
+use Prim.Native.Nat.{ℕ, suc, _+_, _-_, _*_, _/_, _^_, _≤_, _<_}
+use lib.Dec.{ltb}
+use lib.IntN.{ℤ, pos, negsuc, natAbs}
+use Rattle.rounding.specs.Apart.{apart}
+use Rattle.rounding.specs.Grid.{Rule, nearest}
+use Rattle.rounding.specs.Unit.{rn}
+use Rattle.factor.specs.declared.Parts.{Parts}
+
+-- an end c of the scale E: c / 2 ^ E is from 1 to below 2
+pub record End (E c : ℕ) : Type 0 where
+  pub from : 2 ^ E ≤ c
+  pub to : c < 2 ^ suc E
+
+-- the high significand, whether the low part is negative, and its size
+pub record Whole : Type 0 where
+  pub high : ℕ
+  pub minus : Bool
+  pub low : ℕ
+
+-- the high significand's step
+abbrev pub step : (n E : ℕ) → ℕ
+step n E = 2 ^ (E + 1 - n)
+
+-- a with x added, or taken off
+abbrev pub plusOrMinus : Bool → ℕ → ℕ → ℕ
+plusOrMinus minus a x = cond minus (a - x) (a + x)
+
+unfoldable pub whole : Rule → (n E c : ℕ) → Whole
+whole rule n E c =
+    let h = nearest rule c (step n E) in
+    record { high = h; minus = ltb c (h * step n E); low = rn rule n (apart c (h * step n E)) 1 }
+
+-- Ch + Cl
+abbrev pub worth : (n E : ℕ) → Whole → ℕ
+worth n E p = plusOrMinus (p .minus) (p .high * step n E) (p .low)
+
+-- ---- from the parts that are kept
+-- whether a whole number is below zero
+abbrev pub negative : ℤ → Bool
+negative (pos m) = false
+negative (negsuc m) = true
+
+-- the low part, s over 2 ^ places, is a whole number of the unit
+abbrev pub wholeOf : (E : ℕ) → Parts → Whole
+wholeOf E s = record { high = s .high; minus = negative (s .low); low = natAbs (s .low) * 2 ^ E / 2 ^ s .places }
