@@ -15,8 +15,8 @@ use Rattle.rounding.specs.Grid.{Rule}
 use Rattle.rounding.specs.GridLaws.{nearest-mono}
 use Rattle.rounding.specs.Unit.{rn}
 use Rattle.rounding.specs.UnitLaws.{rn-mono, rn-scale-whole, rn-whole-small, rn-fixed}
-use Rattle.rounding.specs.Fraction.{Fraction, less, RN}
-use Rattle.rounding.specs.FractionLaws.{Counts, RN-counts, RN-counts-fraction, less-counts, counts-finer, counts-same, Same}
+use Rattle.rounding.specs.Fraction.{Fraction, less, RN, Same}
+use Rattle.rounding.specs.FractionLaws.{Counts, RN-counts, RN-counts-fraction, less-counts, counts-finer, counts-same}
 use Rattle.factor.specs.Parts.{highPart, lowPart, partsAt}
 use Rattle.factor.specs.Whole.{End, Whole, step, plusOrMinus, whole, worth, wholeOf}
 use Rattle.factor.specs.PartsLaws.{top-is, width-is, worth-near, high-counts, low-counts, rn-high, whole-of-parts}

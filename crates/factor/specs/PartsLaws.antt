@@ -39,6 +39,11 @@ module _ (n E : ℕ) (F : 2 * n ≤ E) where
   pub bottom-is : 0 < n → 2 ^ E ≡ 2 ^ (n - 1) * step n E
   bottom-is P = omega (arith, ap (λ (z : ℕ). 2 ^ (n - 1) * z) step-is, top-is, ap (λ (z : ℕ). z * 2 ^ (E - n)) (pow-half n P))
 
+size-of : (b : Bool) (m : ℕ) → natAbs (signedOf b m) ≡ m
+size-of true zero = refl
+size-of true (suc m) = refl
+size-of false m = refl
+
 -- a low part l, not zero, as s / 2 ^ places
 pub record LowForm (n E l : ℕ) (r : Rounded) : Type 0 where
   pub places : ℕ
@@ -248,11 +253,6 @@ module _ (rule : Rule) (n E : ℕ) (P : 0 < n) (F : 2 * n ≤ E) (c : ℕ) (ce :
       sign-of true (suc m) h = refl
       sign-of false m h = refl
 
-      size-of : (b : Bool) (m : ℕ) → natAbs (signedOf b m) ≡ m
-      size-of true zero = refl
-      size-of true (suc m) = refl
-      size-of false m = refl
-
       go : Dec (R ≤ 0) → p ≡ wholeOf E s
       go (yes h) =
           let z = none-is (omega arith) in
@@ -265,3 +265,14 @@ module _ (rule : Rule) (n E : ℕ) (P : 0 < n) (F : 2 * n ≤ E) (c : ℕ) (ce :
           let m : 0 < low-rounded .significand = le-trans (pow-pos (n - 1)) (f .bits .least) in
           join p (wholeOf E s) (sym high-is) (sym (ap negative (z .0) ∙ sign-of (p .minus) (low-rounded .significand) m))
           (sym (ap (λ (m : ℕ). m * 2 ^ E / 2 ^ s .places) (ap natAbs (z .0) ∙ size-of (p .minus) (low-rounded .significand)) ∙ ap (λ (q : ℕ). low-rounded .significand * 2 ^ E / 2 ^ q) (z .1) ∙ ap (λ (m : ℕ). m / 2 ^ f .places) (f .value) ∙ mul-div-cancel (p .low) (pow-pos (f .places))))
+
+  -- s / 2 ^ places is the low part
+  pub low-kept : natAbs (s .low) * 2 ^ E ≡ p .low * 2 ^ s .places
+  low-kept = go (decLe R 0)
+    where
+      go : Dec (R ≤ 0) → natAbs (s .low) * 2 ^ E ≡ p .low * 2 ^ s .places
+      go (yes h) = let z = none-is (omega arith) in omega (arith, ap (λ (m : ℤ). natAbs m * 2 ^ E) (z .0), ap (λ (m : ℕ). m * 2 ^ s .places) (z .3))
+      go (no h) =
+          let r : 0 < R = lt-of-not-le h in
+          let z = some-is r in
+          ap (λ (m : ℕ). m * 2 ^ E) (ap natAbs (z .0) ∙ size-of (p .minus) (low-rounded .significand)) ∙ low-form r .value ∙ ap (λ (q : ℕ). p .low * 2 ^ q) (sym (z .1))

@@ -1,7 +1,8 @@
 -- Signed fractions, their exact sums and products, and RN of them: what document 01 says of factors and products is said with these. Definitions only. Assumes nothing.
+use mathlib.Core.Path.{_≡_}
 use mathlib.Core.Bool.{Bool, true, false, not}
 use Prim.Native.Nat.{ℕ, _+_, _*_, _^_}
-use lib.Dec.{ltb}
+use lib.Dec.{ltb, eqb}
 use lib.Ieee.{up, down, unlike}
 use Rattle.rounding.specs.declared.Rounded.{Rounded}
 use Rattle.rounding.specs.Apart.{apart}
@@ -44,3 +45,14 @@ signed s r = record { minus = s; num = r .significand * up (r .exponent); den = 
 -- RN of document 01: the size is rounded, the sign stays
 abbrev pub RN : Rule → (n : ℕ) → Fraction → Fraction
 RN rule n x = signed (x .minus) (rounded rule n (x .num) (x .den))
+
+-- two fractions of the same sign and size
+abbrev pub Same : Fraction → Fraction → Type 0
+Same x y = (x .minus ≡ y .minus) × (x .num * y .den ≡ y .num * x .den)
+
+-- the order of two that are not negative
+abbrev pub below : Fraction → Fraction → Bool
+below x y = ltb (x .num * y .den) (y .num * x .den)
+
+abbrev pub equal : Fraction → Fraction → Bool
+equal x y = eqb (x .num * y .den) (y .num * x .den)

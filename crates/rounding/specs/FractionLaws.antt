@@ -3,19 +3,19 @@ use mathlib.Core.Path.{_≡_, refl, sym, ap, ap₂, _∙_}
 use mathlib.Core.Bool.{Bool, true, false, not}
 use Prim.Native.Nat.{ℕ, _+_, _*_, _^_, _≤_, _<_}
 use native.Mathlib.Nat.{mul-assoc, eq-of-mul-eq-mul-right, mul-pos, mul-lt-mul-of-pos-right, mul-le-mul-right}
-use native.Mathlib.Decide.{decLt}
+use native.Mathlib.Decide.{decLt, ℕ-discrete}
 use native.Mathlib.Omega.{arith}
-use lib.Dec.{ltb}
+use lib.Dec.{ltb, eqb}
 use lib.Pow.{pow-pos}
 use lib.Ieee.{unlike}
 use lib.Ieee.Fits.{down-pos}
-use borrow.Author.Tests.{lt-ltb, le-ltb}
+use borrow.Author.Tests.{lt-ltb, le-ltb, eq-eqb, ne-eqb}
 use Rattle.rounding.specs.Apart.{apart, apart-mul}
 use Rattle.rounding.specs.Grid.{Rule}
 use Rattle.rounding.specs.Unit.{rn}
 use Rattle.rounding.specs.Round.{rounded}
 use Rattle.rounding.specs.RoundLaws.{rounded-whole, rounded-value}
-use Rattle.rounding.specs.Fraction.{Fraction, over, negated, times, joined, plus, less, RN}
+use Rattle.rounding.specs.Fraction.{Fraction, over, negated, times, joined, plus, less, RN, Same, below, equal}
 
 -- x is a / T in size, and negative where m
 pub record Counts (T : ℕ) (m : Bool) (a : ℕ) (x : Fraction) : Type 0 where
@@ -104,12 +104,19 @@ joined-den true false a b d = refl
 joined-den false true a b d = refl
 joined-den false false a b d = refl
 
-ltb-scale : (a b c : ℕ) → 0 < c → ltb (a * c) (b * c) ≡ ltb a b
+pub ltb-scale : (a b c : ℕ) → 0 < c → ltb (a * c) (b * c) ≡ ltb a b
 ltb-scale a b c C = go (decLt a b)
   where
     go : Dec (a < b) → ltb (a * c) (b * c) ≡ ltb a b
     go (yes h) = lt-ltb (a * c) (b * c) (mul-lt-mul-of-pos-right h C) ∙ sym (lt-ltb a b h)
     go (no h) = let l : b ≤ a = omega arith in le-ltb (a * c) (b * c) (mul-le-mul-right c l) ∙ sym (le-ltb a b l)
+
+pub eqb-scale : (a b c : ℕ) → 0 < c → eqb (a * c) (b * c) ≡ eqb a b
+eqb-scale a b c C = go (ℕ-discrete a b)
+  where
+    go : Dec (a ≡ b) → eqb (a * c) (b * c) ≡ eqb a b
+    go (yes h) = eq-eqb (a * c) (b * c) (ap (λ (z : ℕ). z * c) h) ∙ sym (eq-eqb a b h)
+    go (no h) = ne-eqb (a * c) (b * c) (λ e. h (eq-of-mul-eq-mul-right c C a b e)) ∙ sym (ne-eqb a b h)
 
 sign-scale : (m k : Bool) (a b c : ℕ) → 0 < c → sumSign m k (a * c) (b * c) ≡ sumSign m k a b
 sign-scale true true a b c C = refl
@@ -151,12 +158,27 @@ plus-counts T a b m k x y c d =
 pub less-counts : (T : ℕ) (a b : ℕ) (x y : Fraction) → Counts T false a x → Counts T false b y → Counts T (ltb a b) (apart a b) (less x y)
 less-counts T a b x y c d = plus-counts T a b false true x (negated y) c (record { unit = d .unit; some = d .some; sign = ap not (d .sign); count = d .count })
 
--- ---- two fractions of the same sign and size
-abbrev pub Same : Fraction → Fraction → Type 0
-Same x y = (x .minus ≡ y .minus) × (x .num * y .den ≡ y .num * x .den)
-
+-- ---- order and equality
 pub counts-same : (T : ℕ) (m : Bool) (a : ℕ) (x y : Fraction) → Counts T m a x → Counts T m a y → Same x y
 counts-same T m a x y c d = (
   c .sign ∙ sym (d .sign),
   eq-of-mul-eq-mul-right T (c .unit) (x .num * y .den) (y .num * x .den) (omega (arith, ap (λ (z : ℕ). z * y .den) (c .count), ap (λ (z : ℕ). z * x .den) (d .count))),
 )
+
+pub counts-unique : (T : ℕ) (m : Bool) (a b : ℕ) (x y : Fraction) → Counts T m a x → Counts T m b y → Same x y → a ≡ b
+counts-unique T m a b x y c d s =
+    eq-of-mul-eq-mul-right (x .den * y .den) (mul-pos (c .some) (d .some)) a b
+    (omega (arith, ap (λ (z : ℕ). z * y .den) (c .count), ap (λ (z : ℕ). z * x .den) (d .count), ap (λ (z : ℕ). z * T) (s .1)))
+
+module _ (T a b : ℕ) (x y : Fraction) (c : Counts T false a x) (d : Counts T false b y) where
+  left : x .num * y .den * T ≡ a * (x .den * y .den)
+  left = omega (arith, ap (λ (z : ℕ). z * y .den) (c .count))
+
+  right : y .num * x .den * T ≡ b * (x .den * y .den)
+  right = omega (arith, ap (λ (z : ℕ). z * x .den) (d .count))
+
+  pub below-counts : below x y ≡ ltb a b
+  below-counts = sym (ltb-scale (x .num * y .den) (y .num * x .den) T (c .unit)) ∙ ap₂ ltb left right ∙ ltb-scale a b (x .den * y .den) (mul-pos (c .some) (d .some))
+
+  pub equal-counts : equal x y ≡ eqb a b
+  equal-counts = sym (eqb-scale (x .num * y .den) (y .num * x .den) T (c .unit)) ∙ ap₂ eqb left right ∙ eqb-scale a b (x .den * y .den) (mul-pos (c .some) (d .some))

@@ -51,8 +51,8 @@ minus-shift a b j = go (decLe (b + j) a) (decLe b a)
         let l : a < b = lt-of-not-le k in
         rw (lt-leb (b + j) a (omega arith), lt-leb b a l, lt-ltb j (suc (b + j - suc a)) (omega arith)) (ap negsuc (omega arith))
 
-pub minus-zero : (a : ℕ) → minus a 0 ≡ pos a
-minus-zero a = rw (le-leb 0 a (omega arith)) (ap pos (omega arith))
+pub minus-le : (a b : ℕ) → b ≤ a → minus a b ≡ pos (a - b)
+minus-le a b h = rw (le-leb b a h)
 
 -- ---- one fraction in two units: N / d of the unit 2 ^ - t is M / e of the unit 2 ^ - s
 module _ (rule : Rule) (n : ℕ) (P : 0 < n) where
@@ -115,6 +115,23 @@ module _ (rule : Rule) (n : ℕ) (P : 0 < n) where
   pub roundedIn-value : (t N d : ℕ) → Equals (roundedIn rule n t N d) (rn rule n N d) (2 ^ t)
   unfolding roundedIn stepped rn kept
   roundedIn-value t N d = let j = drop n N d in normalised-value (nearest rule N (d * 2 ^ j)) j t (location (N % (d * 2 ^ j)) (d * 2 ^ j))
+
+  -- the exponent, counted from the unit
+  normalised-exponent : (k j t : ℕ) (l : Location) → (i : ℕ) × (normalised n k j t l .exponent ≡ minus i t) × (normalised n k j t l .significand * 2 ^ i ≡ k * 2 ^ j)
+  unfolding normalised
+  normalised-exponent k j t l = go (eqb k (2 ^ n)) refl
+    where
+      at : Bool → Rounded
+      at b = cond b (record { significand = 2 ^ (n - 1); exponent = minus (suc j) t; location = l }) (record { significand = k; exponent = minus j t; location = l })
+
+      go : (b : Bool) → eqb k (2 ^ n) ≡ b → (i : ℕ) × (at b .exponent ≡ minus i t) × (at b .significand * 2 ^ i ≡ k * 2 ^ j)
+      go true e =
+          (suc j, refl, omega (arith, ap (λ (z : ℕ). 2 ^ (n - 1) * z) (pow-succ' 2 j), ap (λ (z : ℕ). z * 2 ^ j) (eqb-true k (2 ^ n) e), ap (λ (z : ℕ). z * 2 ^ j) (pow-half n P)))
+      go false e = (j, refl, refl)
+
+  pub roundedIn-exponent : (t N d : ℕ) → (i : ℕ) × (roundedIn rule n t N d .exponent ≡ minus i t) × (roundedIn rule n t N d .significand * 2 ^ i ≡ rn rule n N d)
+  unfolding roundedIn stepped rn kept
+  roundedIn-exponent t N d = let j = drop n N d in normalised-exponent (nearest rule N (d * 2 ^ j)) j t (location (N % (d * 2 ^ j)) (d * 2 ^ j))
 
   -- in every unit that is fine enough RN's value is that of `rn`
   pub rounded-value : (N d t M e : ℕ) → 0 < d → 0 < e → N * 2 ^ t * e ≡ M * d → 2 ^ n * e ≤ 2 * M → Equals (rounded rule n N d) (rn rule n M e) (2 ^ t)

@@ -1,0 +1,186 @@
+-- Demand 2: the mark, taken at the two ends alone, tells of every fraction between them. Assumes nothing.
+use mathlib.Core.Path.{_≡_, refl, sym, ap, _∙_, subst}
+use mathlib.Core.Bool.{Bool, true, false, _&&_, cond}
+use Prim.Native.Nat.{ℕ, _+_, _-_, _*_, _^_, _≤_, _<_}
+use native.Mathlib.Nat.{mul-le-mul-right, mul-pos, le-trans, le-of-eq, le-of-lt, lt-of-not-le, not-le-of-lt}
+use native.Mathlib.Omega.{arith}
+use lib.Dec.{ltb, eqb}
+use lib.Pow.{pow-add, pow-pos}
+use borrow.Author.Tests.{ltb-true, ltb-false, eqb-true, eqb-false, le-ltb, eq-eqb}
+use Rattle.marks.specs.declared.Mark.{Mark}
+use Rattle.marks.specs.declared.Mark.the-variants.{Right, Open, Wrong}
+use Rattle.rounding.specs.Grid.{Rule}
+use Rattle.rounding.specs.Digits.{pow-half}
+use Rattle.rounding.specs.Unit.{rn}
+use Rattle.rounding.specs.UnitLaws.{rn-mono, rn-fixed}
+use Rattle.rounding.specs.Fraction.{Fraction, over, times}
+use Rattle.rounding.specs.FractionLaws.{Counts, over-counts, counts-finer, RN-counts, RN-counts-fraction, times-counts, counts-same, counts-unique, below-counts, equal-counts}
+use Rattle.factor.specs.Accepted.{Between}
+use Rattle.product.specs.declared.Product.{Product}
+use Rattle.product.specs.Product.{argument, valueOf}
+use Rattle.product.specs.Marks.{exact, mark, Gives, Says}
+
+-- the mark of v by whole numbers: a and b are RN(L * x) and RN(U * x)
+abbrev pub markUnits : (a b v : ℕ) → Mark
+markUnits a b v = cond (ltb v a) Wrong (cond (ltb b v) Wrong (cond (eqb a v && eqb b v) Right Open))
+
+-- right exactly if v is both
+pub right-units : (a b v : ℕ) → a ≡ v → b ≡ v → markUnits a b v ≡ Right
+right-units a b v p q = rw (le-ltb v a (omega arith), le-ltb b v (omega arith), eq-eqb a v p, eq-eqb b v q)
+
+-- a product S * 2 ^ b / 2 ^ (n - 1) in the unit 2 ^ - (E + n - 1)
+abbrev pub units : (E : ℕ) → Product → ℕ
+units E v = v .significand * 2 ^ (E + v .binade)
+
+module _ (rule : Rule) (n E : ℕ) (P : 0 < n) (L U X : ℕ) (v : Product) where
+  abbrev t : ℕ
+  t = E + (n - 1)
+
+  abbrev N : ℕ
+  N = units E v
+
+  abbrev a : ℕ
+  a = rn rule n (L * X) 1
+
+  abbrev b : ℕ
+  b = rn rule n (U * X) 1
+
+  unit : 2 ^ E * 2 ^ (n - 1) ≡ 2 ^ t
+  unit = sym (pow-add 2 E (n - 1))
+
+  value-counts : Counts (2 ^ t) false N (valueOf n v)
+  value-counts =
+      let k = counts-finer (2 ^ (n - 1)) (2 ^ E) (pow-pos E) false (v .significand * 2 ^ v .binade) (valueOf n v) (over-counts (v .significand * 2 ^ v .binade) (n - 1)) in
+      subst (λ (z : ℕ). Counts (2 ^ t) false z (valueOf n v)) (omega (arith, ap (λ (z : ℕ). v .significand * z) (pow-add 2 E (v .binade))))
+      (subst (λ (z : ℕ). Counts z false (v .significand * 2 ^ v .binade * 2 ^ E) (valueOf n v)) (omega (arith, unit)) k)
+
+  -- ---- the mark by whole numbers
+  end-counts : (c : ℕ) → Counts (2 ^ t) false (rn rule n (c * X) 1) (exact rule n X (over c E))
+  end-counts c =
+      RN-counts rule n P t false (c * X) (times (over c E) (argument n X))
+      (subst (λ (z : ℕ). Counts z false (c * X) (times (over c E) (argument n X))) unit (times-counts (2 ^ E) (2 ^ (n - 1)) c X false (over c E) (argument n X) (over-counts c E) (over-counts X (n - 1))))
+
+  pub mark-units : mark rule n E L U X v ≡ markUnits a b N
+  unfolding mark
+  mark-units =
+      rw (
+        below-counts (2 ^ t) N a (valueOf n v) (exact rule n X (over L E)) value-counts (end-counts L),
+        below-counts (2 ^ t) b N (exact rule n X (over U E)) (valueOf n v) (end-counts U) value-counts,
+        equal-counts (2 ^ t) a N (exact rule n X (over L E)) (valueOf n v) (end-counts L) value-counts,
+        equal-counts (2 ^ t) b N (exact rule n X (over U E)) (valueOf n v) (end-counts U) value-counts,
+      )
+
+  -- ---- every fraction between
+  module _ (le : 2 ^ E ≤ L) (lu : L ≤ U) (x1 : 2 ^ (n - 1) ≤ X) (bits : v .significand ≤ 2 ^ n) where
+    x0 : 0 < X
+    x0 = le-trans (pow-pos (n - 1)) x1
+
+    -- C * x, and what it rounds to
+    abbrev rounds : Fraction → ℕ
+    rounds C = rn rule n (C .num * 2 ^ E * X) (C .den)
+
+    exact-counts : (C : Fraction) → Between E L U C → Counts (2 ^ t) false (rounds C) (exact rule n X C)
+    exact-counts C k =
+        RN-counts-fraction rule n P t (C .den) false (C .num * 2 ^ E * X) (times C (argument n X)) (k .some) fine
+        (record {
+          unit = mul-pos (pow-pos t) (k .some);
+          some = mul-pos (k .some) (pow-pos (n - 1));
+          sign = rw (k .sign);
+          count = omega (arith, ap (λ (z : ℕ). C .num * X * (z * C .den)) unit);
+        })
+      where
+        fine : 2 ^ n * C .den ≤ 2 * (C .num * 2 ^ E * X)
+        fine =
+            let one : 1 ≤ 2 ^ E = pow-pos E in
+            let f = mul-le-mul-right X (le-trans (mul-le-mul-right (C .den) (le-trans one le)) (k .least)) in
+            omega (arith, f, mul-le-mul-right (C .den) x1, ap (λ (z : ℕ). z * C .den) (pow-half n P))
+
+    gives : (C : Fraction) → Between E L U C → rounds C ≡ N → Gives rule n X v C
+    gives C k e = counts-same (2 ^ t) false N (exact rule n X C) (valueOf n v) (subst (λ (z : ℕ). Counts (2 ^ t) false z (exact rule n X C)) e (exact-counts C k)) value-counts
+
+    given : (C : Fraction) → Between E L U C → Gives rule n X v C → rounds C ≡ N
+    given C k = counts-unique (2 ^ t) false (rounds C) N (exact rule n X C) (valueOf n v) (exact-counts C k) value-counts
+
+    from-L : (C : Fraction) → Between E L U C → a ≤ rounds C
+    from-L C k = rn-mono rule n P (L * X) 1 (C .num * 2 ^ E * X) (C .den) (omega arith) (k .some) (omega (arith, mul-le-mul-right X (k .least)))
+
+    to-U : (C : Fraction) → Between E L U C → rounds C ≤ b
+    to-U C k = rn-mono rule n P (C .num * 2 ^ E * X) (C .den) (U * X) 1 (k .some) (omega arith) (omega (arith, mul-le-mul-right X (k .most)))
+
+    -- the ends themselves
+    at-L : Between E L U (over L E)
+    at-L = record { some = pow-pos E; sign = refl; least = le-of-eq refl; most = mul-le-mul-right (2 ^ E) lu }
+
+    at-U : Between E L U (over U E)
+    at-U = record { some = pow-pos E; sign = refl; least = mul-le-mul-right (2 ^ E) lu; most = le-of-eq refl }
+
+    end-rounds : (c : ℕ) → rounds (over c E) ≡ rn rule n (c * X) 1
+    end-rounds c =
+        native.Mathlib.Nat.le-antisymm (rn-mono rule n P (c * 2 ^ E * X) (2 ^ E) (c * X) 1 (pow-pos E) (omega arith) (omega arith))
+        (rn-mono rule n P (c * X) 1 (c * 2 ^ E * X) (2 ^ E) (omega arith) (pow-pos E) (omega arith))
+
+    -- a value strictly between what the ends round to is itself v / x times x
+    fixed : (d : ℕ) → 0 < d → rn rule n (N * d) d ≡ N
+    fixed d D = rn-fixed rule n P (v .significand) (E + v .binade) d D bits
+
+    abbrev C-v : Fraction
+    C-v = record { minus = false; num = N; den = X * 2 ^ E }
+
+    at-v : a < N → N < b → Between E L U C-v
+    at-v p q = record {
+      some = mul-pos x0 (pow-pos E);
+      sign = refl;
+      least =
+          let g : L * X ≤ N = le-of-lt (lt-of-not-le (λ (k : N ≤ L * X). not-le-of-lt p (le-trans (le-of-eq (sym (fixed 1 (omega arith)))) (rn-mono rule n P (N * 1) 1 (L * X) 1 (omega arith) (omega arith) (omega arith))))) in
+          omega (arith, mul-le-mul-right (2 ^ E) g);
+      most =
+          let g : N ≤ U * X = le-of-lt (lt-of-not-le (λ (k : U * X ≤ N). not-le-of-lt q (le-trans (rn-mono rule n P (U * X) 1 (N * 1) 1 (omega arith) (omega arith) (omega arith)) (le-of-eq (fixed 1 (omega arith)))))) in
+          omega (arith, mul-le-mul-right (2 ^ E) g);
+    }
+
+    v-rounds : rounds C-v ≡ N
+    v-rounds = ap (λ (z : ℕ). rn rule n z (X * 2 ^ E)) (omega arith) ∙ fixed (X * 2 ^ E) (mul-pos x0 (pow-pos E))
+
+    says-units : Says rule n E L U X v (markUnits a b N)
+    says-units = go (ltb N a) (ltb b N) (eqb a N) (eqb b N) refl refl refl refl
+      where
+        L-gives : a ≡ N → Gives rule n X v (over L E)
+        L-gives e = gives (over L E) at-L (end-rounds L ∙ e)
+
+        U-gives : b ≡ N → Gives rule n X v (over U E)
+        U-gives e = gives (over U E) at-U (end-rounds U ∙ e)
+
+        L-not : (a ≡ N → ⊥) → ¬ Gives rule n X v (over L E)
+        L-not e g = e (sym (end-rounds L) ∙ given (over L E) at-L g)
+
+        U-not : (b ≡ N → ⊥) → ¬ Gives rule n X v (over U E)
+        U-not e g = e (sym (end-rounds U) ∙ given (over U E) at-U g)
+
+        go : (p q r s : Bool) → ltb N a ≡ p → ltb b N ≡ q → eqb a N ≡ r → eqb b N ≡ s → Says rule n E L U X v (cond p Wrong (cond q Wrong (cond (r && s) Right Open)))
+        go true q r s e f g h = λ C k z. omega (arith, ltb-true N a e, from-L C k, given C k z)
+        go false true r s e f g h = λ C k z. omega (arith, ltb-true b N f, to-U C k, given C k z)
+        go false false true true e f g h = λ C k. gives C k (omega (arith, eqb-true a N g, eqb-true b N h, from-L C k, to-U C k))
+        go false false true false e f g h = ((over L E, at-L, L-gives (eqb-true a N g)), (over U E, at-U, U-not (eqb-false b N h)))
+        go false false false true e f g h = ((over U E, at-U, U-gives (eqb-true b N h)), (over L E, at-L, L-not (eqb-false a N g)))
+        go false false false false e f g h =
+            let k = at-v (omega (arith, ltb-false N a e, eqb-false a N g)) (omega (arith, ltb-false b N f, eqb-false b N h)) in
+            ((C-v, k, gives C-v k v-rounds), (over L E, at-L, L-not (eqb-false a N g)))
+
+    -- the mark says so
+    pub mark-says : Says rule n E L U X v (mark rule n E L U X v)
+    mark-says = subst (Says rule n E L U X v) (sym mark-units) says-units
+
+    -- and it is the only one that does
+    pub mark-only : (m : Mark) → Says rule n E L U X v m → mark rule n E L U X v ≡ m
+    mark-only m s = go (mark rule n E L U X v) m mark-says s
+      where
+        go : (x y : Mark) → Says rule n E L U X v x → Says rule n E L U X v y → x ≡ y
+        go Right Right p q = refl
+        go Right Open p q = absurd (q .1 .2 (p (q .1 .0) (q .1 .1)))
+        go Right Wrong p q = absurd (q (over L E) at-L (p (over L E) at-L))
+        go Open Right p q = absurd (p .1 .2 (q (p .1 .0) (p .1 .1)))
+        go Open Open p q = refl
+        go Open Wrong p q = absurd (q (p .0 .0) (p .0 .1) (p .0 .2))
+        go Wrong Right p q = absurd (p (over L E) at-L (q (over L E) at-L))
+        go Wrong Open p q = absurd (p (q .0 .0) (q .0 .1) (q .0 .2))
+        go Wrong Wrong p q = refl

@@ -1,0 +1,44 @@
+-- The two-step product (document 01, "The product"; source document 004, Algorithm 1), over the tie rule and the precision n. Definitions only. Assumes nothing.
+use Prim.Native.Nat.{ℕ, _-_, _*_, _^_}
+use lib.IntN.{pos, natAbs, _+ℤ_}
+use Rattle.rounding.specs.Grid.{Rule}
+use Rattle.rounding.specs.Round.{rounded}
+use Rattle.rounding.specs.Fraction.{Fraction, over, times, plus, RN}
+use Rattle.factor.specs.declared.Parts.{Parts}
+use Rattle.factor.specs.Whole.{negative}
+use Rattle.product.specs.declared.Product.{Product}
+
+-- x is X / 2 ^ (n - 1)
+abbrev pub argument : (n X : ℕ) → Fraction
+argument n X = over X (n - 1)
+
+-- the parts that are kept, as numbers: Ch and Cl
+abbrev pub high : (n : ℕ) → Parts → Fraction
+high n p = over (p .high) (n - 1)
+
+abbrev pub low : Parts → Fraction
+low p = record { minus = negative (p .low); num = natAbs (p .low); den = 2 ^ p .places }
+
+-- u1 = RN(Cl * x)
+abbrev pub first : Rule → (n : ℕ) → Parts → ℕ → Fraction
+first rule n p X = RN rule n (times (low p) (argument n X))
+
+-- Ch * x + u1, exactly
+abbrev pub fused : Rule → (n : ℕ) → Parts → ℕ → Fraction
+fused rule n p X = plus (times (high n p) (argument n X)) (first rule n p X)
+
+-- u2 = RN(Ch * x + u1)
+abbrev pub second : Rule → (n : ℕ) → Parts → ℕ → Fraction
+second rule n p X = RN rule n (fused rule n p X)
+
+-- u2 as a significand of n bits and a binade: significand * 2 ^ binade / 2 ^ (n - 1)
+unfoldable pub product : Rule → (n : ℕ) → Parts → ℕ → Product
+unfolding rounded
+product rule n p X =
+    let y = fused rule n p X in
+    let r = rounded rule n (y .num) (y .den) in
+    record { significand = r .significand; binade = natAbs (r .exponent +ℤ pos (n - 1)) }
+
+-- a product as a number
+abbrev pub valueOf : (n : ℕ) → Product → Fraction
+valueOf n v = over (v .significand * 2 ^ v .binade) (n - 1)
