@@ -1,0 +1,3 @@
+pub mod Suspects
+pub mod Right
+pub mod Window

@@ -1,0 +1,150 @@
+-- Every significand that is no suspect is right: no midpoint lies near L * x, so the fused sum and C * x round alike. Assumes nothing.
+use mathlib.Core.Path.{_≡_, sym, ap, subst}
+use mathlib.Core.Logic.{_⊎_, inl, inr}
+use mathlib.Core.Bool.{Bool, cond}
+use Prim.Native.Nat.{ℕ, suc, _+_, _-_, _*_, _^_, _≤_, _<_}
+use native.Mathlib.Nat.{mul-le-mul-right, mul-le-mul-left, mul-le-mul, le-trans, le-of-eq, le-of-lt, lt-of-not-le, eq-or-lt-of-le, pow-succ', mul-lt-mul-of-pos-right}
+use native.Mathlib.Decide.{decLe, decLt}
+use native.Mathlib.Omega.{arith}
+use lib.Pow.{pow-add, pow-pos, pow-mono}
+use borrow.Author.Tests.{lt-ltb, le-ltb}
+use Rattle.rounding.specs.Grid.{Rule}
+use Rattle.rounding.specs.Digits.{pow-half}
+use Rattle.rounding.specs.Unit.{rn}
+use Rattle.rounding.specs.UnitLaws.{rn-constant}
+use Rattle.rounding.specs.Fraction.{Fraction}
+use Rattle.factor.specs.Parts.{partsAt}
+use Rattle.factor.specs.Whole.{End, Whole, whole}
+use Rattle.factor.specs.PartsLaws.{top-is}
+use Rattle.factor.specs.Accepted.{Between, spread, whole-same}
+use Rattle.product.specs.Units.{fusedUnits, secondUnits}
+use Rattle.product.specs.ProductLaws.{fused-least, fused-near}
+use Rattle.suspects.specs.Suspects.{halfStep, midpoint, Suspect}
+
+-- ---- which of RN's midpoints can lie near L * X. The binades meet at 2 ^ (E + n)
+module _ (n E : ℕ) (P : 0 < n) (F : 2 * n ≤ E) (L X : ℕ) (top : L < 2 ^ suc E) (xe : X < 2 ^ n) where
+  abbrev W : ℕ
+  W = 2 ^ (E - n)
+
+  abbrev T : ℕ
+  T = 2 ^ n * 2 ^ E
+
+  width : 2 * W ≤ 2 ^ E
+  width = omega (arith, top-is n E F, mul-le-mul-right W (pow-mono {i = 1} {j = n} P))
+
+  high-end : L * X ≤ 2 * T
+  high-end = omega (arith, mul-le-mul (le-of-lt top) (le-of-lt xe), ap (λ (z : ℕ). z * 2 ^ n) (pow-succ' 2 E))
+
+  -- those of finer steps lie below 1, those of coarser steps above all
+  too-low : (j k : ℕ) → k < E → j < 2 ^ n → (2 * j + 1) * 2 ^ k < T
+  too-low j k h hi =
+      let e : 2 * 2 ^ k ≤ 2 ^ E = le-trans (le-of-eq (sym (pow-succ' 2 k))) (pow-mono {i = suc k} {j = E} h) in
+      omega (arith, mul-le-mul-right (2 ^ k) hi, mul-le-mul-left (2 ^ n) e, pow-pos k)
+
+  too-high : (j k : ℕ) → suc E < k → 2 ^ (n - 1) ≤ j → 4 * T + 4 * 2 ^ E ≤ (2 * j + 1) * 2 ^ k
+  too-high j k h lo =
+      let e : 4 * 2 ^ E ≤ 2 ^ k = le-trans (le-of-eq (sym (pow-add 2 2 E))) (pow-mono {i = 2 + E} {j = k} (omega arith)) in
+      let m : 2 ^ n + 1 ≤ 2 * j + 1 = omega (arith, pow-half n P) in
+      omega (arith, mul-le-mul m e)
+
+  -- the last of the lower binade, and the first of the upper one, are far from where they meet
+  at-low : (j : ℕ) → j < 2 ^ n → (2 * j + 1) * 2 ^ E + 2 ^ E ≤ 2 * T
+  at-low j hi = omega (arith, mul-le-mul-right (2 ^ E) hi)
+
+  at-high : (j : ℕ) → 2 ^ (n - 1) ≤ j → 2 * T + 2 * 2 ^ E ≤ (2 * j + 1) * 2 ^ suc E
+  at-high j lo = omega (arith, mul-le-mul-right (2 * 2 ^ E) lo, ap (λ (z : ℕ). z * 2 ^ E) (pow-half n P), ap (λ (z : ℕ). (2 * j + 1) * z) (pow-succ' 2 E))
+
+  half-low : L * X < 2 ^ (E + n) → halfStep n E L X ≡ 2 ^ (E - 1)
+  half-low l = ap (λ (b : Bool). cond b (2 ^ (E - 1)) (2 ^ E)) (lt-ltb (L * X) (2 ^ (E + n)) l)
+
+  half-high : 2 ^ (E + n) ≤ L * X → halfStep n E L X ≡ 2 ^ E
+  half-high l = ap (λ (b : Bool). cond b (2 ^ (E - 1)) (2 ^ E)) (le-ltb (L * X) (2 ^ (E + n)) l)
+
+  module _ (rule : Rule) (U : ℕ) (spread : (U - L) * 2 ^ n ≤ W) (clear : ¬ Suspect n E L U X) where
+    abbrev D : ℕ
+    D = (U - L) * 2 ^ n
+
+    not-at : (h : ℕ) → halfStep n E L X ≡ h → (q : ℕ) → L * X < (2 * q + 1) * h + W → (2 * q + 1) * h < L * X + W + D → ⊥
+    unfolding Suspect midpoint
+    not-at h e q x y = clear (q, rw e x, rw e y)
+
+    -- two numbers near L * X and not below 1
+    module _ (a b : ℕ) (ab : a ≤ b) (one : T ≤ 2 * a) (lo : L * X < a + W) (hi : b < L * X + W + D) where
+      none : (j k : ℕ) → 2 ^ (n - 1) ≤ j → j < 2 ^ n → 2 * a ≤ (2 * j + 1) * 2 ^ k * 1 → (2 * j + 1) * 2 ^ k * 1 ≤ 2 * b → ⊥
+      none j k p q x y = go (decLt k E)
+        where
+          low-step : E ≡ k → Dec (L * X < 2 ^ (E + n)) → ⊥
+          low-step e (yes l) =
+              let s = ap (λ (z : ℕ). (2 * j + 1) * 2 ^ z) e in
+              let t = ap (λ (z : ℕ). (2 * j + 1) * z) (pow-half E (omega arith)) in
+              not-at (2 ^ (E - 1)) (half-low l) j (omega (arith, x, s, t, lo)) (omega (arith, y, s, t, hi))
+          low-step e (no l) = omega (arith, width, lt-of-not-le l, pow-add 2 E n, at-low j q, ap (λ (z : ℕ). (2 * j + 1) * 2 ^ z) e)
+
+          high-step : suc E ≡ k → Dec (L * X < 2 ^ (E + n)) → ⊥
+          high-step e (yes l) = omega (arith, width, l, pow-add 2 E n, at-high j p, ap (λ (z : ℕ). (2 * j + 1) * 2 ^ z) e)
+          high-step e (no l) =
+              let s = ap (λ (z : ℕ). (2 * j + 1) * 2 ^ z) e in
+              let t = ap (λ (z : ℕ). (2 * j + 1) * z) (pow-succ' 2 E) in
+              not-at (2 ^ E) (half-high (omega (arith, lt-of-not-le l))) j (omega (arith, x, s, t, lo)) (omega (arith, y, s, t, hi))
+
+          above : (suc E ≡ k) ⊎ (suc E < k) → ⊥
+          above (inl e) = high-step e (decLt (L * X) (2 ^ (E + n)))
+          above (inr h) = omega (arith, width, too-high j k h p, high-end)
+
+          from : (E ≡ k) ⊎ (E < k) → ⊥
+          from (inl e) = low-step e (decLt (L * X) (2 ^ (E + n)))
+          from (inr h) = above (eq-or-lt-of-le h)
+
+          go : Dec (k < E) → ⊥
+          go (yes h) = omega (arith, too-low j k h q)
+          go (no h) = from (eq-or-lt-of-le (omega (arith, lt-of-not-le h)))
+
+      pub alike : rn rule n a 1 ≡ rn rule n b 1
+      alike = rn-constant rule n P a b 1 (omega arith) (omega (arith, one, mul-le-mul-left (2 ^ n) (pow-pos E))) ab none
+
+-- ---- ends with the same parts
+module _ (rule : Rule) (n E : ℕ) (P : 0 < n) (F : 2 * n ≤ E) (L U : ℕ) (le : End E L) (ue : End E U) (lu : L ≤ U) (same : partsAt rule n E L ≡ partsAt rule n E U) where
+  abbrev w : Whole
+  w = whole rule n E L
+
+  -- |Ch * x + u1 - C * x| < 2 ^ (1 - 2 * n) for every fraction C between the ends
+  module _ (X : ℕ) (xe : X < 2 ^ n) where
+    near-L : (fusedUnits rule n E w X < L * X + 2 ^ (E - n)) × (L * X < fusedUnits rule n E w X + 2 ^ (E - n))
+    near-L = fused-near rule n E P F L le X xe
+
+    near-U : (fusedUnits rule n E w X < U * X + 2 ^ (E - n)) × (U * X < fusedUnits rule n E w X + 2 ^ (E - n))
+    near-U =
+        subst (λ (p : Whole). (fusedUnits rule n E p X < U * X + 2 ^ (E - n)) × (U * X < fusedUnits rule n E p X + 2 ^ (E - n))) (sym (whole-same rule n E P F L U le ue same)) (fused-near rule n E P F U ue X xe)
+
+    pub near-between : (C : Fraction) → Between E L U C
+        → (fusedUnits rule n E w X * C .den < C .num * 2 ^ E * X + 2 ^ (E - n) * C .den) × (C .num * 2 ^ E * X < fusedUnits rule n E w X * C .den + 2 ^ (E - n) * C .den)
+    near-between C k = (
+      omega (arith, mul-lt-mul-of-pos-right (near-L .0) (k .some), mul-le-mul-right X (k .least)),
+      omega (arith, mul-lt-mul-of-pos-right (near-U .1) (k .some), mul-le-mul-right X (k .most)),
+    )
+
+  module _ (X : ℕ) (x1 : 2 ^ (n - 1) ≤ X) (xe : X < 2 ^ n) (clear : ¬ Suspect n E L U X) where
+    abbrev y : ℕ
+    y = fusedUnits rule n E w X
+
+    one : (a : ℕ) → 2 ^ E * X ≤ a → 2 ^ n * 2 ^ E ≤ 2 * a
+    one a h = omega (arith, mul-le-mul-left (2 ^ E) x1, ap (λ (z : ℕ). 2 ^ E * z) (pow-half n P))
+
+    far : U * X ≤ L * X + (U - L) * 2 ^ n
+    far = let e : U ≡ L + (U - L) = omega arith in omega (arith, ap (λ (z : ℕ). z * X) e, mul-le-mul-left (U - L) (le-of-lt xe))
+
+    abbrev pair : (a b : ℕ) → a ≤ b → 2 ^ E * X ≤ a → L * X < a + 2 ^ (E - n) → b < L * X + 2 ^ (E - n) + (U - L) * 2 ^ n → rn rule n a 1 ≡ rn rule n b 1
+    pair a b ab o = alike n E P F L X (le .to) xe rule U (spread rule n E P F L U le ue same) clear a b ab (one a o)
+
+    -- RN(L * x) is RN(U * x)
+    pub ends-alike : rn rule n (L * X) 1 ≡ rn rule n (U * X) 1
+    ends-alike = pair (L * X) (U * X) (mul-le-mul-right X lu) (mul-le-mul-right X (le .from)) (omega (arith, pow-pos (E - n))) (omega (arith, far, pow-pos (E - n)))
+
+    -- and the product
+    pub product-alike : rn rule n (L * X) 1 ≡ secondUnits rule n E w X
+    unfolding secondUnits
+    product-alike = go (decLe (L * X) y)
+      where
+        go : Dec (L * X ≤ y) → rn rule n (L * X) 1 ≡ rn rule n y 1
+        go (yes h) = pair (L * X) y h (mul-le-mul-right X (le .from)) (omega (arith, pow-pos (E - n))) (omega (arith, near-L X xe .0))
+        go (no h) = sym (pair y (L * X) (omega (arith, lt-of-not-le h)) (fused-least rule n E P F L le X xe) (near-L X xe .1) (omega (arith, pow-pos (E - n))))

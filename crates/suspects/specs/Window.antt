@@ -1,0 +1,98 @@
+-- A suspect is told by the remainder of L * X, so the test decides it; and whatever is not right is a suspect. Assumes nothing.
+use mathlib.Core.Path.{_≡_, refl, sym, ap, _∙_}
+use mathlib.Core.Logic.{_↔_}
+use mathlib.Core.Bool.{Bool, true, false, cond, _&&_}
+use Prim.Native.Nat.{ℕ, suc, _+_, _-_, _*_, _/_, _%_, _^_, _≤_, _<_}
+use native.Mathlib.Nat.{mul-le-mul-right, le-trans, le-of-eq, le-antisymm, lt-of-mul-lt-mul-right, div-add-mod', mod-lt}
+use native.Mathlib.Omega.{arith}
+use lib.Dec.{ltb}
+use lib.Pow.{pow-pos, pow-mono}
+use borrow.Author.Tests.{ltb-true, lt-ltb}
+use Rattle.marks.specs.declared.Mark.the-variants.{Right}
+use Rattle.rounding.specs.Grid.{Rule}
+use Rattle.rounding.specs.Digits.{pow-half}
+use Rattle.rounding.specs.Unit.{rn}
+use Rattle.factor.specs.Parts.{partsAt}
+use Rattle.factor.specs.Whole.{End, whole}
+use Rattle.factor.specs.PartsLaws.{top-is}
+use Rattle.factor.specs.Accepted.{spread}
+use Rattle.product.specs.Product.{product}
+use Rattle.product.specs.Units.{secondUnits}
+use Rattle.product.specs.Marks.{mark}
+use Rattle.product.specs.ProductLaws.{product-is}
+use Rattle.product.specs.MarkLaws.{mark-units, right-units}
+use Rattle.suspects.specs.Suspects.{windowW, widening, isLow, halfStep, midpoint, Suspect, inWindow, isSuspect}
+use Rattle.suspects.specs.Right.{ends-alike, product-alike}
+
+-- ---- an odd multiple of h strictly between N - W and N + W + D, by the remainder of N modulo 2 * h
+module _ (N h W D : ℕ) (H : 0 < h) (room : W + D ≤ h) where
+  abbrev r : ℕ
+  r = N % (2 * h)
+
+  multiple-of-window : h < r + W + D → r < h + W → (q : ℕ) × (N < (2 * q + 1) * h + W) × ((2 * q + 1) * h < N + W + D)
+  multiple-of-window x y = let e = div-add-mod' N (2 * h) in (N / (2 * h), omega arith, omega arith)
+
+  window-of-multiple : (q : ℕ) → N < (2 * q + 1) * h + W → (2 * q + 1) * h < N + W + D → (h < r + W + D) × (r < h + W)
+  window-of-multiple q x y =
+      let e = div-add-mod' N (2 * h) in
+      let l : N % (2 * h) < 2 * h = mod-lt N (omega arith) in
+      let p = N / (2 * h) in
+      let s : p ≡ q = le-antisymm (omega (arith, lt-of-mul-lt-mul-right h {m = p} {n = suc q} (omega arith))) (omega (arith, lt-of-mul-lt-mul-right h {m = q} {n = suc p} (omega arith))) in
+      let t = ap (λ (z : ℕ). z * h) s in
+      (omega arith, omega arith)
+
+in-window : (r h W D : ℕ) → inWindow r h W D ≡ true ↔ ((h < r + W + D) × (r < h + W))
+in-window r h W D = (λ e. of (ltb h (r + W + D)) (ltb r (h + W)) refl refl e, λ x. rw (lt-ltb h (r + W + D) (x .0), lt-ltb r (h + W) (x .1)))
+  where
+    of : (a b : Bool) → ltb h (r + W + D) ≡ a → ltb r (h + W) ≡ b → a && b ≡ true → (h < r + W + D) × (r < h + W)
+    of true true p q e = (ltb-true h (r + W + D) p, ltb-true r (h + W) q)
+    of true false p q e = absurd (mathlib.Core.Bool.true≢false (sym e))
+    of false b p q e = absurd (mathlib.Core.Bool.true≢false (sym e))
+
+-- ---- ends with the same parts, at two bits or more
+module _ (rule : Rule) (n E : ℕ) (P : 2 ≤ n) (F : 2 * n ≤ E) (L U : ℕ) (le : End E L) (ue : End E U) (lu : L ≤ U) (same : partsAt rule n E L ≡ partsAt rule n E U) (X : ℕ) where
+  abbrev W : ℕ
+  W = windowW n E
+
+  abbrev D : ℕ
+  D = widening n L U
+
+  abbrev h : ℕ
+  h = halfStep n E L X
+
+  half-ge : 2 ^ (E - 1) ≤ h
+  half-ge = go (isLow n E L X)
+    where
+      go : (b : Bool) → 2 ^ (E - 1) ≤ cond b (2 ^ (E - 1)) (2 ^ E)
+      go true = le-of-eq refl
+      go false = pow-mono {i = E - 1} {j = E} (omega arith)
+
+  -- the window lies between two multiples of 2 * h
+  pub window-room : W + D ≤ h
+  window-room = le-trans (omega (arith, spread rule n E (omega arith) F L U le ue same, top-is n E F, mul-le-mul-right W (pow-mono {i = 2} {j = n} P), pow-half E (omega arith))) half-ge
+
+  half-pos : 0 < h
+  half-pos = le-trans (pow-pos (E - 1)) half-ge
+
+  -- the test is the definition
+  pub suspect-iff : isSuspect n E L U X ≡ true ↔ Suspect n E L U X
+  unfolding isSuspect Suspect midpoint
+  suspect-iff = (
+    λ e. let w = in-window ((L * X) % (2 * h)) h W D .0 e in multiple-of-window (L * X) h W D half-pos window-room (w .0) (w .1),
+    λ s. in-window ((L * X) % (2 * h)) h W D .1 (window-of-multiple (L * X) h W D half-pos window-room (s .0) (s .1) (s .2)),
+  )
+
+  -- every significand that is not right is a suspect
+  pub not-right-suspect : 2 ^ (n - 1) ≤ X → X < 2 ^ n → ¬ (mark rule n E L U X (product rule n (partsAt rule n E L) X) ≡ Right) → Suspect n E L U X
+  not-right-suspect x1 xe m = go (isSuspect n E L U X) refl
+    where
+      v-is : product rule n (partsAt rule n E L) X .significand * 2 ^ (E + product rule n (partsAt rule n E L) X .binade) ≡ secondUnits rule n E (whole rule n E L) X
+      v-is = product-is rule n E (omega arith) F L le X xe x1 .value
+
+      go : (b : Bool) → isSuspect n E L U X ≡ b → Suspect n E L U X
+      go true e = suspect-iff .0 e
+      go false e =
+          let clear : ¬ Suspect n E L U X = λ s. mathlib.Core.Bool.true≢false (sym (suspect-iff .1 s) ∙ e) in
+          let p = product-alike rule n E (omega arith) F L U le ue lu same X x1 xe clear in
+          let q = ends-alike rule n E (omega arith) F L U le ue lu same X x1 xe clear in
+          absurd (m (mark-units rule n E (omega arith) L U X (product rule n (partsAt rule n E L) X) ∙ right-units (rn rule n (L * X) 1) (rn rule n (U * X) 1) _ (p ∙ sym v-is) (sym q ∙ p ∙ sym v-is)))
