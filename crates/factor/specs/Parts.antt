@@ -1,9 +1,9 @@
 -- The parts of a factor at one end (document 01, "A factor"), over the tie rule, the precision n and the scale E of the ends. Definitions only. Assumes nothing.
-use mathlib.Core.Bool.{Bool, true, false}
 use Prim.Native.Nat.{ℕ, _-_, _*_, _/_, _^_}
-use lib.IntN.{ℤ, pos, negℤ, natAbs}
+use lib.IntN.{natAbs}
 use Rattle.rounding.specs.Grid.{Rule}
 use Rattle.rounding.specs.Round.{rounded}
+use Rattle.rounding.specs.Signed.{signedOf}
 use Rattle.rounding.specs.Fraction.{Fraction, over, less, RN}
 use Rattle.factor.specs.declared.Parts.{Parts}
 
@@ -18,11 +18,6 @@ rest rule n E c = less (over c E) (highPart rule n E c)
 -- low part: Cl = RN(C - Ch)
 abbrev pub lowPart : Rule → (n E c : ℕ) → Fraction
 lowPart rule n E c = RN rule n (rest rule n E c)
-
--- a whole number with a sign
-abbrev pub signedOf : Bool → ℕ → ℤ
-signedOf true m = negℤ (pos m)
-signedOf false m = pos m
 
 -- a fraction that is a whole number over 2 ^ t
 abbrev pub counted : ℕ → Fraction → ℕ

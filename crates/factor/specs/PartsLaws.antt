@@ -21,9 +21,10 @@ use Rattle.rounding.specs.Round.{rounded, Equals}
 use Rattle.rounding.specs.RoundLaws.{HasBits, rounded-bits, rounded-whole}
 use Rattle.rounding.specs.Fraction.{over}
 use Rattle.rounding.specs.FractionLaws.{Counts, over-counts, RN-counts, less-counts}
+use Rattle.rounding.specs.Signed.{negative, signedOf}
 use Rattle.factor.specs.declared.Parts.{Parts}
-use Rattle.factor.specs.Parts.{highPart, rest, lowPart, signedOf, partsAt}
-use Rattle.factor.specs.Whole.{End, Whole, step, plusOrMinus, whole, worth, negative, wholeOf}
+use Rattle.factor.specs.Parts.{highPart, rest, lowPart, partsAt}
+use Rattle.factor.specs.Whole.{End, Whole, step, plusOrMinus, whole, worth, wholeOf}
 
 -- ---- the powers of two: W = 2 ^ (E - n) is half a step
 module _ (n E : ℕ) (F : 2 * n ≤ E) where

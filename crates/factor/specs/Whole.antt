@@ -1,11 +1,12 @@
 -- A factor's parts as whole numbers of the unit 2 ^ - E, in which proofs are made. Definitions only. Assumes nothing.
-use mathlib.Core.Bool.{Bool, true, false, cond}
+use mathlib.Core.Bool.{Bool, cond}
 use Prim.Native.Nat.{ℕ, suc, _+_, _-_, _*_, _/_, _^_, _≤_, _<_}
 use lib.Dec.{ltb}
-use lib.IntN.{ℤ, pos, negsuc, natAbs}
+use lib.IntN.{natAbs}
 use Rattle.rounding.specs.Apart.{apart}
 use Rattle.rounding.specs.Grid.{Rule, nearest}
 use Rattle.rounding.specs.Unit.{rn}
+use Rattle.rounding.specs.Signed.{negative}
 use Rattle.factor.specs.declared.Parts.{Parts}
 
 -- an end c of the scale E: c / 2 ^ E is from 1 to below 2
@@ -37,11 +38,6 @@ abbrev pub worth : (n E : ℕ) → Whole → ℕ
 worth n E p = plusOrMinus (p .minus) (p .high * step n E) (p .low)
 
 -- ---- from the parts that are kept
--- whether a whole number is below zero
-abbrev pub negative : ℤ → Bool
-negative (pos m) = false
-negative (negsuc m) = true
-
 -- the low part, s over 2 ^ places, is a whole number of the unit
 abbrev pub wholeOf : (E : ℕ) → Parts → Whole
 wholeOf E s = record { high = s .high; minus = negative (s .low); low = natAbs (s .low) * 2 ^ E / 2 ^ s .places }

@@ -5,7 +5,7 @@ use Rattle.rounding.specs.Grid.{Rule}
 use Rattle.rounding.specs.Round.{rounded}
 use Rattle.rounding.specs.Fraction.{Fraction, over, times, plus, RN}
 use Rattle.factor.specs.declared.Parts.{Parts}
-use Rattle.factor.specs.Whole.{negative}
+use Rattle.rounding.specs.Signed.{negative}
 use Rattle.product.specs.declared.Product.{Product}
 
 -- x is X / 2 ^ (n - 1)

@@ -20,7 +20,8 @@ use Rattle.rounding.specs.Fraction.{Fraction, times}
 use Rattle.rounding.specs.FractionLaws.{Counts, sumSign, sumSize, over-counts, counts-finer, RN-counts, times-counts, plus-counts}
 use Rattle.factor.specs.declared.Parts.{Parts}
 use Rattle.factor.specs.Parts.{partsAt}
-use Rattle.factor.specs.Whole.{End, Whole, step, plusOrMinus, whole, negative}
+use Rattle.factor.specs.Whole.{End, Whole, step, plusOrMinus, whole}
+use Rattle.rounding.specs.Signed.{negative}
 use Rattle.factor.specs.PartsLaws.{width-is, step-is, bottom-is, high-from, high-is, low-most, width-le, worth-near, whole-of-parts, low-kept}
 use Rattle.product.specs.declared.Product.{Product}
 use Rattle.product.specs.Product.{argument, high, low, first, fused, second, product}

@@ -148,3 +148,17 @@ location-same N d M e D P h =
 
 pub location-exact : (k d : ℕ) → 0 < d → location (k * d % d) d ≡ Exact
 location-exact k d D = rw (mul-mod-left k d)
+
+-- ---- a location by comparison with the half h of d
+pub located-exact : (r d : ℕ) → r ≡ 0 → location r d ≡ Exact
+located-exact r d z = rw (eq-eqb r 0 z)
+
+module _ (r h d : ℕ) (e : h * 2 ≡ d) where
+  pub located-below : ¬ (r ≡ 0) → r < h → location r d ≡ BelowHalf
+  located-below z l = rw (ne-eqb r 0 z, lt-ltb (r * 2) d (omega arith))
+
+  pub located-half : ¬ (r ≡ 0) → r ≡ h → location r d ≡ Half
+  located-half z l = rw (ne-eqb r 0 z, le-ltb (r * 2) d (omega arith), eq-eqb (r * 2) d (omega arith))
+
+  pub located-above : h < r → location r d ≡ AboveHalf
+  located-above l = rw (ne-eqb r 0 (λ z. omega arith), le-ltb (r * 2) d (omega arith), ne-eqb (r * 2) d (λ z. omega arith))

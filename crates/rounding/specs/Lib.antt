@@ -11,3 +11,5 @@ pub mod Standard
 pub mod Fraction
 pub mod FractionLaws
 pub mod Ieee
+pub mod Whole
+pub mod Signed

@@ -7,7 +7,7 @@ use native.Mathlib.Nat.{le-of-mul-le-mul-right, lt-of-mul-lt-mul-right, mul-pos,
 use native.Mathlib.Omega.{arith}
 use lib.Dec.{eqb}
 use lib.Pow.{pow-add, pow-pos}
-use lib.IntN.{ℤ, pos, negsuc, _+ℤ_}
+use lib.IntN.{ℤ, pos, negsuc, negℤ, _+ℤ_}
 use lib.Ieee.{size, minus, up, down}
 use lib.Ieee.Digits.{size-lt, minus-val}
 use lib.Ieee.Order.{drop}
@@ -53,6 +53,13 @@ minus-shift a b j = go (decLe (b + j) a) (decLe b a)
 
 pub minus-le : (a b : ℕ) → b ≤ a → minus a b ≡ pos (a - b)
 minus-le a b h = rw (le-leb b a h)
+
+pub minus-zero : (a : ℕ) → minus a 0 ≡ pos a
+minus-zero a = minus-le a 0 (omega arith) ∙ ap pos (omega arith)
+
+pub zero-minus : (a : ℕ) → minus 0 a ≡ negℤ (pos a)
+zero-minus zero = minus-zero 0
+zero-minus (suc a) = rw (lt-leb (suc a) 0 (omega arith)) (ap negsuc (omega arith))
 
 -- ---- one fraction in two units: N / d of the unit 2 ^ - t is M / e of the unit 2 ^ - s
 module _ (rule : Rule) (n : ℕ) (P : 0 < n) where

@@ -21,3 +21,10 @@ pub struct Rounded {
     pub exponent: i32,
     pub location: Location,
 }
+
+// The same with a sign: the significand keeps that of what was rounded.
+pub struct RoundedSigned {
+    pub significand: i64,
+    pub exponent: i32,
+    pub location: Location,
+}

@@ -1,0 +1,78 @@
+-- Small laws that the proofs of several functions cite. Assumes nothing.
+use mathlib.Core.Path.{_≡_, refl, sym, ap, _∙_}
+use mathlib.Core.Bool.{true, false, true≢false}
+use Prim.Native.Nat.{ℕ, zero, suc, _+_, _-_, _*_, _/_, _^_, _≤_, _<_, zero-le}
+use native.Mathlib.Nat.{not-suc-le-zero, lt-of-not-le, lt-of-lt-of-le, le-of-eq, mul-le-mul-right, div-lt-iff-lt-mul, mul-comm, le-trans, mul-le-mul-left, div-mul-le-self}
+use native.Mathlib.Omega.{arith}
+use lib.IntN.{ℤ, pos, negsuc, negℤ, natAbs, _+ℤ_, _-ℤ_, +ℤ-idl}
+use lib.Dec.{T}
+use lib.Signed.{nonNeg, ltZ}
+use lib.Ieee.{size}
+use lib.Ieee.Digits.{size-lt}
+use lib.Pow.{pow-mono, pow-add, pow-pos}
+use borrow.Author.Tests.{ltb-true, lt-ltb, le-ltb}
+use Rattle.rounding.specs.Signed.{negative}
+use mir.Syntax.{Width, w64}
+use mir.Val.{SFits, Fits, hbits}
+use Rattle.rounding.specs.Digits.{pow-half}
+
+-- a number that is not zero has a digit
+pub some-digit : (r k : ℕ) → ¬ (r ≡ 0) → r < 2 ^ k → 1 ≤ k
+some-digit r zero z l = absurd (omega (arith, z))
+some-digit r (suc k) z l = omega arith
+
+-- the half of 2 ^ k
+pub half-of : (k h : ℕ) → 1 ≤ k → h ≡ 2 ^ (k - 1) → h * 2 ≡ 2 ^ k
+half-of k h p e = ap (λ (z : ℕ). z * 2) e ∙ mul-comm (2 ^ (k - 1)) 2 ∙ sym (pow-half k p)
+
+-- a quotient by 2 ^ k leaves room for one more
+pub quotient-room : (x u k : ℕ) → u ≡ 2 ^ k → 1 ≤ k → x / u * 2 ≤ x
+quotient-room x u k e h = let t : 2 ≤ u = rw e (pow-mono {i = 1} {j = k} h) in le-trans (mul-le-mul-left (x / u) t) (div-mul-le-self x u)
+
+-- ---- signed numbers
+pub neg-is : (z : ℤ) → pos 0 -ℤ z ≡ negℤ z
+neg-is z = +ℤ-idl (negℤ z)
+
+-- a number has a negative that fits, unless it is the least
+pub neg-fits : (w : Width) (z : ℤ) → natAbs z < 2 ^ hbits w → SFits w (negℤ z)
+neg-fits w (pos zero) h = record { sfits = h }
+neg-fits w (pos (suc n)) h = record { sfits = omega arith }
+neg-fits w (negsuc n) h = record { sfits = h }
+
+-- ---- numbers of more than w digits
+pub longer : (h l w : ℕ) → ¬ (h ≡ 0) → w < size (h * 2 ^ w + l)
+longer h l w z = lt-of-not-le (λ (g : size (h * 2 ^ w + l) ≤ w). clash g)
+  where
+    clash : size (h * 2 ^ w + l) ≤ w → ⊥
+    clash g =
+        let one : 1 ≤ h = omega (arith, z) in
+        let a : 2 ^ size (h * 2 ^ w + l) ≤ 2 ^ w = pow-mono g in
+        omega (arith, size-lt (h * 2 ^ w + l), mul-le-mul-right (2 ^ w) one)
+
+-- what is left of b digits when all but n are dropped
+pub kept-digits : (x b n : ℕ) → b ≡ size x → n ≤ b → x / 2 ^ (b - n) < 2 ^ n
+kept-digits x b n e h =
+    let w : 2 ^ b ≡ 2 ^ n * 2 ^ (b - n) = ap (λ (z : ℕ). 2 ^ z) (omega arith) ∙ pow-add 2 n (b - n) in
+    div-lt-iff-lt-mul (pow-pos (b - n)) .1 (lt-of-lt-of-le (size-lt x) (le-of-eq (ap (λ (z : ℕ). 2 ^ z) (sym e) ∙ w)))
+
+-- a number below zero, one step up, and a number that is not
+pub below-zero : (z : ℤ) → ltZ z (pos 0) ≡ true → (m : ℕ) × (z ≡ negsuc m)
+below-zero (pos n) h = absurd (not-suc-le-zero (ltb-true n 0 h))
+below-zero (negsuc m) h = (m, refl)
+
+pub up-one : (m : ℕ) → negsuc m +ℤ pos 1 ≡ negℤ (pos m)
+up-one zero = refl
+up-one (suc m) = rw (lt-ltb 1 (suc (suc m)) (omega arith)) (ap negsuc (omega arith))
+
+pub not-below : (z : ℤ) → ltZ z (pos 0) ≡ false → T (nonNeg z)
+not-below (pos n) h = tt
+not-below (negsuc m) h = absurd (true≢false h)
+
+-- the test is `negative`
+pub negative-is : (z : ℤ) → ltZ z (pos 0) ≡ negative z
+negative-is (pos n) = le-ltb n 0 zero-le
+negative-is (negsuc m) = refl
+
+pub size-fits : (z : ℤ) → SFits w64 z → Fits w64 (natAbs z)
+size-fits (pos n) h = record { fits = omega (arith, h .sfits) }
+size-fits (negsuc m) h = record { fits = omega (arith, h .sfits) }

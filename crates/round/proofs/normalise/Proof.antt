@@ -1,0 +1,50 @@
+-- `round::normalise` meets its contract: whether the kept digits are the carry. Assumes nothing.
+use mathlib.Core.Path.{sym, _∙_}
+use Prim.Native.Nat.{suc, _+_, _^_, _<_}
+use native.Mathlib.Numerals.{add-one}
+use native.Mathlib.Omega.{arith}
+use mir.Syntax.{w32}
+use mir.Facts.{toZ-pos}
+use borrow.Author.Needs.{needs}
+use borrow.Author.Tests.{eq-eqb, ne-eqb}
+use Rattle.rounding.specs.Round.{normalised}
+use Rattle.rounding.specs.RoundLaws.{minus-zero}
+use Rattle.round.proofs.normalise.Statement.{statement}
+use Rattle.round.proofs.normalise.Tie as tie
+
+power-requires : tie.Need-power-requires
+power-requires c κs = search needs
+
+sub-power : tie.Need-sub-power
+sub-power c = search needs
+
+power-requires-2 : tie.Need-power-requires-2
+power-requires-2 c κs = search needs
+
+add-t9 : tie.Need-add-t9
+add-t9 c = search needs
+
+cast-t10 : tie.Need-cast-t10
+cast-t10 c = search needs
+
+returns : tie.Need-returns
+unfolding normalised
+returns c =
+    let s = c .before .before in
+    let a = s .before .args in
+    let room : a .dropped + 1 < 2 ^ 31 = omega arith in
+    rw (eq-eqb (a .kept) (2 ^ a .n) (c .before .if1 .taken ∙ s .power .ensures), c .power2 .ensures, toZ-pos w32 room, add-one, minus-zero (suc (a .dropped)))
+
+cast-t11 : tie.Need-cast-t11
+cast-t11 c = search needs
+
+returns-2 : tie.Need-returns-2
+unfolding normalised
+returns-2 c =
+    let s = c .before in
+    let a = s .before .args in
+    let room : a .dropped < 2 ^ 31 = omega arith in
+    rw (ne-eqb (a .kept) (2 ^ a .n) (λ e. c .if1 .left (e ∙ sym (s .power .ensures))), toZ-pos w32 room, minus-zero (a .dropped))
+
+pub normalise-spec : {M : Type 1} → statement M
+normalise-spec = tie.close (tie.spec power-requires sub-power power-requires-2 add-t9 cast-t10 returns cast-t11 returns-2)

@@ -1,0 +1,101 @@
+-- `round::round_wide` meets its contract: one word, or more than n digits, of which all but n are dropped. Assumes nothing.
+use mathlib.Core.Path.{_≡_, sym, ap, ap₂, _∙_}
+use Prim.Native.Nat.{ℕ, _+_, _-_, _/_, _%_, _^_, _≤_, _<_}
+use native.Mathlib.Nat.{mod-lt, lt-of-lt-of-le, le-of-eq, le-trans}
+use native.Mathlib.Omega.{arith}
+use lib.Ieee.{size}
+use lib.Pow.{pow-pos, pow-mono}
+use borrow.Author.Needs.{needs}
+use Rattle.rounding.specs.declared.Location.{Location}
+use Rattle.rounding.specs.Grid.{ruleOf, location, choose, nearest}
+use Rattle.rounding.specs.Round.{normalised, rounded}
+use Rattle.rounding.specs.Whole.{rounded-many}
+use Rattle.wide.specs.declared.Wide.{Wide}
+use Rattle.wide.specs.Value.{valueOf}
+use Rattle.round.proofs.Laws.{longer, kept-digits}
+use Rattle.round.proofs.round_wide.Statement.{statement}
+use Rattle.round.proofs.round_wide.Tie as tie
+
+round-word-requires : tie.Need-round-word-requires
+round-word-requires c κs = search needs
+
+returns : tie.Need-returns
+returns c =
+    let a = c .before .before .args in
+    let word : a .u .lo ≡ valueOf (a .u) = omega (arith, c .before .if1 .taken) in
+    c .round-word .ensures ∙ ap (λ (z : ℕ). rounded (ruleOf (a .rule)) (a .n) z 1) word
+
+digits-requires : tie.Need-digits-requires
+digits-requires c κs = search needs
+
+-- more than 64 digits
+long : (c : tie.After-digits) → 64 < c .digits .result
+long c = let u = c .before .before .args .u in lt-of-lt-of-le (longer (u .hi) (u .lo) 64 (c .before .if1 .left)) (le-of-eq (sym (c .digits .ensures .0)))
+
+sub-k : tie.Need-sub-k
+sub-k c = omega (arith, long c, c .before .before .pre .1)
+
+shifted-right-requires : tie.Need-shifted-right-requires
+shifted-right-requires c κs = search needs
+
+low-digits-requires : tie.Need-low-digits-requires
+low-digits-requires c κs = search needs
+
+locate-wide-requires : tie.Need-locate-wide-requires
+locate-wide-requires c κs =
+    let d = c .before .before in
+    let u = d .before .before .args .u in
+    let k = d .digits .result - d .before .before .args .n in
+    (shifted-right-requires d κs, rw (c .low-digits .ensures) (mod-lt (valueOf u) (pow-pos k)))
+
+-- the kept digits are one word, and below 2 ^ n
+one-word : (w : Wide) (b : ℕ) → valueOf w < b → b ≤ 2 ^ 63 → (w .lo ≡ valueOf w) × (w .lo + 1 < 2 ^ 64)
+one-word w b h l = (omega arith, omega arith)
+
+kept-word : (c : tie.After-shifted-right) → (c .shifted-right .result .lo ≡ valueOf (c .shifted-right .result)) × (c .shifted-right .result .lo + 1 < 2 ^ 64)
+kept-word c =
+    let d = c .before in
+    let a = d .before .before .args in
+    let small : valueOf (c .shifted-right .result) < 2 ^ a .n = rw (c .shifted-right .ensures) (kept-digits (valueOf (a .u)) (d .digits .result) (a .n) (d .digits .ensures .0) (sub-k d)) in
+    one-word (c .shifted-right .result) (2 ^ a .n) small (pow-mono {i = a .n} {j = 63} (omega (arith, d .before .before .pre .1)))
+
+choose-neighbour-requires : tie.Need-choose-neighbour-requires
+choose-neighbour-requires c κs = kept-word (c .before .before) .1
+
+normalise-requires : tie.Need-normalise-requires
+normalise-requires c κs = search needs
+
+returns-2 : tie.Need-returns-2
+unfolding nearest
+returns-2 c =
+    let located = c .before .before in
+    let shifted = located .before .before in
+    let d = shifted .before in
+    let a = d .before .before .args in
+    let rule = ruleOf (a .rule) in
+    let x = valueOf (a .u) in
+    let k = d .digits .result - a .n in
+    let l : located .locate-wide .result ≡ location (x % 2 ^ k) (2 ^ k) = located .locate-wide .ensures ∙ ap (λ (z : ℕ). location z (2 ^ k)) (located .before .low-digits .ensures) in
+    let q : shifted .shifted-right .result .lo ≡ x / 2 ^ k = kept-word shifted .0 ∙ shifted .shifted-right .ensures in
+    let t : c .before .choose-neighbour .result ≡ nearest rule x (2 ^ k) = c .before .choose-neighbour .ensures ∙ ap₂ (λ (z : ℕ) (m : Location). choose rule z m) q l in
+    c .normalise .ensures
+    ∙ ap₂ (λ (z : ℕ) (m : Location). normalised (a .n) z k 0 m) t l
+    ∙ rounded-many rule (a .n) (d .before .before .pre .0) x (d .digits .result) (d .digits .ensures .0) (omega (arith, longer-pos x (d .digits .result) (d .digits .ensures .0) (long d))) (omega (arith, long d, d .before .before .pre .1))
+  where
+    longer-pos : (x b : ℕ) → b ≡ size x → 64 < b → 0 < x
+    longer-pos x b e h = le-trans (pow-pos 64) (lib.Ieee.Digits.size-reaches x 64 (lt-of-lt-of-le h (le-of-eq e)))
+
+pub round-wide-spec : {M : Type 1} → statement M
+round-wide-spec =
+    tie.close
+    (tie.spec
+    round-word-requires
+    returns
+    digits-requires
+    sub-k
+    shifted-right-requires
+    low-digits-requires
+    locate-wide-requires
+    choose-neighbour-requires
+    normalise-requires
+    returns-2)

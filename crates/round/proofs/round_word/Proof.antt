@@ -1,0 +1,56 @@
+-- `round::round_word` meets its contract: zero, few digits or more than n. Assumes nothing.
+use mathlib.Core.Path.{_≡_, ap, _∙_}
+use Prim.Native.Nat.{ℕ, _-_, _<_}
+use native.Mathlib.Omega.{arith}
+use lib.Ieee.Digits.{size-lt}
+use borrow.Author.Needs.{needs}
+use Rattle.rounding.specs.Grid.{ruleOf}
+use Rattle.rounding.specs.Round.{normalised, rounded}
+use Rattle.rounding.specs.Whole.{rounded-few, rounded-many}
+use Rattle.round.specs.declared.Neighbour.{Neighbour}
+use Rattle.round.proofs.round_word.Statement.{statement}
+use Rattle.round.proofs.round_word.Tie as tie
+
+returns : tie.Need-returns
+unfolding rounded
+returns c = rw (c .if1 .taken)
+
+word-digits-requires : tie.Need-word-digits-requires
+word-digits-requires c κs = search needs
+
+widened-requires : tie.Need-widened-requires
+widened-requires c κs =
+    let digits = c .before .word-digits in
+    let a = c .before .before .before in
+    (a .pre .1, c .if2 .taken, rw (digits .ensures .0) (size-lt (a .args .x)))
+
+-- what is rounded is not zero
+some : (x : ℕ) → ¬ (x ≡ 0) → 0 < x
+some x h = omega (arith, h)
+
+returns-2 : tie.Need-returns-2
+returns-2 c =
+    let s = c .before .before in
+    let a = s .before .before in
+    c .widened .ensures ∙ rounded-few (ruleOf (a .args .rule)) (a .args .n) (a .pre .0) (a .args .x) (s .word-digits .result) (s .word-digits .ensures .0) (some (a .args .x) (s .before .if1 .left)) (c .before .if2 .taken)
+
+sub-k : tie.Need-sub-k
+sub-k c = search needs
+
+nearest-word-requires : tie.Need-nearest-word-requires
+nearest-word-requires c κs = search needs
+
+normalise-requires : tie.Need-normalise-requires
+normalise-requires c κs = search needs
+
+returns-3 : tie.Need-returns-3
+returns-3 c =
+    let s = c .before .before .before in
+    let a = s .before .before in
+    let k = s .word-digits .result - a .args .n in
+    c .normalise .ensures
+    ∙ ap (λ (m : Neighbour). normalised (a .args .n) (m .taken) k 0 (m .location)) (c .before .nearest-word .ensures)
+    ∙ rounded-many (ruleOf (a .args .rule)) (a .args .n) (a .pre .0) (a .args .x) (s .word-digits .result) (s .word-digits .ensures .0) (some (a .args .x) (s .before .if1 .left)) (c .before .before .if2 .left)
+
+pub round-word-spec : {M : Type 1} → statement M
+round-word-spec = tie.close (tie.spec returns word-digits-requires widened-requires returns-2 sub-k nearest-word-requires normalise-requires returns-3)

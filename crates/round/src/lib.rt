@@ -1,0 +1,200 @@
+// Rounding numbers of one word and of two words to n bits: where the number lies between its neighbours, which of them is taken, and the carry.
+// Each contract is an equation with RN (`rounded` of the crate `rounding`).
+use rounding::Location;
+use rounding::Rounded;
+use rounding::RoundedSigned;
+use rounding::TieRule;
+use wide::Wide;
+ghost use mathlib.Core.Path.{_≡_};
+ghost use Prim.Native.Nat.{ℕ, _+_, _-_, _*_, _/_, _%_, _<_, _≤_, _^_};
+ghost use Rattle.rounding.specs.Grid.{ruleOf, location, choose, nearest};
+ghost use Rattle.rounding.specs.Round.{normalised, rounded};
+ghost use lib.IntN.{natAbs};
+ghost use Rattle.rounding.specs.Signed.{signedOf, roundedSigned};
+ghost use Rattle.rounding.specs.Whole.{padded};
+ghost use Rattle.wide.specs.Value.{valueOf};
+
+// Where r / 2 ^ k lies between 0 and 1.
+pub fn locate(r: u64, k: u32) -> Location
+    requires { ⌜ (k < 64) × (r < 2 ^ k) ⌝ }
+    ensures { λ l. ⌜ l ≡ location r (2 ^ k) ⌝ }
+{
+    if r == 0 {
+        return Location::Exact;
+    }
+    let half = wide::power(k - 1);
+    if r < half {
+        return Location::BelowHalf;
+    }
+    if r == half {
+        return Location::Half;
+    }
+    Location::AboveHalf
+}
+
+// The same for a remainder of two words.
+pub fn locate_wide(r: Wide, k: u32) -> Location
+    requires { ⌜ (k < 128) × (valueOf r < 2 ^ k) ⌝ }
+    ensures { λ l. ⌜ l ≡ location (valueOf r) (2 ^ k) ⌝ }
+{
+    if wide::same(r, wide::from_word(0)) {
+        return Location::Exact;
+    }
+    let half = wide::wide_power(k - 1);
+    if wide::below(r, half) {
+        return Location::BelowHalf;
+    }
+    if wide::same(r, half) {
+        return Location::Half;
+    }
+    Location::AboveHalf
+}
+
+// Whether a fraction half way above q goes up.
+pub fn tie_up(q: u64, rule: TieRule) -> bool
+    ensures { λ r. ⌜ r ≡ ruleOf rule q ⌝ }
+{
+    match rule {
+        TieRule::ToEven => q % 2 == 1,
+        TieRule::AwayFromZero => true,
+    }
+}
+
+// The neighbour that is taken, q or q + 1: by the location, and at half by the rule.
+pub fn choose_neighbour(q: u64, l: Location, rule: TieRule) -> u64
+    requires { ⌜ q + 1 < 2 ^ 64 ⌝ }
+    ensures { λ r. ⌜ r ≡ choose (ruleOf rule) q l ⌝ }
+{
+    match l {
+        Location::Exact => q,
+        Location::BelowHalf => q,
+        Location::Half => {
+            let up = tie_up(q, rule);
+            if up { q + 1 } else { q }
+        }
+        Location::AboveHalf => q + 1,
+    }
+}
+
+// A whole number that a fraction was rounded to, and where the fraction lay.
+pub struct Neighbour {
+    pub taken: u64,
+    pub location: Location,
+}
+
+// x / 2 ^ k to the nearest whole number.
+pub fn nearest_word(x: u64, k: u32, rule: TieRule) -> Neighbour
+    requires { ⌜ (1 ≤ k) × (k < 64) ⌝ }
+    ensures { λ r. ⌜ r ≡ record { taken = nearest (ruleOf rule) x (2 ^ k); location = location (x % 2 ^ k) (2 ^ k) } ⌝ }
+{
+    let u = wide::power(k);
+    let l = locate(x % u, k);
+    Neighbour {
+        taken: choose_neighbour(x / u, l, rule),
+        location: l,
+    }
+}
+
+// The kept digits as a significand and an exponent: the carry 2 ^ n is the next binade's first.
+pub fn normalise(kept: u64, n: u32, dropped: u32, l: Location) -> Rounded
+    requires { ⌜ (1 ≤ n) × (n < 64) × (dropped < 128) ⌝ }
+    ensures { λ r. ⌜ r ≡ normalised n kept dropped 0 l ⌝ }
+{
+    if kept == wide::power(n) {
+        return Rounded {
+            significand: wide::power(n - 1),
+            exponent: (dropped + 1) as i32,
+            location: l,
+        };
+    }
+    Rounded {
+        significand: kept,
+        exponent: dropped as i32,
+        location: l,
+    }
+}
+
+// A word of b digits, at most n: all of them are kept, and zeros are put behind them.
+fn widened(x: u64, b: u32, n: u32) -> Rounded
+    requires { ⌜ (n < 64) × (b ≤ n) × (x < 2 ^ b) ⌝ }
+    ensures { λ r. ⌜ r ≡ padded n x b ⌝ }
+{
+    let shift = n - b;
+    Rounded {
+        significand: x << shift,
+        exponent: -(shift as i32),
+        location: Location::Exact,
+    }
+}
+
+// A word to n bits.
+pub fn round_word(x: u64, n: u32, rule: TieRule) -> Rounded
+    requires { ⌜ (1 ≤ n) × (n < 64) ⌝ }
+    ensures { λ r. ⌜ r ≡ rounded (ruleOf rule) n x 1 ⌝ }
+{
+    if x == 0 {
+        return Rounded {
+            significand: 0,
+            exponent: 0,
+            location: Location::Exact,
+        };
+    }
+    let b = wide::word_digits(x);
+    if b <= n {
+        return widened(x, b, n);
+    }
+    let k = b - n;
+    let near = nearest_word(x, k, rule);
+    let l = near.location;
+    normalise(near.taken, n, k, l)
+}
+
+// A number of two words to n bits.
+pub fn round_wide(u: Wide, n: u32, rule: TieRule) -> Rounded
+    requires { ⌜ (1 ≤ n) × (n < 64) ⌝ }
+    ensures { λ r. ⌜ r ≡ rounded (ruleOf rule) n (valueOf u) 1 ⌝ }
+{
+    let hi = u.hi;
+    if hi == 0 {
+        return round_word(u.lo, n, rule);
+    }
+    let k = wide::digits(u) - n;
+    let kept = wide::shifted_right(u, k);
+    let l = locate_wide(wide::low_digits(u, k), k);
+    normalise(choose_neighbour(kept.lo, l, rule), n, k, l)
+}
+
+// The size of a signed number, also of the least.
+pub fn magnitude(z: i64) -> u64
+    ensures { λ r. ⌜ r ≡ natAbs z ⌝ }
+{
+    if z < 0 {
+        return -(z + 1) as u64 + 1;
+    }
+    z as u64
+}
+
+// A size with a sign.
+pub fn with_sign(minus: bool, m: u64) -> i64
+    requires { ⌜ m < 2 ^ 63 ⌝ }
+    ensures { λ r. ⌜ r ≡ signedOf minus m ⌝ }
+{
+    if minus {
+        return -(m as i64);
+    }
+    m as i64
+}
+
+// A signed number to n bits: the size is rounded, and the sign stays.
+pub fn round_signed(z: i64, n: u32, rule: TieRule) -> RoundedSigned
+    requires { ⌜ (1 ≤ n) × (n < 64) ⌝ }
+    ensures { λ r. ⌜ r ≡ roundedSigned (ruleOf rule) n z ⌝ }
+{
+    let r = round_word(magnitude(z), n, rule);
+    let l = r.location;
+    RoundedSigned {
+        significand: with_sign(z < 0, r.significand),
+        exponent: r.exponent,
+        location: l,
+    }
+}
