@@ -1,4 +1,4 @@
--- The search by remainders: its definition, what it has to find, and the laws that tie the two together.
+-- The search by remainders: its definition, what it has to find, and the laws that tie the two and the code together.
 pub mod Search
 pub mod Finds
 pub mod Cases
@@ -8,4 +8,6 @@ pub mod Turns
 pub mod CaseLaws
 pub mod PlaceLaws
 pub mod SearchLaws
+pub mod Trace
+pub mod TraceLaws
 pub mod Examples
