@@ -51,7 +51,7 @@ fn mirror_back(t: Trace) -> Trace
 
 // The answer of the search that a round goes on with, read in the search itself.
 fn round_back(t: Trace, first: u64, turns: u64) -> Trace
-    requires { ⌜ Below (2 ^ 64) (roundBack first turns t .found) ⌝ }
+    requires { ⌜ Below (2 ^ 63) (roundBack first turns t .found) ⌝ }
     ensures { λ r. ⌜ r ≡ roundBack first turns t ⌝ }
 {
     let f = t.found;

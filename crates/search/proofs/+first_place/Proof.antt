@@ -83,7 +83,7 @@ unfolding ceilDiv
     let entry = c .before .before .before .before .before in
     let a = entry .args in
     c .at-once3 .ensures
-    ∙ wound-at (a .m) (a .step) (a .l) (a .r) (entry .pre .1 .0) (ceilDiv (a .l) (a .step)) (omega arith) (multiple (omega arith) (c .before .if4 .taken)))
+    ∙ wound-at (a .m) (a .step) (a .l) (a .r) (entry .pre .1 .0) (ceilDiv (a .l) (a .step)) (omega arith) (multiple (omega arith) (omega arith)))
     -- it does not: the remainder, the two differences, the call of first_place, the quotient, the call of round_back, and the answer
     (λ c. search needs)
     (λ c. search needs)
