@@ -1,13 +1,20 @@
--- Two numbers, each of a high and a low part to any base W, compared by their parts. Assumes nothing.
+-- Numbers of a high and a low part to any base W, compared by their parts. Assumes nothing.
 use mathlib.Core.Path.{_≡_, sym, ap, _∙_}
 use mathlib.Core.Bool.{false, cond}
 use Prim.Native.Nat.{ℕ, _+_, _*_, _/_, _<_}
-use native.Mathlib.Nat.{le-of-lt, lt-of-lt-of-le, le-add-right}
+use native.Mathlib.Nat.{le-of-lt, lt-of-lt-of-le, le-add-right, lt-of-mul-lt-mul-right}
 use native.Mathlib.Decide.{decLt, ℕ-discrete}
 use native.Mathlib.Omega.{arith}
 use borrow.Author.Tests.{lt-ltb, le-ltb, eq-eqb, ne-eqb}
 use lib.Arith.{digits-lt, digits-div}
 use lib.Dec.{ltb, eqb}
+
+-- A number below the base is its low part.
+pub below-base : (W h l : ℕ) → h * W + l < W → l ≡ h * W + l
+below-base W h l below =
+    let none : h < 1 = lt-of-mul-lt-mul-right W (omega arith) in
+    let zero : h ≡ 0 = omega arith in
+    omega (arith, ap (λ (x : ℕ). x * W) zero)
 
 -- The number with the smaller high part is the smaller one.
 below-by-high : (W uh ul vh vl : ℕ) → ul < W → uh < vh → uh * W + ul < vh * W + vl

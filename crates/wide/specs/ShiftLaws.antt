@@ -2,10 +2,11 @@
 -- Assumes nothing.
 use mathlib.Core.Path.{_≡_, sym, ap, ap₂, _∙_, subst}
 use Prim.Native.Nat.{ℕ, suc, _+_, _-_, _*_, _/_, _%_, _^_, _≤_, _<_}
-use native.Mathlib.Nat.{add-mul, add-zero, zero-add, zero-mul, mul-assoc, mul-comm, mul-right-comm, mul-div-mul-right, mul-add-div-right, mul-add-mod-self-right, mul-mod-left, mod-lt, div-add-mod', div-div-eq-div-mul, pow-succ', lt-of-le-of-lt, lt-of-lt-of-le, lt-of-mul-lt-mul-right, le-of-eq, le-add-right}
+use native.Mathlib.Nat.{add-mul, add-zero, mul-assoc, mul-comm, mul-right-comm, mul-div-mul-right, mul-add-div-right, mul-add-mod-self-right, mul-mod-left, mod-lt, div-add-mod', div-div-eq-div-mul, pow-succ', lt-of-le-of-lt, lt-of-lt-of-le, lt-of-mul-lt-mul-right, le-of-eq, le-add-right}
 use native.Mathlib.Omega.{arith}
 use lib.Arith.{digits-lt}
 use lib.Pow.{pow-add, pow-pos, pow-mono, shl-lt, shl-shr, shr-lt, shr-shr, mod-pow-add, high, low}
+use Rattle.wide.specs.OrderLaws.{below-base}
 
 -- 2 ^ w by two factors.
 pub power-split : (w k : ℕ) → k ≤ w → 2 ^ w ≡ 2 ^ (w - k) * 2 ^ k
@@ -64,17 +65,12 @@ module _ (w k h l : ℕ) where
       (lt-of-le-of-lt (le-add-right _ (l * 2 ^ k % 2 ^ w))
       (lt-of-le-of-lt (le-of-eq (left-within hk)) (lt-of-lt-of-le (shl-lt (w + w - k) k room) (le-of-eq (ap (λ (x : ℕ). 2 ^ x) e ∙ pow-add 2 w w)))))
 
-  high-zero : w ≤ k → h * 2 ^ w + l < 2 ^ (w + w - k) → h ≡ 0
-  high-zero hk room =
-      let small : w + w - k ≤ w = omega arith in
-      let less : h < 1 = lt-of-mul-lt-mul-right (2 ^ w) (lt-of-le-of-lt (le-add-right (h * 2 ^ w) l) (lt-of-lt-of-le room (omega (arith, pow-mono small)))) in
-      omega arith
-
   -- Times 2 ^ k past the low part: the high part is 0 where no digit is lost, and the low part becomes the high one.
   pub left-past : w ≤ k → h * 2 ^ w + l < 2 ^ (w + w - k) → l * 2 ^ (k - w) * 2 ^ w ≡ (h * 2 ^ w + l) * 2 ^ k
   left-past hk room =
+      let small : w + w - k ≤ w = omega arith in
       mul-assoc l (2 ^ (k - w)) (2 ^ w) ∙ ap (λ (x : ℕ). l * x) (sym (power-split k w hk))
-      ∙ ap (λ (x : ℕ). x * 2 ^ k) (sym (zero-add l) ∙ ap (λ (x : ℕ). x + l) (sym (zero-mul (2 ^ w))) ∙ ap (λ (x : ℕ). x * 2 ^ w + l) (sym (high-zero hk room)))
+      ∙ ap (λ (x : ℕ). x * 2 ^ k) (below-base (2 ^ w) h l (lt-of-lt-of-le room (pow-mono small)))
 
   -- The high part so made fits w digits too.
   pub left-past-lt : w ≤ k → k ≤ w + w → h * 2 ^ w + l < 2 ^ (w + w - k) → l * 2 ^ (k - w) < 2 ^ w

@@ -29,6 +29,14 @@ pub fn from_word(x: u64) -> Wide
     Wide { hi: 0, lo: x }
 }
 
+// A number that one word holds, as that word.
+pub fn to_word(u: Wide) -> u64
+    requires { ⌜ valueOf u < 2 ^ 64 ⌝ }
+    ensures { λ r. ⌜ r ≡ valueOf u ⌝ }
+{
+    u.lo
+}
+
 // The whole product of two words, by columns of digits of 32 bits: each column's carry goes to the next.
 pub fn product(a: u64, b: u64) -> Wide
     ensures { λ r. ⌜ valueOf r ≡ a * b ⌝ }
@@ -128,8 +136,8 @@ pub fn wide_power(k: u32) -> Wide
 
 // u times 2 ^ k, where no digit is lost. A shift by 64 - k is made of two, since k may be 0.
 pub fn shifted_left(u: Wide, k: u32) -> Wide
-    requires { ⌜ k < 128 ⌝ }
-    requires { ⌜ valueOf u < 2 ^ (128 - k) ⌝ }
+    requires short { ⌜ k < 128 ⌝ }
+    requires room { ⌜ valueOf u < 2 ^ (128 - k) ⌝ }
     ensures { λ r. ⌜ valueOf r ≡ valueOf u * 2 ^ k ⌝ }
 {
     if k < 64 {
@@ -180,16 +188,16 @@ pub fn low_digits(u: Wide, k: u32) -> Wide
 
 // How many binary digits a word has, 0 for 0. Its leading zeros give the place of its highest bit (document 01).
 pub fn word_digits(x: u64) -> u32
-    ensures { λ r. ⌜ r ≡ size x ⌝ }
-    ensures { λ r. ⌜ r ≤ 64 ⌝ }
+    ensures count { λ r. ⌜ r ≡ size x ⌝ }
+    ensures most { λ r. ⌜ r ≤ 64 ⌝ }
 {
     64 - u64::leading_zeros(x)
 }
 
 // How many binary digits u has, 0 for 0: by these a two-word product is normalised before it is rounded.
 pub fn digits(u: Wide) -> u32
-    ensures { λ r. ⌜ r ≡ size (valueOf u) ⌝ }
-    ensures { λ r. ⌜ r ≤ 128 ⌝ }
+    ensures count { λ r. ⌜ r ≡ size (valueOf u) ⌝ }
+    ensures most { λ r. ⌜ r ≤ 128 ⌝ }
 {
     if u.hi == 0 {
         return word_digits(u.lo);
@@ -199,10 +207,10 @@ pub fn digits(u: Wide) -> u32
 
 // One step of long division, high * 2 ^ 32 + low by d, for a divisor with its highest bit set:
 // the quotient is estimated by the divisor's upper digit and is at most 2 less.
-fn digit(high: u64, low: u64, d: u64) -> Divided
+fn quotient_digit(high: u64, low: u64, d: u64) -> Divided
     requires { ⌜ (2 ^ 63 ≤ d) × (high < d) × (low < 2 ^ 32) ⌝ }
-    ensures { λ r. ⌜ r .quotient ≡ (high * 2 ^ 32 + low) / d ⌝ }
-    ensures { λ r. ⌜ r .remainder ≡ (high * 2 ^ 32 + low) % d ⌝ }
+    ensures quotient { λ r. ⌜ r .quotient ≡ (high * 2 ^ 32 + low) / d ⌝ }
+    ensures remainder { λ r. ⌜ r .remainder ≡ (high * 2 ^ 32 + low) % d ⌝ }
 {
     let d0 = d % BASE;
     let d1 = d / BASE;
@@ -229,13 +237,13 @@ fn digit(high: u64, low: u64, d: u64) -> Divided
 }
 
 // u by d in two steps of long division, for a divisor with its highest bit set.
-fn divide_by_steps(u: Wide, d: u64) -> Divided
+fn divide_normal(u: Wide, d: u64) -> Divided
     requires { ⌜ (2 ^ 63 ≤ d) × (u .hi < d) ⌝ }
-    ensures { λ r. ⌜ r .quotient ≡ valueOf u / d ⌝ }
-    ensures { λ r. ⌜ r .remainder ≡ valueOf u % d ⌝ }
+    ensures quotient { λ r. ⌜ r .quotient ≡ valueOf u / d ⌝ }
+    ensures remainder { λ r. ⌜ r .remainder ≡ valueOf u % d ⌝ }
 {
-    let first = digit(u.hi, u.lo / BASE, d);
-    let second = digit(first.remainder, u.lo % BASE, d);
+    let first = quotient_digit(u.hi, u.lo / BASE, d);
+    let second = quotient_digit(first.remainder, u.lo % BASE, d);
     Divided {
         quotient: first.quotient * BASE + second.quotient,
         remainder: second.remainder,
@@ -245,11 +253,11 @@ fn divide_by_steps(u: Wide, d: u64) -> Divided
 // u by d, where the quotient is one word: both are shifted until the divisor's highest bit is set.
 pub fn divide(u: Wide, d: u64) -> Divided
     requires { ⌜ u .hi < d ⌝ }
-    ensures { λ r. ⌜ r .quotient ≡ valueOf u / d ⌝ }
-    ensures { λ r. ⌜ r .remainder ≡ valueOf u % d ⌝ }
+    ensures quotient { λ r. ⌜ r .quotient ≡ valueOf u / d ⌝ }
+    ensures remainder { λ r. ⌜ r .remainder ≡ valueOf u % d ⌝ }
 {
     let k = u64::leading_zeros(d);
-    let divided = divide_by_steps(shifted_left(u, k), d << k);
+    let divided = divide_normal(shifted_left(u, k), d << k);
     Divided {
         quotient: divided.quotient,
         remainder: divided.remainder >> k,

@@ -39,7 +39,7 @@ returns : tie.Need-returns
 returns c =
     let start = c .before .before .before in
     let raised = c .before .before .shifted-left in
-    let divided = c .before .divide-by-steps in
+    let divided = c .before .divide-normal in
     let scaled = divided-scaled (valueOf (start .args .u)) (d start) (2 ^ k start) (pos start) (pow-pos (k start)) in (
       rw (raised .ensures, divisor-is start) at (divided .ensures .0) ∙ sym (scaled .0),
       ap (λ (x : ℕ). x / 2 ^ k start) (rw (raised .ensures, divisor-is start) at (divided .ensures .1) ∙ sym (scaled .1)) ∙ shl-shr (valueOf (start .args .u) % d start) (k start),
@@ -49,14 +49,14 @@ shifted-left-requires : tie.Need-shifted-left-requires
 shifted-left-requires c κs =
     (lt-trans (normal c .shift-lt) (lit< tt), raised-room 64 (c .args .u .hi) (c .args .u .lo) (d c) (k c) (c .pre) (low c) (normal c))
 
-cast-divide-by-steps : tie.Need-cast-divide-by-steps
-cast-divide-by-steps c = fits-bits 6 tt (normal (c .before) .shift-lt)
+cast-divide-normal : tie.Need-cast-divide-normal
+cast-divide-normal c = fits-bits 6 tt (normal (c .before) .shift-lt)
 
-shl-divide-by-steps : tie.Need-shl-divide-by-steps
-shl-divide-by-steps c = normal (c .before) .shift-lt
+shl-divide-normal : tie.Need-shl-divide-normal
+shl-divide-normal c = normal (c .before) .shift-lt
 
-divide-by-steps-requires : tie.Need-divide-by-steps-requires
-divide-by-steps-requires c κs =
+divide-normal-requires : tie.Need-divide-normal-requires
+divide-normal-requires c κs =
     let start = c .before in
     let u = start .args .u in
     let raised = c .shifted-left .result in
@@ -75,9 +75,9 @@ divide-spec =
     tie.close
     (tie.spec
     shifted-left-requires
-    cast-divide-by-steps
-    shl-divide-by-steps
-    divide-by-steps-requires
+    cast-divide-normal
+    shl-divide-normal
+    divide-normal-requires
     cast-t6
     shr-t7
     returns)

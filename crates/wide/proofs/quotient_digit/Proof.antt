@@ -1,4 +1,4 @@
--- `wide::digit` meets its contract: the laws of an estimated digit at the base 2 ^ 32. Assumes nothing.
+-- `wide::quotient_digit` meets its contract: the laws of an estimated digit at the base 2 ^ 32. Assumes nothing.
 use Prim.Native.Nat.{ℕ, _+_, _*_, _/_, _%_, _^_, _≤_, _<_}
 use native.Mathlib.Nat.{lt-trans, lt-of-le-of-lt, le-add-right}
 use native.Mathlib.Omega.{arith}
@@ -6,8 +6,8 @@ use borrow.Author.Needs.{needs}
 use Rattle.wide.specs.Division.{Estimate}
 use Rattle.wide.specs.DivisionLaws.{estimated, taken-fits, estimate-right, at-least-one, one-too-large, at-least-two, twice-enough, two-too-large}
 use Rattle.wide.proofs.Base.{B}
-use Rattle.wide.proofs.digit.Statement.{statement}
-use Rattle.wide.proofs.digit.Tie as tie
+use Rattle.wide.proofs.quotient_digit.Statement.{statement}
+use Rattle.wide.proofs.quotient_digit.Tie as tie
 
 -- a divisor with its highest digit set has an upper part of at least half the base
 half : (d : ℕ) → 2 ^ 63 ≤ d → B ≤ 2 * (d / B)
@@ -62,8 +62,8 @@ sub-t11 c = search needs
 sub-t16 : tie.Need-sub-t16
 sub-t16 c = twice-enough (known (c .before .before))
 
-pub digit-spec : {M : Type 1} → statement M
-digit-spec =
+pub quotient-digit-spec : {M : Type 1} → statement M
+quotient-digit-spec =
     tie.close
     (tie.spec
     div-estimate
