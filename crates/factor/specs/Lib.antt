@@ -1,4 +1,7 @@
+pub mod Precision
 pub mod Parts
 pub mod Whole
 pub mod PartsLaws
 pub mod Accepted
+pub mod SetUp
+pub mod SetUpLaws

@@ -1,6 +1,6 @@
-// A factor known only between two ends: its precision, its high and low part, and every refusal of one.
+// A factor known only between two ends (document 01, "A factor"): its precision, its high and low part, and every refusal of one.
 
-// A precision: how many bits a significand has.
+// A precision n: how many bits a significand has. What belongs to a precision is named here, once.
 pub struct Precision {
     pub bits: u32,
 }
@@ -19,7 +19,7 @@ pub struct Applied {
     pub scale: i32,
 }
 
-// A factor that was set up.
+// A factor: precision, both ends, the parts, and what a handheld applies.
 pub struct Factor {
     pub precision: Precision,
     pub lower: u64,
@@ -32,4 +32,19 @@ pub struct Factor {
 pub enum SetUp {
     Accepted(Factor),
     Refused(u32),
+}
+
+impl Precision {
+    // The limits of a precision.
+    pub const LEAST: u32 = 4;
+
+    pub const MOST: u32 = 24;
+    // The ends are whole numbers over 2 ^ 62.
+    pub const SCALE: u32 = 62;
+    // Digits dropped of a product below 2, and of one from 2 on, both counted in the unit 2 ^ - (61 + n).
+    pub const LOW_DROPPED: u32 = 62;
+
+    pub const HIGH_DROPPED: u32 = 63;
+    // A search takes at most so many rounds.
+    pub const ROUNDS: u64 = 64;
 }

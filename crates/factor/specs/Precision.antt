@@ -1,0 +1,27 @@
+-- What belongs to a precision n (document 01: "Limits and exponents that belong to a precision are named once, with the precision"). Definitions only. Assumes nothing.
+use mathlib.Core.Bool.{Bool, _||_}
+use Prim.Native.Nat.{ℕ, _-_, _^_}
+use lib.Dec.{ltb, leb}
+
+-- the scale E of the ends: an end c stands for c / 2 ^ E
+abbrev pub scaleOf : ℕ → ℕ
+scaleOf n = 62
+
+-- a search takes at most so many rounds
+abbrev pub roundsOf : ℕ → ℕ
+roundsOf n = 64
+
+-- least and largest significand
+abbrev pub leastOf : ℕ → ℕ
+leastOf n = 2 ^ (n - 1)
+
+abbrev pub mostOf : ℕ → ℕ
+mostOf n = 2 ^ n - 1
+
+-- refusal 11: precision not 4 to 24
+abbrev pub precisionOut : ℕ → Bool
+precisionOut n = ltb n 4 || ltb 24 n
+
+-- refusal 17: a significand outside 2 ^ (n - 1) to 2 ^ n - 1
+abbrev pub significandOut : (n X : ℕ) → Bool
+significandOut n X = ltb X (2 ^ (n - 1)) || leb (2 ^ n) X

@@ -1,0 +1,109 @@
+-- Set-up of a factor, with the refusals 11 to 16 in document 01's order, and the check behind 31. Definitions only. Assumes nothing.
+use mathlib.Core.Path.{_≡_}
+use mathlib.Core.Bool.{Bool, false, not, _&&_, _||_, cond}
+use Prim.Native.Nat.{ℕ, suc, _^_, _≤_}
+use lib.Dec.{eqb, ltb, leb}
+use lib.IntN.{ℤ, pos, negsuc}
+use lib.Signed.{ltZ}
+use lib.Ieee
+use lib.Ieee.{Float, binary32, toBits}
+use Rattle.rounding.specs.Grid.{toEven}
+use Rattle.rounding.specs.Fraction.{Fraction}
+use Rattle.factor.specs.declared.Parts.{Parts}
+use Rattle.factor.specs.declared.Applied.{Applied}
+use Rattle.factor.specs.declared.Factor.{Factor}
+use Rattle.factor.specs.declared.SetUp.{SetUp}
+use Rattle.factor.specs.declared.SetUp.the-variants.{Accepted, Refused}
+use Rattle.factor.specs.Precision.{scaleOf, precisionOut}
+use Rattle.factor.specs.Parts.{highPart, lowPart, partsAt}
+use Rattle.factor.specs.Whole.{End}
+
+-- ---- the conditions
+-- 12: an end not 2 ^ E to 2 ^ (E + 1) - 1
+abbrev pub endOut : (E c : ℕ) → Bool
+endOut E c = ltb c (2 ^ E) || leb (2 ^ suc E) c
+
+-- 14: scale not -100 to 100
+abbrev pub scaleOut : ℤ → Bool
+scaleOut k = ltZ k (negsuc 99) || ltZ (pos 100) k
+
+-- 15: Ch not the same at both ends
+abbrev pub sameHigh : Parts → Parts → Bool
+sameHigh p q = eqb (p .high) (q .high)
+
+-- 16: Cl not the same at both ends
+abbrev pub sameZ : ℤ → ℤ → Bool
+sameZ (pos a) (pos b) = eqb a b
+sameZ (pos a) (negsuc b) = false
+sameZ (negsuc a) (pos b) = false
+sameZ (negsuc a) (negsuc b) = eqb a b
+
+abbrev pub sameLow : Parts → Parts → Bool
+sameLow p q = sameZ (p .low) (q .low) && eqb (p .places) (q .places)
+
+-- ---- the factor that is set up
+-- the binary32 number of a fraction's value (which is exact for the parts: `stored-high` and `stored-low`)
+abbrev pub float32 : Fraction → Float
+float32 x = Ieee.round binary32 (x .minus) (x .num) (x .den)
+
+-- the parts at the lower end, which are those of the upper end too
+unfoldable pub partsOf : (n L : ℕ) → Parts
+unfolding partsAt
+partsOf n L = partsAt toEven n (scaleOf n) L
+
+unfoldable pub appliedOf : (n : ℕ) → ℤ → (L : ℕ) → Applied
+unfolding Ieee.round
+appliedOf n k L = record { high = float32 (highPart toEven n (scaleOf n) L); low = float32 (lowPart toEven n (scaleOf n) L); scale = k }
+
+abbrev pub factorOf : (n : ℕ) → ℤ → (L U : ℕ) → Factor
+factorOf n k L U = record { precision = record { bits = n }; lower = L; upper = U; parts = partsOf n L; applied = appliedOf n k L }
+
+-- set-up: the first refusal whose condition holds, in the order of their numbers, else the factor
+unfoldable pub setUp : (n : ℕ) → ℤ → (L U : ℕ) → SetUp
+unfolding partsOf appliedOf
+setUp n k L U =
+    cond (precisionOut n) (Refused 11)
+    (cond (endOut (scaleOf n) L || endOut (scaleOf n) U) (Refused 12)
+    (cond (ltb U L) (Refused 13)
+    (cond (scaleOut k) (Refused 14)
+    (cond (not (sameHigh (partsOf n L) (partsOf n U))) (Refused 15)
+    (cond (not (sameLow (partsOf n L) (partsOf n U))) (Refused 16)
+    (Accepted (factorOf n k L U)))))))
+
+-- ---- the check behind 31
+-- floats are compared bit for bit
+abbrev pub sameFloat : Float → Float → Bool
+sameFloat x y = eqb (toBits binary32 x) (toBits binary32 y)
+
+abbrev pub sameFactor : Factor → Factor → Bool
+sameFactor f g =
+    eqb (f .precision .bits) (g .precision .bits)
+    && (eqb (f .lower) (g .lower)
+    && (eqb (f .upper) (g .upper)
+    && (sameHigh (f .parts) (g .parts)
+    && (sameLow (f .parts) (g .parts)
+    && (sameFloat (f .applied .high) (g .applied .high)
+    && (sameFloat (f .applied .low) (g .applied .low) && sameZ (f .applied .scale) (g .applied .scale)))))))
+
+-- f is what a set-up gave
+abbrev pub given : Factor → SetUp → Bool
+given f (Accepted g) = sameFactor f g
+given f (Refused k) = false
+
+-- 31 stands if this is false: the factor's stored parts are those that its ends, precision and scale set up, and those are not refused
+unfoldable pub intact : Factor → Bool
+unfolding setUp
+intact f = given f (setUp (f .precision .bits) (f .applied .scale) (f .lower) (f .upper))
+
+-- ---- what is known of a factor that was accepted
+pub record Sound (f : Factor) : Type 0 where
+  pub fewest : 4 ≤ f .precision .bits
+  pub most : f .precision .bits ≤ 24
+  pub lower-end : End 62 (f .lower)
+  pub upper-end : End 62 (f .upper)
+  pub ordered : f .lower ≤ f .upper
+  pub scale : scaleOut (f .applied .scale) ≡ false
+  pub same : partsAt toEven (f .precision .bits) 62 (f .lower) ≡ partsAt toEven (f .precision .bits) 62 (f .upper)
+  pub parts : f .parts ≡ partsOf (f .precision .bits) (f .lower)
+  pub high-stored : toBits binary32 (f .applied .high) ≡ toBits binary32 (appliedOf (f .precision .bits) (f .applied .scale) (f .lower) .high)
+  pub low-stored : toBits binary32 (f .applied .low) ≡ toBits binary32 (appliedOf (f .precision .bits) (f .applied .scale) (f .lower) .low)
