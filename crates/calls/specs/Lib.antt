@@ -1,0 +1,15 @@
+pub mod Engine
+pub mod Call
+pub mod Plain
+pub mod ByRow
+pub mod Whole
+pub mod Rows
+pub mod Runs
+pub mod One
+pub mod Same
+pub mod Sums
+pub mod Finish
+pub mod Words
+pub mod Demand
+pub mod Toy
+pub mod Loop
