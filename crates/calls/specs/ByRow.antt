@@ -1,23 +1,20 @@
 -- Definitions: a sweep call read off the row of suspects from the next significand on. It says where each search starts, so that a call's rounds are given a second time.
-use mathlib.Core.Bool.{Bool, true, false, cond, _&&_}
+use mathlib.Core.Bool.{Bool, true, _&&_}
 use mathlib.Core.List.{List, [], _∷_, _++_}
 use Prim.Native.Nat.{ℕ, zero, suc, _+_, _-_}
 use lib.Dec.{leb, ltb}
 use lib.ListN.{length, take, drop}
 use Rattle.search.specs.declared.Place.{Place}
 use Rattle.search.specs.declared.Place.the-variants.{At, Nowhere}
-use Rattle.calls.specs.Engine.{Half, low, high, Engine}
-use Rattle.calls.specs.Call.{State, Call, Reply, Run, judged, conditions, replied}
+use Rattle.calls.specs.Engine.{halfOf, Engine}
+use Rattle.calls.specs.State.{State, Call, judged}
+use Rattle.calls.specs.Call.{Reply, Run, conditions, replied}
 use Rattle.calls.specs.Plain.{keep, row, tries, wordsOf}
 
 -- The first of a row, or none.
 abbrev pub headOf : List ℕ → Place
 headOf [] = Nowhere
 headOf (x ∷ l) = At x
-
--- The half of a significand.
-abbrev pub halfOf : (firstHigh a : ℕ) → Half
-halfOf firstHigh a = cond (ltb a firstHigh) low high
 
 -- Whether the first suspect from a on, or its absence, lies past the low half.
 abbrev pub pastLow : ℕ → Place → Bool

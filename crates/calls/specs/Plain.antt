@@ -6,10 +6,11 @@ use lib.Dec.{eqb, leb}
 use lib.ListN.{length, take, drop}
 use Rattle.marks.specs.declared.Mark.{Mark}
 use Rattle.marks.specs.declared.Mark.the-variants.{Right, Open, Wrong}
-use Rattle.calls.specs.Call.{Refusal, number, none, judged, Outcome, refused, accepted, State, Call, listed}
+use Rattle.calls.specs.State.{Refusal, number, none, judged, Outcome, refused, accepted, State, Call, listed}
 
 -- ---- the row
 
+-- The n significands from a on, ascending.
 unfoldable pub spanOf : ℕ → ℕ → List ℕ
 spanOf a zero = []
 spanOf a (suc n) = a ∷ spanOf (suc a) n
@@ -19,6 +20,7 @@ unfoldable pub span : ℕ → ℕ → List ℕ
 unfolding spanOf
 span a b = spanOf a (b - a)
 
+-- x before a list, if a test holds.
 abbrev pub keep : Bool → ℕ → List ℕ → List ℕ
 keep true x l = x ∷ l
 keep false x l = l
@@ -112,7 +114,7 @@ plainReplied w p free none k =
 abbrev pub plainRefusal : Bool → (cap size free : ℕ) → Refusal
 plainRefusal finished cap size free = judged ((33, finished) ∷ (18, eqb cap 0) ∷ (19, leb size free) ∷ [])
 
--- A call of the plain sweep, "fed its cap, list length and first free place"; "f being the list's length less the first free place".
+-- A call of the plain sweep, fed its "cap, list length and first free place"; it has "f free places, f being the list's length less the first free place".
 unfoldable pub plainCall : {F : Type 0} → Fed F → Plain → (cap size free : ℕ) → PlainReply
 plainCall w p cap size free = plainReplied w p free (plainRefusal (p .finished) cap size free) (tries (w .mark) cap (size - free) (untried w p))
 

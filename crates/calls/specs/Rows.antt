@@ -1,5 +1,5 @@
 -- Laws of the row of suspects: where it begins, how it is split, and that it ascends. Assumes nothing.
-use mathlib.Core.Path.{_≡_, refl, sym, ap, _∙_}
+use mathlib.Core.Path.{_≡_, refl, sym, _∙_}
 use mathlib.Core.Bool.{Bool, true, false}
 use mathlib.Core.List.{List, [], _∷_, _++_}
 use Prim.Native.Nat.{ℕ, zero, suc, _+_, _-_, _≤_, _<_}
@@ -7,7 +7,7 @@ use native.Mathlib.Omega.{arith}
 use native.Mathlib.Decide.{decLt}
 use lib.ListN.{length, drop}
 use lib.Seq.{drop-nil}
-use Rattle.calls.specs.Plain.{spanOf, span, keep, pick, row}
+use Rattle.calls.specs.Plain.{span, keep, row}
 use Rattle.calls.specs.Whole.{Ascends}
 
 -- A span that is empty.

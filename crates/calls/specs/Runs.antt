@@ -1,24 +1,24 @@
 -- Laws: what a call does by searches is what the row of suspects says, and its rounds are few. Assumes nothing.
-use mathlib.Core.Path.{_≡_, refl, sym, ap, _∙_}
-use mathlib.Core.Bool.{Bool, true, false, _&&_}
+use mathlib.Core.Path.{_≡_, refl, sym}
+use mathlib.Core.Bool.{Bool, true, false, false≢true, _&&_}
 use mathlib.Core.List.{List, [], _∷_, _++_}
-use Prim.Native.Nat.{ℕ, zero, suc, _+_, _-_, _*_, _≤_, _<_, min, max}
+use Prim.Native.Nat.{ℕ, zero, suc, _+_, _-_, _*_, _≤_, _<_, min}
 use native.Mathlib.Omega.{arith}
 use native.Mathlib.Nat.{add-zero, zero-add, mul-add, mul-suc, mul-le-mul-left}
 use native.Mathlib.Decide.{decLe, decLt}
 use borrow.Author.Tests.{lt-ltb, le-ltb, le-leb, lt-leb, ltb-true, leb-true}
 use lib.Dec.{leb, ltb}
 use lib.ListN.{length, length-append}
-use Rattle.marks.specs.declared.Mark.{Mark}
-use Rattle.marks.specs.declared.Mark.the-variants.{Right, Open, Wrong}
 use Rattle.search.specs.declared.Place.{Place}
 use Rattle.search.specs.declared.Place.the-variants.{At, Nowhere}
 use Rattle.search.specs.declared.Found.{Found}
-use Rattle.calls.specs.Engine.{Half, low, high, Engine, Least, Laws}
-use Rattle.calls.specs.Call.{within, sought, orElse, ahead, listed, Run, stopped, tried, searched, run}
+use Rattle.calls.specs.Engine.{Half, low, high, lowEnd, Engine, Least, Laws}
+use Rattle.calls.specs.State.{listed}
+use Rattle.calls.specs.Call.{within, sought, orElse, highStart, ahead, Run, stopped, tried, searched, run}
 use Rattle.calls.specs.Plain.{keep, row, notRight, tries, wordsOf}
-use Rattle.calls.specs.ByRow.{headOf, halfOf, pastLow, entered, legs, starts, roundsFrom, rowRun}
+use Rattle.calls.specs.ByRow.{headOf, pastLow, entered, legs, starts, roundsFrom, rowRun}
 use Rattle.calls.specs.Whole.{Ascends}
+use Rattle.calls.specs.Tries.{listed-length, no-cap, no-place}
 use Rattle.calls.specs.Rows.{row-empty, row-at, row-none, row-skip, row-split, row-ascends, begins}
 
 -- ---- the legs from a to the first suspect from a on; h is the first high significand
@@ -36,8 +36,8 @@ entered-means h last a p = go (ltb a h) refl (leb h last) refl
   where
     go : (t : Bool) → ltb a h ≡ t → (u : Bool) → leb h last ≡ u → t && u && pastLow h p ≡ true → (a < h) × (h ≤ last)
     go true i true j q = (ltb-true a h i, leb-true h last j)
-    go true i false j q = let z : _≡_ {A = ℕ} 0 1 = cc in absurd (omega arith)
-    go false i u j q = let z : _≡_ {A = ℕ} 0 1 = cc in absurd (omega arith)
+    go true i false j q = absurd (false≢true q)
+    go false i u j q = absurd (false≢true q)
 
 legs-over : (h last a : ℕ) (p : Place) → last < a → legs h last a p ≡ []
 legs-over h last a p k = rw (lt-leb a last k, entered-not h last a p (λ u v. absurd (omega arith)))
@@ -75,22 +75,6 @@ starts-few h last a (suc k) (x ∷ l) r = go (decLt a h) (decLe h x) (starts-few
 
 -- ---- what needs no law of the factor
 
--- A listed significand has one word, and a right one none.
-pub listed-length : (m : Mark) (X : ℕ) → length (listed m X) ≡ notRight m
-listed-length Right X = refl
-listed-length Open X = refl
-listed-length Wrong X = refl
-
-no-cap : (mark : ℕ → Mark) (free : ℕ) (l : List ℕ) → tries mark 0 free l ≡ 0
-unfolding tries
-no-cap mark free [] = refl
-no-cap mark free (x ∷ l) = refl
-
-no-place : (mark : ℕ → Mark) (c : ℕ) (l : List ℕ) → tries mark (suc c) 0 l ≡ 0
-unfolding tries
-no-place mark c [] = refl
-no-place mark c (x ∷ l) = refl
-
 module _ {F : Type 0} (e : Engine F) (f : F) where
   rounds-append : (k l : List ℕ) → roundsFrom e f (k ++ l) ≡ roundsFrom e f k + roundsFrom e f l
   unfolding roundsFrom
@@ -104,7 +88,7 @@ module _ {F : Type 0} (e : Engine F) (f : F) where
   pub ahead-past : (a last : ℕ) → last < a → ahead e f last a ≡ record { place = Nowhere; rounds = 0 }
   unfolding ahead
   ahead-past a last k =
-      rw (passed low a (min (e .firstHigh f) (suc last)) (omega arith), passed high (max a (e .firstHigh f)) (suc last) (omega arith))
+      rw (passed low a (lowEnd (e .firstHigh f) last) (omega arith), passed high (highStart (e .firstHigh f) a) (suc last) (omega arith))
 
 -- the least suspect is the head of the row
 within-head : (suspect : ℕ → Bool) (end a : ℕ) (p : Place) → Least suspect end a p → within end p ≡ headOf (row suspect a end)
@@ -128,7 +112,7 @@ past-low suspect h b = go (row suspect h b) refl
     go [] q = refl
     go (x ∷ l) q = le-leb h x (begins suspect h b 0 x l q .from)
 
-module _ {F : Type 0} (suspect : ℕ → Bool) (e : Engine F) (f : F) (B first last : ℕ) (laws : Laws suspect e f B first last) where
+module _ {F : Type 0} {suspect : ℕ → Bool} {e : Engine F} {f : F} {B first last : ℕ} (laws : Laws suspect e f B first last) where
   abbrev h : ℕ
   h = e .firstHigh f
 
@@ -153,10 +137,10 @@ module _ {F : Type 0} (suspect : ℕ → Bool) (e : Engine F) (f : F) (B first l
   ahead-high : (a : ℕ) → first ≤ a → a ≤ last → h ≤ a → ahead e f last a ≡ to a (rowFrom a)
   unfolding ahead roundsFrom
   ahead-high a i k j =
-      let m : max a h ≡ a = omega arith in
+      let m : highStart h a ≡ a = omega arith in
       rw (
         m,
-        passed e f low a (min h (suc last)) (omega arith),
+        passed e f low a (lowEnd h last) (omega arith),
         found-in high a (suc last) (omega arith) (laws .finds-high a i k j),
         legs-one h last a (headOf (rowFrom a)) k (λ u v. absurd (omega arith)),
         le-ltb a h j,
@@ -168,17 +152,17 @@ module _ {F : Type 0} (suspect : ℕ → Bool) (e : Engine F) (f : F) (B first l
   ahead-low : (a : ℕ) → first ≤ a → a ≤ last → last < h → ahead e f last a ≡ to a (rowFrom a)
   unfolding ahead roundsFrom
   ahead-low a i k j =
-      let m : min h (suc last) ≡ suc last = omega arith in
+      let m : lowEnd h last ≡ suc last = omega arith in
       rw (
         m,
         found-in low a (suc last) (omega arith) (rw m at (laws .finds-low a i k (omega arith))),
-        passed e f high (max a h) (suc last) (omega arith),
+        passed e f high (highStart h a) (suc last) (omega arith),
         legs-one h last a (headOf (rowFrom a)) k (λ u v. absurd (omega arith)),
         lt-ltb a h (omega arith),
       )
       (go (headOf (rowFrom a)))
     where
-      go : (p : Place) → orElse p (e .find f low a .rounds) (record { place = Nowhere; rounds = 0 }) ≡ record { place = p; rounds = e .find f low a .rounds + 0 }
+      go : (p : Place) → orElse p (record { place = p; rounds = e .find f low a .rounds }) (record { place = Nowhere; rounds = 0 }) ≡ record { place = p; rounds = e .find f low a .rounds + 0 }
       go (At X) = rw (add-zero (e .find f low a .rounds))
       go Nowhere = refl
 
@@ -186,8 +170,8 @@ module _ {F : Type 0} (suspect : ℕ → Bool) (e : Engine F) (f : F) (B first l
   ahead-both : (a : ℕ) → first ≤ a → a < h → h ≤ last → ahead e f last a ≡ to a (rowFrom a)
   unfolding ahead roundsFrom
   ahead-both a i k j =
-      let m : min h (suc last) ≡ h = omega arith in
-      let n : max a h ≡ h = omega arith in
+      let m : lowEnd h last ≡ h = omega arith in
+      let n : highStart h a ≡ h = omega arith in
       rw (
         m,
         n,
@@ -198,7 +182,7 @@ module _ {F : Type 0} (suspect : ℕ → Bool) (e : Engine F) (f : F) (B first l
       (go (row suspect a h) refl)
     where
       go : (l : List ℕ) → row suspect a h ≡ l
-          → orElse (headOf l) (e .find f low a .rounds) (record { place = headOf (rowFrom h); rounds = e .find f high h .rounds }) ≡ to a (l ++ rowFrom h)
+          → orElse (headOf l) (record { place = headOf l; rounds = e .find f low a .rounds }) (record { place = headOf (rowFrom h); rounds = e .find f high h .rounds }) ≡ to a (l ++ rowFrom h)
       go [] q =
           rw (
             legs-two h last a (headOf (rowFrom h)) k j (past-low suspect h (suc last)),
@@ -259,7 +243,7 @@ module _ {F : Type 0} (suspect : ℕ → Bool) (e : Engine F) (f : F) (B first l
 
   keep-rounds : (t : Bool) (x : ℕ) (l : List ℕ) → (t ≡ true → (first ≤ x) × (x ≤ last)) → Few l → Few (keep t x l)
   unfolding roundsFrom
-  keep-rounds true x l q k = let z = q refl in omega (arith, mul-suc B (length l), laws .few (halfOf h x) x (z .0) (z .1))
+  keep-rounds true x l q k = let z = q refl in omega (arith, mul-suc B (length l), laws .few x (z .0) (z .1))
   keep-rounds false x l q k = k
 
   legs-rounds : (a : ℕ) (p : Place) → first ≤ a → Few (legs h last a p)

@@ -1,24 +1,19 @@
 -- Laws: what the plain sweep's calls add up to, whatever its row and marks. Assumes nothing.
-use mathlib.Core.Path.{_≡_, refl, sym, ap, _∙_}
+use mathlib.Core.Path.{_≡_, refl, sym}
 use mathlib.Core.List.{List, [], _∷_, _++_, append-assoc, append-nil}
 use Prim.Native.Nat.{ℕ, _+_, _-_}
 use native.Mathlib.Omega.{arith}
 use native.Mathlib.Nat.{add-zero}
 use lib.ListN.{length, take, drop}
 use lib.Seq.{take-add}
-use Rattle.marks.specs.declared.Mark.{Mark}
-use Rattle.calls.specs.Call.{Refusal, number, none, Call, listed}
+use Rattle.calls.specs.State.{Refusal, number, none, Call}
 use Rattle.calls.specs.Plain.{tries, wordsOf, Fed, Plain, untried, moved, plainReplied, plainRefusal, plainCall, plainNext, plains, plainAfter}
+use Rattle.calls.specs.Tries.{words-append}
 use Rattle.calls.specs.Whole.{trialsTold, wordsTold, trialsIn, wordsIn}
 
 moved-tried : (last t : ℕ) (l : List ℕ) → moved last t l .tried ≡ t
 moved-tried last t [] = refl
 moved-tried last t (x ∷ l) = refl
-
-words-append : (mark : ℕ → Mark) (k l : List ℕ) → wordsOf mark (k ++ l) ≡ wordsOf mark k ++ wordsOf mark l
-unfolding wordsOf
-words-append mark [] l = refl
-words-append mark (x ∷ k) l = rw (words-append mark k l) (sym (append-assoc (listed (mark x) x) (wordsOf mark k) (wordsOf mark l)))
 
 -- ---- trials and words
 

@@ -3,19 +3,19 @@ use mathlib.Core.Path.{_≡_, refl}
 use mathlib.Core.Bool.{Bool, true, false, cond, _||_}
 use mathlib.Core.Logic.{_≢_}
 use mathlib.Core.List.{List, [], _∷_}
-use Prim.Native.Nat.{ℕ, suc, _+_, _*_, _%_, _≤_, _<_, min}
+use Prim.Native.Nat.{ℕ, suc, _+_, _*_, _%_, _≤_}
 use native.Mathlib.Omega.{arith}
-use borrow.Author.Tests.{eqb-false, eq-eqb, ne-eqb, ltb-false}
+use borrow.Author.Tests.{eq-eqb, ne-eqb, ltb-false}
 use lib.Dec.{eqb, ltb, leb}
 use Rattle.marks.specs.declared.Mark.{Mark}
 use Rattle.marks.specs.declared.Mark.the-variants.{Right, Open, Wrong}
 use Rattle.search.specs.declared.Place.the-variants.{At}
-use Rattle.search.specs.declared.Found.{Found}
-use Rattle.calls.specs.Engine.{Half, low, high, Engine, Least, Laws, Lawful}
-use Rattle.calls.specs.Call.{Outcome, refused, accepted, State, fresh, newState, Call, Reply, ahead, run, sweepCall}
+use Rattle.calls.specs.Engine.{Half, low, high, halfOf, lowEnd, Engine, Least, Lawful}
+use Rattle.calls.specs.State.{refused, accepted, State, fresh, newState, Call}
+use Rattle.calls.specs.Call.{ahead, run, sweepCall}
 use Rattle.calls.specs.Plain.{fed, begun, plains, plainCall, row, tries, wordsOf}
-use Rattle.calls.specs.Whole.{sweeps, Whole}
-use Rattle.calls.specs.One.{or-false}
+use Rattle.calls.specs.Whole.{Whole}
+use Rattle.calls.specs.Refusals.{or-false}
 use Rattle.calls.specs.Demand.{whole-sweep}
 
 -- X is a suspect for the factor f, from 0 to 6, if X + f is a multiple of 7.
@@ -58,14 +58,14 @@ toy-lawful f first last sound inside =
     record {
       ordered = ltb-false last first (i .1);
       suspected = λ X h k q. suspected X (toySuspect f X) q;
-      finds-low = λ a h k i. least f (min 100 (suc last)) a;
+      finds-low = λ a h k i. least f (lowEnd 100 last) a;
       finds-high = λ a h k i. least f (suc last) a;
-      few = λ h a i k. few h a;
+      few = λ a h k. few (halfOf 100 a) a;
     }
 
 -- Demand 3 holds of it.
-pub toy-whole : (f first last : ℕ) (s : State ℕ) → newState toy f first last ≡ accepted s → (calls : List Call) → Whole toySuspect toy (λ f. 4) s calls
-toy-whole = whole-sweep toySuspect toy (λ f. 4) toy-lawful
+pub toy-whole : (f first last : ℕ) (s : State ℕ) → newState toy f first last ≡ accepted s → (calls : List Call) → Whole toySuspect toy (λ f. 4) (sweepCall toy) s calls
+toy-whole = whole-sweep toy-lawful
 
 -- ---- calls over 81 to 127 for the factor 2, with the suspects 82, 89, 96, 103, 110, 117 and 124, of which 89 and 103 are wrong and 117 is open
 

@@ -1,19 +1,20 @@
 -- Definitions: lists of sweep calls (document 01, "Whole sweeps"), and demand 3 as one record. What stands in quotes is document 01's or the demand's.
 use mathlib.Core.Path.{_≡_}
-use mathlib.Core.Bool.{Bool, true, false}
+use mathlib.Core.Bool.{Bool, true}
 use mathlib.Core.Logic.{_⊎_, _↔_}
 use mathlib.Core.List.{List, [], _∷_, _++_, List·Memᴰ}
-use Prim.Native.Nat.{ℕ, zero, suc, _+_, _-_, _*_, _≤_, _<_, min, max}
+use Prim.Native.Nat.{ℕ, suc, _+_, _-_, _*_, _≤_, _<_, min, max}
 use lib.ListN.{length, take, drop}
 use lib.Seq.{slice}
 use Rattle.marks.specs.declared.Mark.{Mark}
 use Rattle.marks.specs.declared.Mark.the-variants.{Open, Wrong}
 use Rattle.calls.specs.Engine.{Engine}
-use Rattle.calls.specs.Call.{Outcome, refused, accepted, State, Call, Result, Reply, sweepCall}
+use Rattle.calls.specs.State.{Outcome, refused, accepted, State, Call}
+use Rattle.calls.specs.Call.{Result, Reply}
 use Rattle.calls.specs.Plain.{span, wordsOf, Fed, fed, Plain, begun, untried, Told, Seen, plains, plainAfter}
 use Rattle.calls.specs.ByRow.{starts, roundsFrom, rowAhead}
 
--- ---- what is seen of calls
+-- ---- what is seen of calls; `call` is any account of a call, good or bad
 
 -- "A call's words are those from its first free place up to but not including the place it returns, read as it returns; a refused call has none."
 abbrev pub toldBy : Call → List ℕ → Outcome Result → Outcome Told
@@ -24,20 +25,20 @@ toldBy c list (accepted r) = accepted (record { trials = r .trials; place = r .p
 abbrev pub seen : {F : Type 0} → Call → Reply F → Seen F
 seen c r = record { told = toldBy c (r .list) (r .answer); state = r .state }
 
--- What is seen of each call of a list. "Each call is given the state that the one before returned, refused or not."
-unfoldable pub sweeps : {F : Type 0} → Engine F → State F → List Call → List (Seen F)
-sweeps e s [] = []
-sweeps e s (c ∷ cs) = seen c (sweepCall e s c) ∷ sweeps e (sweepCall e s c .state) cs
+-- What is seen of each call of a list. "Each call is given the state that the one before returned, refused or not".
+unfoldable pub sweeps : {F : Type 0} → (State F → Call → Reply F) → State F → List Call → List (Seen F)
+sweeps call s [] = []
+sweeps call s (c ∷ cs) = seen c (call s c) ∷ sweeps call (call s c .state) cs
 
 -- The state that the last call of a list hands back.
-unfoldable pub stateAfter : {F : Type 0} → Engine F → State F → List Call → State F
-stateAfter e s [] = s
-stateAfter e s (c ∷ cs) = stateAfter e (sweepCall e s c .state) cs
+unfoldable pub stateAfter : {F : Type 0} → (State F → Call → Reply F) → State F → List Call → State F
+stateAfter call s [] = s
+stateAfter call s (c ∷ cs) = stateAfter call (call s c .state) cs
 
--- P of each call of a list, with the state that it is given.
-abbrev pub Each : {F : Type 0} → (State F → Call → Type 0) → Engine F → State F → List Call → Type 0
-Each P e s [] = Unit {0}
-Each P e s (c ∷ cs) = P s c × Each P e (sweepCall e s c .state) cs
+-- P of each call of a list, with the state that it is given and its reply.
+abbrev pub Each : {F : Type 0} → (State F → Call → Reply F → Type 0) → (State F → Call → Reply F) → State F → List Call → Type 0
+Each P call s [] = Unit {0}
+Each P call s (c ∷ cs) = P s c (call s c) × Each P call (call s c .state) cs
 
 -- P of what an accepted call answers; of a refused one there is nothing to say.
 abbrev pub IfAccepted : {A : Type 0} → (A → Type 0) → Outcome A → Type 0
@@ -46,14 +47,17 @@ IfAccepted P (accepted a) = P a
 
 -- ---- sums over calls
 
+-- The trials of one call; a refused one has none.
 abbrev pub trialsTold : Outcome Told → ℕ
 trialsTold (refused n) = 0
 trialsTold (accepted t) = t .trials
 
+-- The words of one call.
 abbrev pub wordsTold : Outcome Told → List ℕ
 wordsTold (refused n) = []
 wordsTold (accepted t) = t .words
 
+-- 1 for an accepted call.
 abbrev pub acceptedTold : Outcome Told → ℕ
 acceptedTold (refused n) = 0
 acceptedTold (accepted t) = 1
@@ -121,33 +125,43 @@ pub record RoundsRight {F : Type 0} (suspect : F → ℕ → Bool) (e : Engine F
   pub are : r .rounds ≡ roundsFrom e (s .factor) (starts (e .firstHigh (s .factor)) (s .last) (s .next) (r .trials) (rowAhead suspect s))
   pub few : r .rounds ≤ B (s .factor) * (r .trials + 2)
 
+-- An accepted call tries at least the smallest of cap, free places and suspects left.
+abbrev pub Ample : {F : Type 0} → (F → ℕ → Bool) → State F → Call → Result → Type 0
+Ample suspect s c r = min (c .cap) (min (length (c .list) - c .free) (length (rowAhead suspect s))) ≤ r .trials
+
 -- What the plain sweep is fed for a new state.
 abbrev pub fedBy : {F : Type 0} → (F → ℕ → Bool) → Engine F → State F → Fed F
 fedBy suspect e s = fed suspect (e .mark) (s .factor) (s .first) (s .last)
 
+-- What it shows of calls from there on.
+abbrev pub plainly : {F : Type 0} → (F → ℕ → Bool) → Engine F → State F → List Call → List (Seen F)
+plainly suspect e s calls = plains (fedBy suspect e s) (begun (fedBy suspect e s)) calls
+
+-- Where it is after them.
+abbrev pub plainEnd : {F : Type 0} → (F → ℕ → Bool) → Engine F → State F → List Call → Plain
+plainEnd suspect e s calls = plainAfter (fedBy suspect e s) (begun (fedBy suspect e s)) calls
+
 -- ---- demand 3
 
--- "For every list of sweep calls from a new state, refused ones included, whatever their caps, lists and free places". The engines that condition (c) names fail at these fields.
-pub record Whole {F : Type 0} (suspect : F → ℕ → Bool) (e : Engine F) (B : F → ℕ) (s : State F) (calls : List Call) : Type 0 where
+-- "For every list of sweep calls from a new state, refused ones included, whatever their caps, lists and free places". Each field says which of the engines that condition (c) names it shuts out.
+pub record Whole {F : Type 0} (suspect : F → ℕ → Bool) (e : Engine F) (B : F → ℕ) (call : State F → Call → Reply F) (s : State F) (calls : List Call) : Type 0 where
   -- "each call's answer, trials, words and state are those of document 01's plain sweep"
-  -- shuts out one that lists all in its first call past the cap, and one that invents trials
-  pub same : sweeps e s calls ≡ plains (fedBy suspect e s) (begun (fedBy suspect e s)) calls
-  -- a call writes only those words: places before its first free place and unused ones are as they were, and a refused call leaves the list
-  pub lists : Each (λ s c. ListKept c (sweepCall e s c .answer) (sweepCall e s c .list)) e s calls
+  -- (shut out: one that lists all in its first call past the cap; invented trials)
+  pub same : sweeps call s calls ≡ plainly suspect e s calls
+  -- the words of a call are all that it writes: places before its first free place and unused ones are as they were, and a refused call leaves the list
+  pub lists : Each (λ s c r. ListKept c (r .answer) (r .list)) call s calls
   -- "joined words hold exactly the significands in range that are not right below the first suspect not yet tried (all if none is left), once each, ascending, with marks"
-  pub words :
-      Holds (e .mark (s .factor)) (s .first) (endOf (s .last) (untried (fedBy suspect e s) (plainAfter (fedBy suspect e s) (begun (fedBy suspect e s)) calls)))
-      (wordsIn (sweeps e s calls))
+  pub words : Holds (e .mark (s .factor)) (s .first) (endOf (s .last) (untried (fedBy suspect e s) (plainEnd suspect e s calls))) (wordsIn (sweeps call s calls))
   -- "trials add up": to the number of suspects tried
-  pub trials : trialsIn (sweeps e s calls) ≡ plainAfter (fedBy suspect e s) (begun (fedBy suspect e s)) calls .tried
+  pub trials : trialsIn (sweeps call s calls) ≡ plainEnd suspect e s calls .tried
   -- "it is finished exactly when all suspects are tried", and a call was accepted
-  -- shuts out one that calls itself finished with nothing tried
-  pub finished : (stateAfter e s calls .finished ≡ true) ↔ ((1 ≤ acceptedIn (sweeps e s calls)) × (trialsIn (sweeps e s calls) ≡ length (fedBy suspect e s .suspects)))
+  -- (shut out: one that calls itself finished with nothing tried)
+  pub finished : (stateAfter call s calls .finished ≡ true) ↔ ((1 ≤ acceptedIn (sweeps call s calls)) × (trialsIn (sweeps call s calls) ≡ length (fedBy suspect e s .suspects)))
   -- "within as many accepted calls as suspects", or one where there are none
-  pub within : max 1 (length (fedBy suspect e s .suspects)) ≤ acceptedIn (sweeps e s calls) → stateAfter e s calls .finished ≡ true
+  pub latest : max 1 (length (fedBy suspect e s .suspects)) ≤ acceptedIn (sweeps call s calls) → stateAfter call s calls .finished ≡ true
   -- "rounds are the searches' and at most 64 × (trials + 2)"
-  -- shuts out one that invents rounds
-  pub rounds : Each (λ s c. IfAccepted (RoundsRight suspect e B s) (sweepCall e s c .answer)) e s calls
-  -- an accepted call tries at least the smallest of cap, free places and suspects left
-  -- shuts out one that stops before its first suspect, cap and free places being at least 1
-  pub ample : Each (λ s c. IfAccepted (λ r. min (c .cap) (min (length (c .list) - c .free) (length (rowAhead suspect s))) ≤ r .trials) (sweepCall e s c .answer)) e s calls
+  -- (shut out: invented rounds)
+  pub rounds : Each (λ s c r. IfAccepted (RoundsRight suspect e B s) (r .answer)) call s calls
+  -- the stop rule's least: an accepted call has a cap and free places of at least 1, so it tries its first suspect
+  -- (shut out: one that stops before its first suspect)
+  pub ample : Each (λ s c r. IfAccepted (Ample suspect s c) (r .answer)) call s calls

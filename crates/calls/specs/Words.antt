@@ -1,7 +1,7 @@
 -- Laws: the words of the suspects tried are those of all significands before the first one not tried that are not right; they ascend, and none is missing. Assumes nothing.
 use mathlib.Core.Path.{_≡_, refl, sym, ap, _∙_}
 use mathlib.Core.Bool.{Bool, true, false}
-use mathlib.Core.Logic.{_⊎_, inl, inr, _↔_}
+use mathlib.Core.Logic.{_⊎_, inl, inr}
 use mathlib.Core.List.{List, [], _∷_, _++_, List·Memᴰ, List·Memᴰ·head, List·Memᴰ·cases-cons, List·Memᴰ·not-nil, List·Memᴰ·append-cases, Memᴰ·append-left, Memᴰ·append-right}
 use Prim.Native.Nat.{ℕ, zero, suc, _+_, _-_, _*_, _≤_, _<_}
 use native.Mathlib.Omega.{arith}
@@ -10,7 +10,7 @@ use lib.ListN.{take, drop}
 use lib.Seq.{take-nil, drop-nil}
 use Rattle.marks.specs.declared.Mark.{Mark}
 use Rattle.marks.specs.declared.Mark.the-variants.{Right, Open, Wrong}
-use Rattle.calls.specs.Call.{listed}
+use Rattle.calls.specs.State.{listed}
 use Rattle.calls.specs.Plain.{spanOf, span, row, wordsOf}
 use Rattle.calls.specs.Whole.{endOf, WordOf, Listed, Ascends, Holds}
 use Rattle.calls.specs.Rows.{span-empty, span-cons, ascends-from, row-empty, row-at, row-next, begins}
