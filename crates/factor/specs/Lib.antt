@@ -1,6 +1,7 @@
 pub mod Precision
 pub mod Parts
 pub mod Whole
+pub mod LowForm
 pub mod PartsLaws
 pub mod Accepted
 pub mod SetUp
