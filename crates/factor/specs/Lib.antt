@@ -6,3 +6,4 @@ pub mod PartsLaws
 pub mod Accepted
 pub mod SetUp
 pub mod SetUpLaws
+pub mod Stored
