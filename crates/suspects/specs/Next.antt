@@ -11,7 +11,7 @@ use Rattle.suspects.specs.declared.Sought.{Sought}
 use Rattle.suspects.specs.declared.Halves.{Halves}
 use Rattle.suspects.specs.Suspects.{windowW, widening}
 
--- modulus m = 2 * h, step L mod m, and the window of wanted remainders, which lies near h
+-- modulus m = 2 * h, step L mod m, and the window of wanted remainders (document 01), which lies near h
 abbrev pub soughtNear : (L h W D : ℕ) → Sought
 soughtNear L h W D = record { modulus = 2 * h; step = L % (2 * h); from = h - W - D + 1; to = h + W - 1 }
 
@@ -24,10 +24,12 @@ abbrev pub movedBy : ℕ → Place → Place
 movedBy a (At k) = At (a + k)
 movedBy a Nowhere = Nowhere
 
+-- a search's answer with its place so moved
 abbrev pub foundFrom : ℕ → Found → Found
 foundFrom a f = record { place = movedBy a (f .place); rounds = f .rounds }
 
--- the search for what is sought, counted from the significand a: what it finds may lie past the half or past the range, and has cost its rounds
+-- the search for what is sought, counted from the significand a, whose remainder is that of L * a: what it finds may lie past the half or past the
+-- range, and has cost its rounds
 unfoldable pub nextIn : Sought → ℕ → Found
 unfolding searchFrom
 nextIn s a = foundFrom a (searchFrom (s .modulus) (s .step) (s .step * a % s .modulus) (s .from) (s .to))
