@@ -41,7 +41,8 @@ module _ (N h W D : ℕ) (H : 0 < h) (room : W + D ≤ h) where
       let t = ap (λ (z : ℕ). z * h) s in
       (omega arith, omega arith)
 
-in-window : (r h W D : ℕ) → inWindow r h W D ≡ true ↔ ((h < r + W + D) × (r < h + W))
+-- The test is what it says.
+pub in-window : (r h W D : ℕ) → inWindow r h W D ≡ true ↔ ((h < r + W + D) × (r < h + W))
 in-window r h W D = (λ e. of (ltb h (r + W + D)) (ltb r (h + W)) refl refl e, λ x. rw (lt-ltb h (r + W + D) (x .0), lt-ltb r (h + W) (x .1)))
   where
     of : (a b : Bool) → ltb h (r + W + D) ≡ a → ltb r (h + W) ≡ b → a && b ≡ true → (h < r + W + D) × (r < h + W)
@@ -50,6 +51,13 @@ in-window r h W D = (λ e. of (ltb h (r + W + D)) (ltb r (h + W)) refl refl e, �
     of false b p q e = absurd (mathlib.Core.Bool.true≢false (sym e))
 
 -- ---- ends with the same parts, at two bits or more
+-- The window lies between two multiples of the distance of two midpoints, in the low half and so in both.
+pub room :
+    (rule : Rule) (n E : ℕ) → 2 ≤ n → 2 * n ≤ E → (L U : ℕ) → End E L → End E U → partsAt rule n E L ≡ partsAt rule n E U
+    → windowW n E + widening n L U ≤ 2 ^ (E - 1)
+room rule n E P F L U le ue same =
+    omega (arith, spread rule n E (omega arith) F L U le ue same, top-is n E F, mul-le-mul-right (windowW n E) (pow-mono {i = 2} {j = n} P), pow-half E (omega arith))
+
 module _ (rule : Rule) (n E : ℕ) (P : 2 ≤ n) (F : 2 * n ≤ E) (L U : ℕ) (le : End E L) (ue : End E U) (lu : L ≤ U) (same : partsAt rule n E L ≡ partsAt rule n E U) (X : ℕ) where
   abbrev W : ℕ
   W = windowW n E
@@ -67,9 +75,8 @@ module _ (rule : Rule) (n E : ℕ) (P : 2 ≤ n) (F : 2 * n ≤ E) (L U : ℕ) (
       go true = le-of-eq refl
       go false = pow-mono {i = E - 1} {j = E} (omega arith)
 
-  -- the window lies between two multiples of 2 * h
-  pub window-room : W + D ≤ h
-  window-room = le-trans (omega (arith, spread rule n E (omega arith) F L U le ue same, top-is n E F, mul-le-mul-right W (pow-mono {i = 2} {j = n} P), pow-half E (omega arith))) half-ge
+  window-room : W + D ≤ h
+  window-room = le-trans (room rule n E P F L U le ue same) half-ge
 
   half-pos : 0 < h
   half-pos = le-trans (pow-pos (E - 1)) half-ge

@@ -1,1 +1,100 @@
 // Suspects: the significands near a midpoint, among which every failing one is, and the search for the next of them (document 01, "Suspects and rounds").
+use factor::Factor;
+use factor::Precision;
+use search::Found;
+use search::Place;
+ghost use mathlib.Core.Path.{_≡_};
+ghost use Prim.Native.Nat.{_+_, _-_, _*_, _%_, _≤_, _<_, _^_};
+ghost use Rattle.factor.specs.SetUp.{Sound};
+ghost use Rattle.suspects.specs.Next.{soughtNear, soughtIn, nextIn, firstHigh, halves, Askable};
+
+// What is sought in a half: remainders from `from` to `to`, both included, of the multiples of the step modulo the modulus.
+pub struct Sought {
+    pub modulus: u64,
+    pub step: u64,
+    pub from: u64,
+    pub to: u64,
+}
+
+// What is sought in each half, and the first high significand: all that a search needs of a factor.
+pub struct Halves {
+    pub low: Sought,
+    pub high: Sought,
+    pub first_high: u64,
+}
+
+// The first high significand: 2 ^ (62 + n) over the lower end, rounded up.
+pub fn first_high(f: Factor) -> u64
+    requires { ⌜ Sound f ⌝ }
+    ensures { λ r. ⌜ r ≡ firstHigh (f .precision .bits) 62 (f .lower) ⌝ }
+{
+    let n = f.precision.bits;
+    let divided = wide::divide(wide::wide_power(Precision::SCALE + n), f.lower);
+    if divided.remainder == 0 {
+        return divided.quotient;
+    }
+    divided.quotient + 1
+}
+
+// The remainders near half the distance of two midpoints.
+fn sought_near(lower: u64, half: u64, window: u64, widening: u64) -> Sought
+    requires { ⌜ (0 < window) × (window + widening ≤ half) × (half ≤ 2 ^ 62) ⌝ }
+    ensures { λ r. ⌜ r ≡ soughtNear lower half window widening ⌝ }
+{
+    let modulus = 2 * half;
+    Sought {
+        modulus,
+        step: lower % modulus,
+        from: half - window - widening + 1,
+        to: half + window - 1,
+    }
+}
+
+// What is sought in the half whose products drop so many digits: two midpoints are 2 ^ dropped apart.
+fn sought_in(f: Factor, dropped: u32) -> Sought
+    requires { ⌜ Sound f × (62 ≤ dropped) × (dropped ≤ 63) ⌝ }
+    ensures { λ r. ⌜ r ≡ soughtIn (f .precision .bits) 62 (f .lower) (f .upper) (2 ^ (dropped - 1)) ⌝ }
+{
+    let n = f.precision.bits;
+    let window = wide::power(Precision::SCALE - n);
+    let widening = (f.upper - f.lower) * wide::power(n);
+    sought_near(f.lower, wide::power(dropped - 1), window, widening)
+}
+
+// All that a search needs of a factor.
+pub fn prepare(f: Factor) -> Halves
+    requires { ⌜ Sound f ⌝ }
+    ensures { λ r. ⌜ r ≡ halves (f .precision .bits) 62 (f .lower) (f .upper) ⌝ }
+{
+    Halves {
+        low: sought_in(f, Precision::LOW_DROPPED),
+        high: sought_in(f, Precision::HIGH_DROPPED),
+        first_high: first_high(f),
+    }
+}
+
+// x times y modulo m, a divisor of 2 ^ 64: the low word of the product tells.
+fn remainder(x: u64, y: u64, m: u64) -> u64
+    requires { ⌜ (0 < m) × (2 ^ 64 % m ≡ 0) ⌝ }
+    ensures { λ r. ⌜ r ≡ x * y % m ⌝ }
+{
+    let p = wide::product(x, y);
+    p.lo % m
+}
+
+// The next suspect from the start on, in the half that is sought in, with the search's rounds.
+pub fn next(s: Sought, start: u64) -> Found
+    requires { ⌜ Askable s × (start ≤ 2 ^ 63) ⌝ }
+    ensures { λ r. ⌜ r ≡ nextIn s start ⌝ }
+{
+    let base = remainder(s.step, start, s.modulus);
+    let found = search::find_from(s.modulus, s.step, base, s.from, s.to);
+    let place = found.place;
+    match place {
+        Place::At(k) => Found {
+            place: Place::At(start + k),
+            rounds: found.rounds,
+        },
+        Place::Nowhere => found,
+    }
+}

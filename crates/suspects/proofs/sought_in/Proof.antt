@@ -1,0 +1,79 @@
+-- `suspects::sought_in` is what is sought in a half: with an accepted factor the window fits. Assumes nothing.
+use mathlib.Core.Path.{_≡_, ap, _∙_}
+use Prim.Native.Nat.{ℕ, _+_, _-_, _*_, _^_, _≤_, _<_}
+use native.Mathlib.Omega.{arith}
+use lib.Pow.{pow-pos, pow-mono}
+use borrow.Author.Needs.{needs}
+use Rattle.factor.specs.declared.Factor.{Factor}
+use Rattle.factor.specs.SetUp.{Sound}
+use Rattle.suspects.specs.Suspects.{windowW, widening}
+use Rattle.suspects.specs.Next.{soughtNear}
+use Rattle.suspects.specs.Asked.{fits}
+use Rattle.suspects.proofs.sought_in.Statement.{statement}
+use Rattle.suspects.proofs.sought_in.Tie as tie
+
+-- with the powers as the calls ensure them
+module _ (f : Factor) (sound : Sound f) {power : ℕ} (is : power ≡ 2 ^ f .precision .bits) where
+  widened : (f .upper - f .lower) * power ≡ widening (f .precision .bits) (f .lower) (f .upper)
+  widened = ap (λ (z : ℕ). (f .upper - f .lower) * z) is
+
+  window-fits : {window half d : ℕ} → window ≡ windowW (f .precision .bits) 62 → half ≡ 2 ^ (d - 1) → 62 ≤ d → d ≤ 63
+      → (0 < window) × (window + (f .upper - f .lower) * power ≤ half) × (half ≤ 2 ^ 62)
+  window-fits {d = d} w h low high = (
+    omega (arith, pow-pos (62 - f .precision .bits)),
+    omega (arith, fits f sound, widened, pow-mono {i = 61} {j = d - 1} (omega arith)),
+    omega (arith, pow-mono {i = d - 1} {j = 62} (omega arith)),
+  )
+
+sub-power : tie.Need-sub-power
+sub-power c = search needs
+
+power-requires : tie.Need-power-requires
+power-requires c κs = search needs
+
+sub-widening : tie.Need-sub-widening
+sub-widening c = search needs
+
+power-requires-2 : tie.Need-power-requires-2
+power-requires-2 c κs = search needs
+
+mul-widening : tie.Need-mul-widening
+mul-widening c =
+    let start = c .before .before .before in
+    omega (arith, fits (start .args .f) (start .pre .0), widened (start .args .f) (start .pre .0) (c .power2 .ensures))
+
+sub-power-2 : tie.Need-sub-power-2
+sub-power-2 c = search needs
+
+power-requires-3 : tie.Need-power-requires-3
+power-requires-3 c κs = search needs
+
+sought-near-requires : tie.Need-sought-near-requires
+sought-near-requires c κs =
+    let window = c .before .before .before in
+    let start = window .before in
+    window-fits (start .args .f) (start .pre .0) (c .before .power2 .ensures) (window .power .ensures) (c .power3 .ensures) (start .pre .1) (start .pre .2)
+
+returns : tie.Need-returns
+returns c =
+    let half = c .before in
+    let window = half .before .before .before in
+    let f = window .before .args .f in
+    let w = window .power .ensures in
+    let p = half .before .power2 .ensures in
+    let h = half .power3 .ensures in
+    c .sought-near .ensures ∙ λ i. soughtNear (f .lower) (h i) (w i) ((f .upper - f .lower) * p i)
+
+pub sought-in-spec : {M : Type 1} → statement M
+sought-in-spec =
+    tie.close
+    (tie.spec
+    sub-power
+    power-requires
+    sub-widening
+    power-requires-2
+    mul-widening
+    sub-power-2
+    power-requires-3
+    sought-near-requires
+    returns)
