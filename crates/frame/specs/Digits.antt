@@ -14,7 +14,7 @@ use Rattle.frame.specs.declared.Field.the-variants.{Value, Malformed}
 unfoldable pub digitByte : ℕ → ℕ
 digitByte d = cond (ltb d 10) (48 + d) (65 + (d - 10))
 
--- the last w digits of v
+-- the last w digits of v in a base
 unfoldable pub digits : (base w v : ℕ) → List ℕ
 digits base zero v = []
 digits base (suc w) v = digitByte (v / base ^ w % base) ∷ digits base w v
