@@ -1,0 +1,18 @@
+-- `frame::put_word` meets its contract. Assumes nothing.
+use borrow.Author.Needs.{needs}
+use Rattle.frame.specs.Report.{wordLine}
+use Rattle.frame.proofs.put_word.Statement.{statement}
+use Rattle.frame.proofs.put_word.Tie as tie
+
+put-field-requires : tie.Need-put-field-requires
+put-field-requires c κs = search needs
+
+same-length : tie.Need-same-length
+same-length c = search needs
+
+returns : tie.Need-returns
+unfolding wordLine
+returns c = c .before .before .put-field .ensures
+
+pub put-word-spec : {M : Type 1} → statement M
+put-word-spec = tie.close (tie.spec put-field-requires same-length returns)
