@@ -1,3 +1,4 @@
+-- The definitions and laws of a factor, in the order in which they build on each other.
 pub mod Precision
 pub mod Parts
 pub mod Whole

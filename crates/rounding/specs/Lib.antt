@@ -1,3 +1,4 @@
+-- The definitions and laws of rounding, in the order in which they build on each other.
 pub mod Apart
 pub mod Grid
 pub mod GridLaws

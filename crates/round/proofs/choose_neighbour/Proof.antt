@@ -1,57 +1,43 @@
+-- `round::choose_neighbour` meets its contract: by cases of the location. Assumes nothing.
 use mathlib.Core.Path.{sym, _∙_}
 use native.Mathlib.Numerals.{add-one}
 use borrow.Author.Needs.{needs}
 use Rattle.round.proofs.choose_neighbour.Statement.{statement}
 use Rattle.round.proofs.choose_neighbour.Tie as tie
-use Rattle.round.proofs.choose_neighbour.Reads as reads
-use Rattle.round.proofs.choose_neighbour.Lts as lts
-use Rattle.round.proofs.tie_up.Reads as tie-up-reads
 
--- src/lib.rt:68:28
 enum-told : tie.Need-enum-told
 enum-told c = search needs
 
--- src/lib.rt:69:32
 enum-told-2 : tie.Need-enum-told-2
 enum-told-2 c = search needs
 
--- src/lib.rt:71:17
 enum-told-3 : tie.Need-enum-told-3
 enum-told-3 c = search needs
 
--- src/lib.rt:71:17
 tie-up-requires : tie.Need-tie-up-requires
 tie-up-requires c κs = search needs
 
--- src/lib.rt:72:21
 add-result : tie.Need-add-result
 add-result c = search needs
 
--- src/lib.rt:74:32
 enum-told-4 : tie.Need-enum-told-4
 enum-told-4 c = search needs
 
--- src/lib.rt:74:32
 add-result-2 : tie.Need-add-result-2
 add-result-2 c = search needs
 
--- src/lib.rt:63:1
 returns : tie.Need-returns
 returns c = search needs
 
--- src/lib.rt:63:1
 returns-2 : tie.Need-returns-2
 returns-2 c = search needs
 
--- src/lib.rt:63:1
 returns-3 : tie.Need-returns-3
 returns-3 c = rw (c .before .before .enum-told3 .given .1, sym (c .before .tie-up .ensures) ∙ c .if1 .taken, add-one)
 
--- src/lib.rt:63:1
 returns-4 : tie.Need-returns-4
 returns-4 c = rw (c .before .before .enum-told3 .given .1, sym (c .before .tie-up .ensures) ∙ c .if1 .left)
 
--- src/lib.rt:63:1
 returns-5 : tie.Need-returns-5
 returns-5 c = rw (c .enum-told4 .given .1, add-one)
 
