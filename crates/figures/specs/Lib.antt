@@ -1,0 +1,3 @@
+-- The table of figures.
+pub mod Table
+pub mod Figures
