@@ -1,58 +1,38 @@
 -- The parts at one end: their bounds, how near they are to the end, and that the whole numbers are the parts of document 01. Assumes nothing.
-use mathlib.Core.Path.{_≡_, refl, sym, ap, _∙_, subst}
+use mathlib.Core.Path.{_≡_, refl, sym, ap, ap₂, _∙_, subst}
 use mathlib.Core.Bool.{Bool, true, false}
-use Prim.Native.Nat.{ℕ, zero, suc, _+_, _-_, _*_, _/_, _^_, _≤_, _<_}
-use native.Mathlib.Nat.{mul-le-mul-right, mul-le-mul-left, le-trans, le-of-eq, lt-of-not-le, pow-succ', eq-of-mul-eq-mul-right, mul-div-cancel, mul-pos, mul-le-mul, le-refl, zero-div, mul-lt-mul-of-pos-right}
-use native.Mathlib.Decide.{decLe}
+use Prim.Native.Nat.{ℕ, _+_, _-_, _*_, _/_, _^_, _≤_, _<_}
+use native.Mathlib.Nat.{mul-le-mul-right, le-trans, le-of-eq, pow-succ', eq-of-mul-eq-mul-right, mul-div-cancel}
 use native.Mathlib.Omega.{arith}
 use lib.Dec.{ltb}
-use lib.IntN.{ℤ, pos, negsuc, negℤ, natAbs}
+use lib.IntN.{natAbs}
 use lib.Pow.{pow-add, pow-pos, pow-mono}
-use borrow.Author.Tests.{ltb-true, ltb-false, le-ltb}
+use borrow.Author.Tests.{ltb-true, ltb-false}
 use Rattle.rounding.specs.Apart.{apart}
 use Rattle.rounding.specs.Grid.{Rule, nearest}
 use Rattle.rounding.specs.GridLaws.{nearest-is, nearest-le, nearest-ge}
 use Rattle.rounding.specs.Digits.{pow-half}
 use Rattle.rounding.specs.Unit.{rn}
-use Rattle.rounding.specs.UnitLaws.{rn-error, rn-le, rn-ge, rn-at, rn-whole-small}
-use Rattle.rounding.specs.declared.Location.the-variants.{Exact}
+use Rattle.rounding.specs.UnitLaws.{rn-error, rn-le, rn-at}
 use Rattle.rounding.specs.declared.Rounded.{Rounded}
-use Rattle.rounding.specs.Round.{rounded, Equals}
-use Rattle.rounding.specs.RoundLaws.{HasBits, rounded-bits, rounded-whole}
+use Rattle.rounding.specs.Round.{rounded}
+use Rattle.rounding.specs.RoundLaws.{rounded-same}
 use Rattle.rounding.specs.Fraction.{over}
 use Rattle.rounding.specs.FractionLaws.{Counts, over-counts, RN-counts, less-counts}
 use Rattle.rounding.specs.Signed.{negative, signedOf}
 use Rattle.factor.specs.declared.Parts.{Parts}
+pub use Rattle.factor.specs.LowForm.{top-is, width-is}
+use Rattle.factor.specs.LowForm.{size-of, sign-of, keep-sign, Tells, from-tells}
 use Rattle.factor.specs.Parts.{highPart, rest, lowPart, partsAt}
-use Rattle.factor.specs.Whole.{End, Whole, step, plusOrMinus, whole, worth, wholeOf}
+use Rattle.factor.specs.Whole.{End, Whole, step, plusOrMinus, whole, worth, wholeOf, partsFrom}
 
 -- ---- the powers of two: W = 2 ^ (E - n) is half a step
 module _ (n E : ℕ) (F : 2 * n ≤ E) where
-  pub top-is : 2 ^ E ≡ 2 ^ n * 2 ^ (E - n)
-  top-is = ap (λ (z : ℕ). 2 ^ z) (omega arith) ∙ pow-add 2 n (E - n)
-
-  pub width-is : 2 ^ (E - n) ≡ 2 ^ n * 2 ^ (E - 2 * n)
-  width-is = ap (λ (z : ℕ). 2 ^ z) (omega arith) ∙ pow-add 2 n (E - 2 * n)
-
   pub step-is : step n E ≡ 2 * 2 ^ (E - n)
   step-is = ap (λ (z : ℕ). 2 ^ z) (omega arith) ∙ pow-succ' 2 (E - n)
 
   pub bottom-is : 0 < n → 2 ^ E ≡ 2 ^ (n - 1) * step n E
-  bottom-is P = omega (arith, ap (λ (z : ℕ). 2 ^ (n - 1) * z) step-is, top-is, ap (λ (z : ℕ). z * 2 ^ (E - n)) (pow-half n P))
-
-size-of : (b : Bool) (m : ℕ) → natAbs (signedOf b m) ≡ m
-size-of true zero = refl
-size-of true (suc m) = refl
-size-of false m = refl
-
--- a low part l, not zero, as s / 2 ^ places
-pub record LowForm (n E l : ℕ) (r : Rounded) : Type 0 where
-  pub places : ℕ
-  pub exponent : r .exponent ≡ negℤ (pos places)
-  pub bits : HasBits n (r .significand)
-  pub value : r .significand * 2 ^ E ≡ l * 2 ^ places
-  pub least : 2 * n ≤ suc places
-  pub most : places < E + n
+  bottom-is P = omega (arith, ap (λ (z : ℕ). 2 ^ (n - 1) * z) step-is, top-is n E F, ap (λ (z : ℕ). z * 2 ^ (E - n)) (pow-half n P))
 
 module _ (rule : Rule) (n E : ℕ) (P : 0 < n) (F : 2 * n ≤ E) (c : ℕ) (ce : End E c) where
   abbrev G : ℕ
@@ -150,130 +130,55 @@ module _ (rule : Rule) (n E : ℕ) (P : 0 < n) (F : 2 * n ≤ E) (c : ℕ) (ce :
   abbrev R : ℕ
   R = apart c (p .high * G)
 
-  abbrev low-rounded : Rounded
-  low-rounded = rounded rule n (rest rule n E c .num) (rest rule n E c .den)
-
-  low-value : Equals low-rounded (p .low) (2 ^ E)
-  unfolding whole
-  low-value = let k = rest-counts in rounded-whole rule n P (rest rule n E c .num) (rest rule n E c .den) E R (k .some) (k .count)
-
-  -- where the low part is not zero
-  low-pos : 0 < R → 0 < p .low
-  unfolding whole
-  low-pos h = rn-ge rule n P R 1 1 0 (omega arith) (pow-pos n) (omega arith)
-
-  low-form : 0 < R → LowForm n E (p .low) low-rounded
-  low-form h = of (low-rounded .exponent) refl
-    where
-      bits : HasBits n (low-rounded .significand)
-      bits =
-          let k = rest-counts in
-          let num-pos : 0 < rest rule n E c .num = pos-of (rest rule n E c .num) R (rest rule n E c .den) h (k .some) (k .count) in
-          rounded-bits rule n P (rest rule n E c .num) (rest rule n E c .den) num-pos (k .some)
-        where
-          pos-of : (a R d : ℕ) → 0 < R → 0 < d → a * 2 ^ E ≡ R * d → 0 < a
-          pos-of zero R d r D e = absurd (omega (arith, mul-pos r D))
-          pos-of (suc a) R d r D e = omega arith
-
-      of : (e : ℤ) → low-rounded .exponent ≡ e → LowForm n E (p .low) low-rounded
-      of (pos i) e =
-          let v : low-rounded .significand * 2 ^ i * 2 ^ E ≡ p .low * 1 = rw e at low-value in
-          let a : 1 ≤ low-rounded .significand * 2 ^ i = mul-pos (le-trans (pow-pos (n - 1)) (bits .least)) (pow-pos i) in
-          let b : W < 2 ^ E = pow-lt' in
-          absurd (omega (arith, mul-le-mul-right (2 ^ E) a, low-most))
-        where
-          pow-lt' : W < 2 ^ E
-          pow-lt' = omega (arith, top-is n E F, mul-le-mul-right W (pow-mono {i = 1} {j = n} P), pow-pos (E - n))
-      of (negsuc i) e =
-          let v : low-rounded .significand * 1 * 2 ^ E ≡ p .low * 2 ^ suc i = rw e at low-value in
-          record {
-            places = suc i;
-            exponent = e;
-            bits = bits;
-            value = omega arith;
-            least = least i v;
-            most = most i v;
-          }
-        where
-          least : (i : ℕ) → low-rounded .significand * 1 * 2 ^ E ≡ p .low * 2 ^ suc i → 2 * n ≤ suc (suc i)
-          least i v = go (decLe (2 * n) (suc (suc i)))
-            where
-              go : Dec (2 * n ≤ suc (suc i)) → 2 * n ≤ suc (suc i)
-              go (yes y) = y
-              go (no y) =
-                  -- p .low * 2 ^ (i + 1) is below 2 ^ (n - 1) * 2 ^ E
-                  let a : 2 ^ suc (suc i) ≤ 2 ^ (n - 1 + n) = pow-mono (omega (arith, lt-of-not-le y)) in
-                  let b = mul-le-mul low-most (le-refl (2 ^ suc i)) in
-                  let d = mul-le-mul-left W a in
-                  absurd (omega (arith, mul-le-mul-right (2 ^ E) (bits .least), pow-add 2 (n - 1) n, pow-succ' 2 (suc i), ap (λ (z : ℕ). 2 ^ (n - 1) * z) (top-is n E F), ap (λ (z : ℕ). W * z) (pow-add 2 (n - 1) n), ap (λ (z : ℕ). W * z) (pow-succ' 2 (suc i)), mul-pos (pow-pos (E - n)) (pow-pos (suc i))))
-
-          most : (i : ℕ) → low-rounded .significand * 1 * 2 ^ E ≡ p .low * 2 ^ suc i → suc i < E + n
-          most i v = lt-of-not-le (λ (g : E + n ≤ suc i). clash g)
-            where
-              clash : E + n ≤ suc i → ⊥
-              clash g =
-                  let a : 2 ^ (E + n) ≤ 2 ^ suc i = pow-mono g in
-                  omega (arith, mul-le-mul-right (2 ^ suc i) (low-pos h), mul-lt-mul-of-pos-right (bits .most) (pow-pos E), pow-add 2 E n)
-
-  -- ---- so the parts that are kept tell the whole numbers
   abbrev s : Parts
   s = partsAt rule n E c
 
-  none-is : R ≡ 0 → (s .low ≡ pos 0) × (s .places ≡ 0) × (p .minus ≡ false) × (p .low ≡ 0)
-  unfolding partsAt whole rounded
-  none-is h =
+  -- the parts, from the high significand and the signed rest
+  pub parts-from : s ≡ partsFrom rule n E (p .high) (signedOf (p .minus) R)
+  unfolding partsAt partsFrom
+  parts-from =
+      let d = rest rule n E c in
       let k = rest-counts in
-      let z : rest rule n E c .num ≡ 0 = eq-of-mul-eq-mul-right (2 ^ E) (pow-pos E) (rest rule n E c .num) 0 (omega (arith, k .count, ap (λ (z : ℕ). z * rest rule n E c .den) h)) in
-      let at-zero : rounded rule n (rest rule n E c .num) (rest rule n E c .den) ≡ record { significand = 0; exponent = pos 0; location = Exact } = ap (λ (z : ℕ). rounded rule n z (rest rule n E c .den)) z in (
-        ap (λ (r : Rounded). signedOf (rest rule n E c .minus) (r .significand)) at-zero ∙ no-sign (rest rule n E c .minus),
-        ap (λ (r : Rounded). natAbs (r .exponent)) at-zero,
-        le-ltb c (p .high * G) (omega arith),
-        ap (λ (z : ℕ). rn rule n z 1) h ∙ rn-whole-small rule n P 0 (omega arith),
-      )
-    where
-      no-sign : (b : Bool) → signedOf b 0 ≡ pos 0
-      no-sign true = refl
-      no-sign false = refl
+      let r : rounded rule n (d .num) (d .den) ≡ rounded rule n R (2 ^ E) = rounded-same rule n P (d .num) (d .den) R (2 ^ E) (k .some) (pow-pos E) (k .count) in
+      let size : R ≡ natAbs (signedOf (p .minus) R) = sym (size-of (p .minus) R) in
+      let t : rounded rule n (d .num) (d .den) ≡ rounded rule n (natAbs (signedOf (p .minus) R)) (2 ^ E) = r ∙ ap (λ (z : ℕ). rounded rule n z (2 ^ E)) size in
+      let low : signedOf (d .minus) (rounded rule n (d .num) (d .den) .significand) ≡ signedOf (negative (signedOf (p .minus) R)) (rounded rule n (natAbs (signedOf (p .minus) R)) (2 ^ E) .significand) =
+      ap₂ (λ (b : Bool) (q : Rounded). signedOf b (q .significand)) (k .sign) r
+      ∙ keep-sign rule n E (p .minus) R
+      ∙ ap (λ (z : ℕ). signedOf (negative (signedOf (p .minus) R)) (rounded rule n z (2 ^ E) .significand)) size in
+      λ i. record { high = high-is i; low = low i; places = natAbs (t i .exponent) }
 
-  some-is : (h : 0 < R) → (s .low ≡ signedOf (p .minus) (low-rounded .significand)) × (s .places ≡ low-form h .places)
-  unfolding partsAt
-  some-is h = (ap (λ (b : Bool). signedOf b (low-rounded .significand)) (rest-counts .sign), ap natAbs (low-form h .exponent) ∙ abs-negated (low-form h .places))
-    where
-      abs-negated : (q : ℕ) → natAbs (negℤ (pos q)) ≡ q
-      abs-negated zero = refl
-      abs-negated (suc q) = refl
+  rest-size : p .low ≡ rn rule n (natAbs (signedOf (p .minus) R)) 1
+  unfolding whole
+  rest-size = ap (λ (z : ℕ). rn rule n z 1) (sym (size-of (p .minus) R))
 
+  rest-bound : natAbs (signedOf (p .minus) R) ≤ W
+  rest-bound = rw (size-of (p .minus) R) rest-le
+
+  -- no rest is not negative
+  sign-is : p .minus ≡ negative (signedOf (p .minus) R)
+  unfolding whole
+  sign-is = go (ltb c (p .high * G)) refl
+    where
+      go : (b : Bool) → ltb c (p .high * G) ≡ b → b ≡ negative (signedOf b R)
+      go true e = let l = ltb-true c (p .high * G) e in sym (sign-of true R (omega arith))
+      go false e = refl
+
+  -- so the parts that are kept tell the whole numbers
   pub whole-of-parts : p ≡ wholeOf E s
-  whole-of-parts = go (decLe R 0)
+  whole-of-parts =
+      let f = from-tells rule n E P F (p .high) (signedOf (p .minus) R) rest-bound in
+      join p (partsFrom rule n E (p .high) (signedOf (p .minus) R)) (f .high) (sign-is ∙ f .sign) (rest-size ∙ f .size) ∙ ap (wholeOf E) (sym parts-from)
     where
-      join : (x y : Whole) → x .high ≡ y .high → x .minus ≡ y .minus → x .low ≡ y .low → x ≡ y
-      join x y a b d i = record { high = a i; minus = b i; low = d i }
-
-      sign-of : (b : Bool) (m : ℕ) → 0 < m → negative (signedOf b m) ≡ b
-      sign-of true zero h = absurd (omega arith)
-      sign-of true (suc m) h = refl
-      sign-of false m h = refl
-
-      go : Dec (R ≤ 0) → p ≡ wholeOf E s
-      go (yes h) =
-          let z = none-is (omega arith) in
-          join p (wholeOf E s) (sym high-is) (z .2 ∙ ap negative (sym (z .0)))
-          (z .3 ∙ sym (ap (λ (m : ℕ). m * 2 ^ E / 2 ^ s .places) (ap natAbs (z .0)) ∙ ap (λ (m : ℕ). m / 2 ^ s .places) (omega arith) ∙ zero-div (2 ^ s .places)))
-      go (no h) =
-          let r : 0 < R = lt-of-not-le h in
-          let f = low-form r in
-          let z = some-is r in
-          let m : 0 < low-rounded .significand = le-trans (pow-pos (n - 1)) (f .bits .least) in
-          join p (wholeOf E s) (sym high-is) (sym (ap negative (z .0) ∙ sign-of (p .minus) (low-rounded .significand) m))
-          (sym (ap (λ (m : ℕ). m * 2 ^ E / 2 ^ s .places) (ap natAbs (z .0) ∙ size-of (p .minus) (low-rounded .significand)) ∙ ap (λ (q : ℕ). low-rounded .significand * 2 ^ E / 2 ^ q) (z .1) ∙ ap (λ (m : ℕ). m / 2 ^ f .places) (f .value) ∙ mul-div-cancel (p .low) (pow-pos (f .places))))
+      join : (x : Whole) (y : Parts) → y .high ≡ x .high → x .minus ≡ negative (y .low) → x .low ≡ natAbs (y .low) * 2 ^ E / 2 ^ y .places → x ≡ wholeOf E y
+      join x y a b d i = record { high = sym a i; minus = b i; low = d i }
 
   -- s / 2 ^ places is the low part
   pub low-kept : natAbs (s .low) * 2 ^ E ≡ p .low * 2 ^ s .places
-  low-kept = go (decLe R 0)
-    where
-      go : Dec (R ≤ 0) → natAbs (s .low) * 2 ^ E ≡ p .low * 2 ^ s .places
-      go (yes h) = let z = none-is (omega arith) in omega (arith, ap (λ (m : ℤ). natAbs m * 2 ^ E) (z .0), ap (λ (m : ℕ). m * 2 ^ s .places) (z .3))
-      go (no h) =
-          let r : 0 < R = lt-of-not-le h in
-          let z = some-is r in
-          ap (λ (m : ℕ). m * 2 ^ E) (ap natAbs (z .0) ∙ size-of (p .minus) (low-rounded .significand)) ∙ low-form r .value ∙ ap (λ (q : ℕ). p .low * 2 ^ q) (sym (z .1))
+  low-kept =
+      let f = from-tells rule n E P F (p .high) (signedOf (p .minus) R) rest-bound in
+      rw (parts-from, rest-size) (f .value)
+
+  -- s = q = 0 where there is no rest; else |s| has n bits, and the range of q is known
+  pub low-tells : Tells n E (p .high) (signedOf (p .minus) R) (rn rule n (natAbs (signedOf (p .minus) R)) 1) s
+  low-tells = rw parts-from (from-tells rule n E P F (p .high) (signedOf (p .minus) R) rest-bound)

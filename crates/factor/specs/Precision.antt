@@ -1,7 +1,9 @@
 -- What belongs to a precision n (document 01: "Limits and exponents that belong to a precision are named once, with the precision"). Definitions only. Assumes nothing.
-use mathlib.Core.Bool.{Bool, _||_}
-use Prim.Native.Nat.{ℕ, _-_, _^_}
+use mathlib.Core.Bool.{Bool, _||_, cond}
+use Prim.Native.Nat.{ℕ, _-_, _^_, _≤_}
 use lib.Dec.{ltb, leb}
+use Rattle.factor.specs.declared.PrecisionAnswer.{PrecisionAnswer}
+use Rattle.factor.specs.declared.PrecisionAnswer.the-variants.{Accepted, Refused}
 
 -- the scale E of the ends: an end c stands for c / 2 ^ E
 abbrev pub scaleOf : ℕ → ℕ
@@ -21,6 +23,15 @@ mostOf n = 2 ^ n - 1
 -- refusal 11: precision not 4 to 24
 abbrev pub precisionOut : ℕ → Bool
 precisionOut n = ltb n 4 || ltb 24 n
+
+-- what is known of a precision that was accepted
+pub record Kept (n : ℕ) : Type 0 where
+  pub least : 4 ≤ n
+  pub most : n ≤ 24
+
+-- the precision, or refusal 11
+abbrev pub newPrecision : ℕ → PrecisionAnswer
+newPrecision n = cond (precisionOut n) (Refused 11) (Accepted (record { bits = n }))
 
 -- refusal 17: a significand outside 2 ^ (n - 1) to 2 ^ n - 1
 abbrev pub significandOut : (n X : ℕ) → Bool

@@ -75,15 +75,12 @@ setUp n k L U =
 abbrev pub sameFloat : Float → Float → Bool
 sameFloat x y = eqb (toBits binary32 x) (toBits binary32 y)
 
+abbrev pub sameApplied : Applied → Applied → Bool
+sameApplied a b = sameFloat (a .high) (b .high) && (sameFloat (a .low) (b .low) && sameZ (a .scale) (b .scale))
+
+-- the stored parts of two factors with the same precision and ends
 abbrev pub sameFactor : Factor → Factor → Bool
-sameFactor f g =
-    eqb (f .precision .bits) (g .precision .bits)
-    && (eqb (f .lower) (g .lower)
-    && (eqb (f .upper) (g .upper)
-    && (sameHigh (f .parts) (g .parts)
-    && (sameLow (f .parts) (g .parts)
-    && (sameFloat (f .applied .high) (g .applied .high)
-    && (sameFloat (f .applied .low) (g .applied .low) && sameZ (f .applied .scale) (g .applied .scale)))))))
+sameFactor f g = sameHigh (f .parts) (g .parts) && (sameLow (f .parts) (g .parts) && sameApplied (f .applied) (g .applied))
 
 -- f is what a set-up gave
 abbrev pub given : Factor → SetUp → Bool

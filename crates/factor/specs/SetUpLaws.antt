@@ -11,7 +11,9 @@ use Rattle.factor.specs.declared.Parts.{Parts}
 use Rattle.factor.specs.declared.Factor.{Factor}
 use Rattle.factor.specs.declared.SetUp.{SetUp}
 use Rattle.factor.specs.declared.SetUp.the-variants.{Accepted, Refused}
-use Rattle.factor.specs.Precision.{precisionOut}
+use Rattle.factor.specs.declared.Precision.{Precision}
+use Rattle.factor.specs.declared.PrecisionAnswer.{PrecisionAnswer}
+use Rattle.factor.specs.Precision.{Kept, precisionOut, newPrecision}
 use Rattle.factor.specs.Whole.{End}
 use Rattle.factor.specs.SetUp.{endOut, scaleOut, sameHigh, sameZ, sameLow, partsOf, appliedOf, factorOf, setUp, sameFloat, sameFactor, given, intact, Sound}
 
@@ -44,6 +46,56 @@ same-parts p q h l =
 
 pub end-in : (E c : ℕ) → endOut E c ≡ false → End E c
 end-in E c e = let t = or-false (ltb c (2 ^ E)) (leb (2 ^ suc E) c) e in record { from = ltb-false c (2 ^ E) (t .0); to = leb-false (2 ^ suc E) c (t .1) }
+
+-- ---- a precision by its answer
+pub precision-refused : (n j : ℕ) → newPrecision n ≡ PrecisionAnswer.Refused j → precisionOut n ≡ true
+precision-refused n j = go (precisionOut n)
+  where
+    go : (b : Bool) → cond b (PrecisionAnswer.Refused 11) (PrecisionAnswer.Accepted (record { bits = n })) ≡ PrecisionAnswer.Refused j → b ≡ true
+    go true e = refl
+    go false e = cc
+
+pub precision-kept : (n : ℕ) (p : Precision) → newPrecision n ≡ PrecisionAnswer.Accepted p → (precisionOut n ≡ false) × (p .bits ≡ n)
+precision-kept n p = go (precisionOut n)
+  where
+    go : (b : Bool) → cond b (PrecisionAnswer.Refused 11) (PrecisionAnswer.Accepted (record { bits = n })) ≡ PrecisionAnswer.Accepted p → (b ≡ false) × (p .bits ≡ n)
+    go true e = (cc, cc)
+    go false e = (refl, let same : record { bits = n } ≡ p = cc in ap (λ (q : Precision). q .bits) (sym same))
+
+pub kept-in : (n : ℕ) → precisionOut n ≡ false → Kept n
+kept-in n e = let t = or-false (ltb n 4) (ltb 24 n) e in record { least = ltb-false n 4 (t .0); most = ltb-false 24 n (t .1) }
+
+-- ---- each answer of set-up under its condition, those before it not holding
+module _ (n : ℕ) (k : ℤ) (L U : ℕ) where
+  pub answer-11 : precisionOut n ≡ true → setUp n k L U ≡ Refused 11
+  unfolding setUp
+  answer-11 a = rw a
+
+  pub answer-12 : precisionOut n ≡ false → endOut 62 L || endOut 62 U ≡ true → setUp n k L U ≡ Refused 12
+  unfolding setUp
+  answer-12 a b = rw (a, b)
+
+  module _ (a : precisionOut n ≡ false) (b : endOut 62 L || endOut 62 U ≡ false) where
+    pub answer-13 : ltb U L ≡ true → setUp n k L U ≡ Refused 13
+    unfolding setUp
+    answer-13 c = rw (a, b, c)
+
+    pub answer-14 : ltb U L ≡ false → scaleOut k ≡ true → setUp n k L U ≡ Refused 14
+    unfolding setUp
+    answer-14 c d = rw (a, b, c, d)
+
+    module _ (c : ltb U L ≡ false) (d : scaleOut k ≡ false) where
+      pub answer-15 : sameHigh (partsOf n L) (partsOf n U) ≡ false → setUp n k L U ≡ Refused 15
+      unfolding setUp
+      answer-15 e = rw (a, b, c, d, e)
+
+      pub answer-16 : sameHigh (partsOf n L) (partsOf n U) ≡ true → sameLow (partsOf n L) (partsOf n U) ≡ false → setUp n k L U ≡ Refused 16
+      unfolding setUp
+      answer-16 e f = rw (a, b, c, d, e, f)
+
+      pub answer-factor : sameHigh (partsOf n L) (partsOf n U) ≡ true → sameLow (partsOf n L) (partsOf n U) ≡ true → setUp n k L U ≡ Accepted (factorOf n k L U)
+      unfolding setUp
+      answer-factor e f = rw (a, b, c, d, e, f)
 
 -- ---- set-up gave f
 pub setUp-sound : (n : ℕ) (k : ℤ) (L U : ℕ) (f : Factor) → setUp n k L U ≡ Accepted f → (f ≡ factorOf n k L U) × Sound (factorOf n k L U)
@@ -113,10 +165,7 @@ module _ (f : Factor) (e : intact f ≡ true) where
   unfolding appliedOf
   intact-sound =
       let s = setUp-sound n k (f .lower) (f .upper) g intact-accepted .1 in
-      let a = and-true (eqb n n) _ same-as .1 in
-      let b = and-true (eqb (f .lower) (f .lower)) _ a .1 in
-      let c = and-true (eqb (f .upper) (f .upper)) _ b .1 in
-      let h = and-true (sameHigh (f .parts) (g .parts)) _ c in
+      let h = and-true (sameHigh (f .parts) (g .parts)) _ same-as in
       let l = and-true (sameLow (f .parts) (g .parts)) _ (h .1) in
       let x = and-true (sameFloat (f .applied .high) (g .applied .high)) _ (l .1) in
       let y = and-true (sameFloat (f .applied .low) (g .applied .low)) _ (x .1) in
@@ -144,9 +193,6 @@ accepted-intact n k L U f e =
     itself : (f : Factor) → sameFactor f f ≡ true
     itself f =
         rw (
-          eq-eqb (f .precision .bits) (f .precision .bits) refl,
-          eq-eqb (f .lower) (f .lower) refl,
-          eq-eqb (f .upper) (f .upper) refl,
           eq-eqb (f .parts .high) (f .parts .high) refl,
           sameZ-same (f .parts .low),
           eq-eqb (f .parts .places) (f .parts .places) refl,

@@ -2,11 +2,12 @@
 use mathlib.Core.Bool.{Bool, cond}
 use Prim.Native.Nat.{ℕ, suc, _+_, _-_, _*_, _/_, _^_, _≤_, _<_}
 use lib.Dec.{ltb}
-use lib.IntN.{natAbs}
+use lib.IntN.{ℤ, natAbs}
 use Rattle.rounding.specs.Apart.{apart}
 use Rattle.rounding.specs.Grid.{Rule, nearest}
 use Rattle.rounding.specs.Unit.{rn}
-use Rattle.rounding.specs.Signed.{negative}
+use Rattle.rounding.specs.Round.{rounded}
+use Rattle.rounding.specs.Signed.{negative, signedOf}
 use Rattle.factor.specs.declared.Parts.{Parts}
 
 -- an end c of the scale E: c / 2 ^ E is from 1 to below 2
@@ -41,3 +42,10 @@ worth n E p = plusOrMinus (p .minus) (p .high * step n E) (p .low)
 -- the low part, s over 2 ^ places, is a whole number of the unit
 abbrev pub wholeOf : (E : ℕ) → Parts → Whole
 wholeOf E s = record { high = s .high; minus = negative (s .low); low = natAbs (s .low) * 2 ^ E / 2 ^ s .places }
+
+-- the parts that are kept, from the high significand and the rest, C - Ch, as a signed whole number of the unit
+unfoldable pub partsFrom : Rule → (n E h : ℕ) → ℤ → Parts
+unfolding rounded
+partsFrom rule n E h z =
+    let r = rounded rule n (natAbs z) (2 ^ E) in
+    record { high = h; low = signedOf (negative z) (r .significand); places = natAbs (r .exponent) }

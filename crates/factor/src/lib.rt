@@ -1,5 +1,22 @@
 // A factor known only between two ends (document 01, "A factor"): its precision, its high and low part, and every refusal of one.
 
+use rounding::TieRule;
+ghost use mathlib.Core.Path.{_≡_};
+ghost use Prim.Native.Nat.{_+_, _-_, _*_, _<_, _≤_, _^_};
+ghost use mathlib.Core.Bool.{false, not};
+ghost use lib.Dec.{T, ltb};
+ghost use lib.Ieee;
+ghost use lib.Ieee.{binary32, isNan};
+ghost use lib.IntN.{natAbs};
+ghost use Rattle.rounding.specs.Apart.{apart};
+ghost use Rattle.rounding.specs.Grid.{toEven};
+ghost use Rattle.rounding.specs.Signed.{negative, signedOf};
+ghost use Rattle.factor.specs.Precision.{Kept, newPrecision, leastOf, mostOf};
+ghost use Rattle.factor.specs.Whole.{End, partsFrom};
+ghost use Rattle.factor.specs.Parts.{partsAt};
+ghost use Rattle.factor.specs.SetUp.{endOut, scaleOut, sameLow, sameFloat, sameApplied, sameFactor, setUp, intact};
+ghost use Rattle.factor.specs.Stored.{LowStorable, Storable, appliedFrom};
+
 // A precision n: how many bits a significand has. What belongs to a precision is named here, once.
 pub struct Precision {
     pub bits: u32,
@@ -34,17 +51,282 @@ pub enum SetUp {
     Refused(u32),
 }
 
+// The answer to a precision: the precision, or refusal 11.
+pub enum PrecisionAnswer {
+    Accepted(Precision),
+    Refused(u32),
+}
+
 impl Precision {
     // The limits of a precision.
     pub const LEAST: u32 = 4;
 
     pub const MOST: u32 = 24;
-    // The ends are whole numbers over 2 ^ 62.
+    // The ends are whole numbers over 2 ^ SCALE, from 2 ^ SCALE to 2 ^ (SCALE + 1) - 1.
     pub const SCALE: u32 = 62;
-    // Digits dropped of a product below 2, and of one from 2 on, both counted in the unit 2 ^ - (61 + n).
+
+    pub const LEAST_END: u64 = 4611686018427387904;
+
+    pub const PAST_END: u64 = 9223372036854775808;
+    // Digits dropped of a product below 2, and of one from 2 on, both counted in the unit 2 ^ - (SCALE + n - 1).
     pub const LOW_DROPPED: u32 = 62;
 
     pub const HIGH_DROPPED: u32 = 63;
     // A search takes at most so many rounds.
     pub const ROUNDS: u64 = 64;
+
+    // A precision, or refusal 11.
+    pub fn new(bits: u32) -> PrecisionAnswer
+        ensures { λ r. ⌜ r ≡ newPrecision bits ⌝ }
+    {
+        if bits < Precision::LEAST {
+            return PrecisionAnswer::Refused(11);
+        }
+        if Precision::MOST < bits {
+            return PrecisionAnswer::Refused(11);
+        }
+        PrecisionAnswer::Accepted(Precision { bits })
+    }
+
+    // The least significand, 2 ^ (n - 1).
+    pub fn least(self) -> u64
+        requires { ⌜ Kept (self .bits) ⌝ }
+        ensures { λ r. ⌜ r ≡ leastOf (self .bits) ⌝ }
+    {
+        let n = self.bits;
+        wide::power(n - 1)
+    }
+
+    // The largest significand, 2 ^ n - 1.
+    pub fn most(self) -> u64
+        requires { ⌜ Kept (self .bits) ⌝ }
+        ensures { λ r. ⌜ r ≡ mostOf (self .bits) ⌝ }
+    {
+        let n = self.bits;
+        wide::power(n) - 1
+    }
+
+    // The exponent of the high significand's step in the unit of the ends: 63 - n.
+    pub fn step(self) -> u32
+        requires { ⌜ Kept (self .bits) ⌝ }
+        ensures { λ r. ⌜ r ≡ 62 + 1 - self .bits ⌝ }
+    {
+        Precision::SCALE + 1 - self.bits
+    }
+
+    // The exponent of W: 62 - n.
+    pub fn window(self) -> u32
+        requires { ⌜ Kept (self .bits) ⌝ }
+        ensures { λ r. ⌜ r ≡ 62 - self .bits ⌝ }
+    {
+        Precision::SCALE - self.bits
+    }
+}
+
+// C - Ch in the unit of the ends, signed.
+fn rest_of(end: u64, whole: u64) -> i64
+    requires { ⌜ apart end whole < 2 ^ 63 ⌝ }
+    ensures { λ r. ⌜ r ≡ signedOf (ltb end whole) (apart end whole) ⌝ }
+{
+    if end < whole {
+        return round::with_sign(true, whole - end);
+    }
+    round::with_sign(false, end - whole)
+}
+
+// The parts from the high significand and the rest: the low part is the rest rounded, its exact sign kept.
+fn parts_from(p: Precision, high: u64, rest: i64) -> Parts
+    requires { ⌜ Kept (p .bits) × (natAbs rest ≤ 2 ^ (62 - p .bits)) ⌝ }
+    ensures { λ r. ⌜ r ≡ partsFrom toEven (p .bits) 62 high rest ⌝ }
+{
+    let n = p.bits;
+    let r = round::round_signed(rest, n, TieRule::ToEven);
+    let low = r.significand;
+    if round::magnitude(rest) == 0 {
+        return Parts {
+            high,
+            low,
+            places: 0,
+        };
+    }
+    Parts {
+        high,
+        low,
+        places: (62 - r.exponent) as u32,
+    }
+}
+
+// The parts at one end.
+pub fn parts_at(p: Precision, end: u64) -> Parts
+    requires { ⌜ Kept (p .bits) × End 62 end ⌝ }
+    ensures { λ r. ⌜ r ≡ partsAt toEven (p .bits) 62 end ⌝ }
+{
+    let k = p.step();
+    let near = round::nearest_word(end, k, TieRule::ToEven);
+    let high = near.taken;
+    parts_from(p, high, rest_of(end, high << k))
+}
+
+// m * 2 ^ field / 2 ^ 149 with a sign, as a binary32 number: m has 24 bits, or is 2 ^ 24.
+fn float_of(minus: bool, field: u32, m: u32) -> f32
+    requires { ⌜ (2 ^ 23 ≤ m) × (m ≤ 2 ^ 24) × (field < 253) ⌝ }
+    ensures { λ r. ⌜ r ≡ Ieee.round binary32 minus (m * 2 ^ field) (2 ^ 149) ⌝ }
+{
+    if minus {
+        return f32::from_bits(2147483648 + (field * 8388608 + m));
+    }
+    f32::from_bits(field * 8388608 + m)
+}
+
+// The high part as a binary32 number.
+fn high_float(n: u32, high: u64) -> f32
+    requires { ⌜ Kept n × (leastOf n ≤ high) × (high ≤ 2 ^ n) ⌝ }
+    ensures { λ r. ⌜ r ≡ Ieee.round binary32 false high (2 ^ (n - 1)) ⌝ }
+{
+    let up = Precision::MOST - n;
+    float_of(false, 126, (high << up) as u32)
+}
+
+// The low part as a binary32 number; a zero low part is plus zero.
+fn low_float(n: u32, low: i64, places: u32) -> f32
+    requires { ⌜ Kept n × LowStorable n low places ⌝ }
+    ensures { λ r. ⌜ r ≡ Ieee.round binary32 (negative low) (natAbs low) (2 ^ places) ⌝ }
+{
+    let size = round::magnitude(low);
+    if size == 0 {
+        return f32::from_bits(0);
+    }
+    let up = Precision::MOST - n;
+    float_of(low < 0, 125 + n - places, (size << up) as u32)
+}
+
+// What a handheld applies, from the parts.
+fn stored_parts(p: Precision, parts: Parts, scale: i32) -> Applied
+    requires { ⌜ Kept (p .bits) × Storable (p .bits) parts ⌝ }
+    ensures { λ r. ⌜ r ≡ appliedFrom (p .bits) scale parts ⌝ }
+{
+    let n = p.bits;
+    let high = high_float(n, parts.high);
+    let low = low_float(n, parts.low, parts.places);
+    Applied { high, low, scale }
+}
+
+// Refusal 12: an end not 2 ^ 62 to 2 ^ 63 - 1.
+fn end_out(end: u64) -> bool
+    ensures { λ r. ⌜ r ≡ endOut 62 end ⌝ }
+{
+    if end < Precision::LEAST_END {
+        return true;
+    }
+    Precision::PAST_END <= end
+}
+
+// Refusal 14: scale not -100 to 100.
+fn scale_out(scale: i32) -> bool
+    ensures { λ r. ⌜ r ≡ scaleOut scale ⌝ }
+{
+    if scale < -100 {
+        return true;
+    }
+    100 < scale
+}
+
+// Whether two low parts are the same.
+fn same_low(p: Parts, q: Parts) -> bool
+    ensures { λ r. ⌜ r ≡ sameLow p q ⌝ }
+{
+    if p.low == q.low {
+        return p.places == q.places;
+    }
+    false
+}
+
+// Set-up from a precision, a scale and two ends: the factor, or the first refusal whose condition holds.
+pub fn set_up(precision: u32, scale: i32, lower: u64, upper: u64) -> SetUp
+    ensures { λ r. ⌜ r ≡ setUp precision scale lower upper ⌝ }
+{
+    let PrecisionAnswer::Accepted(p) = Precision::new(precision) else {
+        return SetUp::Refused(11);
+    };
+    if end_out(lower) {
+        return SetUp::Refused(12);
+    }
+    if end_out(upper) {
+        return SetUp::Refused(12);
+    }
+    if upper < lower {
+        return SetUp::Refused(13);
+    }
+    if scale_out(scale) {
+        return SetUp::Refused(14);
+    }
+    let parts = parts_at(p, lower);
+    let other = parts_at(p, upper);
+    if parts.high != other.high {
+        return SetUp::Refused(15);
+    }
+    if same_low(parts, other) {
+        let stored = stored_parts(p, parts, scale);
+        return SetUp::Accepted(Factor {
+            precision: p,
+            lower,
+            upper,
+            parts,
+            applied: stored,
+        });
+    }
+    SetUp::Refused(16)
+}
+
+// Whether two floats are the same bit for bit, the second being a number.
+fn same_float(x: f32, y: f32) -> bool
+    requires { ⌜ T (not (isNan y)) ⌝ }
+    ensures { λ r. ⌜ r ≡ sameFloat x y ⌝ }
+{
+    if x != x {
+        return false;
+    }
+    f32::to_bits(x) == f32::to_bits(y)
+}
+
+// Whether what is stored is the same bit for bit, the second being numbers.
+fn same_applied(a: Applied, b: Applied) -> bool
+    requires { ⌜ T (not (isNan (b .high))) × T (not (isNan (b .low))) ⌝ }
+    ensures { λ r. ⌜ r ≡ sameApplied a b ⌝ }
+{
+    if same_float(a.high, b.high) {
+        if same_float(a.low, b.low) {
+            return a.scale == b.scale;
+        }
+    }
+    false
+}
+
+// Whether a factor is the one that was set up from its own precision, scale and ends.
+fn same_factor(f: Factor, g: Factor) -> bool
+    requires { ⌜ T (not (isNan (g .applied .high))) × T (not (isNan (g .applied .low))) ⌝ }
+    ensures { λ r. ⌜ r ≡ sameFactor f g ⌝ }
+{
+    let p = f.parts;
+    let q = g.parts;
+    if p.high == q.high {
+        if same_low(p, q) {
+            let a = f.applied;
+            let b = g.applied;
+            return same_applied(a, b);
+        }
+    }
+    false
+}
+
+// The check behind refusal 31: whether a factor's stored parts are those that its ends, precision and scale set up, and those are not refused.
+pub fn is_intact(f: Factor) -> bool
+    ensures { λ r. ⌜ r ≡ intact f ⌝ }
+{
+    let p = f.precision;
+    let a = f.applied;
+    match set_up(p.bits, a.scale, f.lower, f.upper) {
+        SetUp::Accepted(g) => same_factor(f, g),
+        SetUp::Refused(_) => false,
+    }
 }

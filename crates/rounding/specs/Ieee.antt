@@ -5,13 +5,14 @@ use mathlib.Core.Bool.{Bool, true, false, cond}
 use Prim.Native.Nat.{ℕ, suc, _+_, _-_, _*_, _/_, _%_, _^_, _≤_, _<_, compare, Ordering, Ordering·lt, Ordering·eq, Ordering·gt}
 use native.Mathlib.Nat.{div-add-mod', mod-lt, mul-pos, mul-right-comm, eq-of-mul-eq-mul-right, lt-of-le-of-lt}
 use native.Mathlib.Omega.{arith}
-use lib.Dec.{isLe, isEq, lit<}
+use lib.Dec.{T, isLe, isEq, lit<}
 use lib.Pow.{pow-pos}
 use lib.Ieee
-use lib.Ieee.{Float, nan, inf, fin, Format, binary32, binary64, prec, emax, low, up, down}
+use lib.Ieee.{Float, nan, inf, fin, Format, binary32, binary64, prec, emax, low, up, down, hid, top, size, fits, toBits, ofBits}
+use lib.Ieee.Bits.{ofBits-toBits}
 use lib.Ieee.Exact.{HasValue, units-val}
-use lib.Ieee.Fits.{round-is, two, two-le-pos}
-use lib.Ieee.Nearest.{closest}
+use lib.Ieee.Fits.{round-is, two, two-le-pos, down-pos}
+use lib.Ieee.Nearest.{closest, div-same}
 use lib.Ieee.Order
 use lib.Ieee.Order.{drop}
 use lib.Ieee.Scale.{grid, overflow}
@@ -21,7 +22,7 @@ use Rattle.rounding.specs.Grid.{nearest, toEven}
 use Rattle.rounding.specs.GridLaws.{Nearest, tie-remainder, choose-nearest, nearest-only}
 use Rattle.rounding.specs.Digits.{pow-half}
 use Rattle.rounding.specs.Unit.{kept, rn}
-use Rattle.rounding.specs.UnitLaws.{rn-le}
+use Rattle.rounding.specs.UnitLaws.{rn-le, rn-fixed}
 use Rattle.rounding.specs.Round.{rounded, Equals}
 use Rattle.rounding.specs.RoundLaws.{rounded-value}
 
@@ -91,3 +92,29 @@ rounded-is-ieee f s N d D w =
     revalue (Ieee.round f s N d) s (grid f N d) (2 ^ low f) (r .significand * up (r .exponent)) (down (r .exponent)) (pow-pos (low f))
     (sym (v ∙ ap (λ (z : ℕ). z * down (r .exponent)) g))
     (round-value f s N d (lt-of-le-of-lt (subst (λ (z : ℕ). z ≤ (2 ^ p - 1) * 2 ^ (2 * emax f - 1)) g b) (largest f)))
+
+-- ---- floats by their values
+-- the bit pattern of a number of units of the smallest value
+patternOf : Format → Bool → ℕ → ℕ
+patternOf f s n = cond s (top f) 0 + (size n - prec f) * hid f + n / 2 ^ (size n - prec f)
+
+bits-of-value : (f : Format) (x : Float) (s : Bool) (a c : ℕ) → 0 < c → HasValue x s a c → toBits f x ≡ patternOf f s (a * 2 ^ low f / c)
+unfolding toBits patternOf
+bits-of-value f nan s a c p v = absurd v
+bits-of-value f (inf t) s a c p v = absurd v
+bits-of-value f (fin t m e) s a c p v =
+    ap (λ (u : Bool). patternOf f u (m * up e * 2 ^ low f / down e)) (v .0)
+    ∙ ap (λ (n : ℕ). patternOf f s n)
+    (div-same (m * up e * 2 ^ low f) (down e) (a * 2 ^ low f) c (down-pos e) p
+    (mul-right-comm (m * up e) (2 ^ low f) c ∙ ap (λ (z : ℕ). z * 2 ^ low f) (v .1) ∙ mul-right-comm a (down e) (2 ^ low f)))
+
+-- two values of a format that are the same number with the same sign are the same value
+pub value-unique : (f : Format) (x y : Float) (s : Bool) (a c : ℕ) → 0 < c → T (fits f x) → T (fits f y) → HasValue x s a c → HasValue y s a c → x ≡ y
+value-unique f x y s a c p hx hy v w =
+    sym (ofBits-toBits f x hx) ∙ ap (λ (n : ℕ). ofBits f n) (bits-of-value f x s a c p v ∙ sym (bits-of-value f y s a c p w)) ∙ ofBits-toBits f y hy
+
+-- a number with a significand of at most `prec` bits, the carry included, is rounded to itself
+pub round-itself : (f : Format) (s : Bool) (a c m j : ℕ) → 0 < c → m ≤ 2 ^ prec f → a * 2 ^ low f ≡ m * 2 ^ j * c → m * 2 ^ j < overflow f → HasValue (Ieee.round f s a c) s a c
+round-itself f s a c m j C small e fine =
+    let g : grid f a c ≡ m * 2 ^ j = sym (rn-grid f a c C) ∙ ap (λ (z : ℕ). rn toEven (prec f) z c) e ∙ rn-fixed toEven (prec f) (two-le-pos (prec f) (two f)) m j c C small in
+    revalue (Ieee.round f s a c) s (grid f a c) (2 ^ low f) a c (pow-pos (low f)) (ap (λ (z : ℕ). z * c) g ∙ sym e) (round-value f s a c (rw g fine))

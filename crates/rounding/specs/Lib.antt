@@ -13,3 +13,4 @@ pub mod FractionLaws
 pub mod Ieee
 pub mod Whole
 pub mod Signed
+pub mod Binary32

@@ -107,6 +107,19 @@ module _ (rule : Rule) (n : ℕ) (P : 0 < n) where
       one-le : (k : ℕ) → 1 ≤ suc k
       one-le k = omega arith
 
+  pub rounded-same : (N d M e : ℕ) → 0 < d → 0 < e → N * e ≡ M * d → rounded rule n N d ≡ rounded rule n M e
+  unfolding rounded
+  rounded-same zero d M e D Q h =
+      let m : M ≡ 0 = eq-of-mul-eq-mul-right d D M 0 (sym h ∙ omega arith) in
+      ap (λ (z : ℕ). rounded rule n z e) (sym m)
+  rounded-same (suc K) d M e D Q h =
+      let t = n + size d in
+      let A = suc K * 2 ^ t in
+      sym (rounded-at M e t A d Q D (omega (arith, ap (λ (z : ℕ). z * 2 ^ t) h)) (omega (arith, mul-le-mul-left (2 ^ n) (le-of-lt (size-lt d)), pow-add 2 n (size d), mul-le-mul-right (2 ^ t) (one-le K))))
+    where
+      one-le : (k : ℕ) → 1 ≤ suc k
+      one-le k = omega arith
+
   -- ---- its value
   normalised-value : (k j t : ℕ) (l : Location) → Equals (normalised n k j t l) (k * 2 ^ j) (2 ^ t)
   unfolding normalised

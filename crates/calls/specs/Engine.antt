@@ -1,0 +1,59 @@
+-- Definitions: a factor as a sweep sees it, and the few facts that the numerics must supply of it.
+use mathlib.Core.Path.{_≡_}
+use mathlib.Core.Bool.{Bool, true, false, cond}
+use mathlib.Core.Logic.{_≢_}
+use Prim.Native.Nat.{ℕ, suc, _≤_, _<_, min}
+use lib.Dec.{ltb}
+use Rattle.marks.specs.declared.Mark.{Mark}
+use Rattle.marks.specs.declared.Mark.the-variants.{Right}
+use Rattle.search.specs.declared.Place.{Place}
+use Rattle.search.specs.declared.Place.the-variants.{At, Nowhere}
+use Rattle.search.specs.declared.Found.{Found}
+
+-- The halves of the significands: "X is low if L × X < 2^(62+n), else high".
+pub data Half : Type 0 where
+  low high : Half
+
+-- The half of a significand.
+abbrev pub halfOf : (firstHigh a : ℕ) → Half
+halfOf firstHigh a = cond (ltb a firstHigh) low high
+
+-- Where the low half's part of a range ends: before the first high significand, or past the last of the range.
+abbrev pub lowEnd : (firstHigh last : ℕ) → ℕ
+lowEnd firstHigh last = min firstHigh (suc last)
+
+-- What a sweep call asks of a factor. F is the type of factors.
+pub record Engine (F : Type 0) : Type 0 where
+  -- whether 31 refuses it
+  pub faulty : F → Bool
+  -- whether 17 refuses the range from a first to a last significand
+  pub badRange : F → ℕ → ℕ → Bool
+  -- the mark of a significand's product
+  pub mark : F → ℕ → Mark
+  -- the first high significand: those before it are low
+  pub firstHigh : F → ℕ
+  -- the search in a half, from a significand on: the place that it finds, be it past the half or past the range, and its rounds
+  pub find : F → Half → ℕ → Found
+
+-- The place is the least suspect from a on, as far as it lies before the end; a place at or past the end says that none lies before the end.
+abbrev pub Least : (ℕ → Bool) → ℕ → ℕ → Place → Type 0
+Least suspect end a (At X) = (a ≤ X) × (X < end → suspect X ≡ true) × ((Y : ℕ) → a ≤ Y → Y < X → Y < end → suspect Y ≡ false)
+Least suspect end a Nowhere = (Y : ℕ) → a ≤ Y → Y < end → suspect Y ≡ false
+
+-- What the numerics must supply for one factor f, which 31 does not refuse, and one range, which 17 does not refuse. B is the most rounds that a search takes.
+-- Of the first high significand nothing is asked but that each half's search is sound on its side of it.
+pub record Laws {F : Type 0} (suspect : ℕ → Bool) (e : Engine F) (f : F) (B first last : ℕ) : Type 0 where
+  -- 17 refuses "a range's first above its last"
+  pub ordered : first ≤ last
+  -- "every X that is not right is a suspect"
+  pub suspected : (X : ℕ) → first ≤ X → X ≤ last → e .mark f X ≢ Right → suspect X ≡ true
+  -- the search in the low half finds the least suspect from its start on, as far as the half and the range go
+  pub finds-low : (a : ℕ) → first ≤ a → a ≤ last → a < e .firstHigh f → Least suspect (lowEnd (e .firstHigh f) last) a (e .find f low a .place)
+  -- the search in the high half does so too, as far as the range goes
+  pub finds-high : (a : ℕ) → first ≤ a → a ≤ last → e .firstHigh f ≤ a → Least suspect (suc last) a (e .find f high a .place)
+  -- a search takes at most B rounds
+  pub few : (a : ℕ) → first ≤ a → a ≤ last → e .find f (halfOf (e .firstHigh f) a) a .rounds ≤ B
+
+-- An engine is lawful if the laws hold for each factor that 31 does not refuse and each range that 17 does not refuse.
+abbrev pub Lawful : {F : Type 0} → (F → ℕ → Bool) → Engine F → (F → ℕ) → Type 0
+Lawful {F} suspect e B = (f : F) (first last : ℕ) → e .faulty f ≡ false → e .badRange f first last ≡ false → Laws (suspect f) e f (B f) first last

@@ -1,0 +1,97 @@
+-- Laws: how many accepted calls the plain sweep takes to its finish, counted by the least number that each of them tries. Assumes nothing.
+use mathlib.Core.Path.{_≡_, refl, ap, _∙_}
+use mathlib.Core.Bool.{Bool, true, false, true≢false, false≢true}
+use mathlib.Core.List.{List, [], _∷_}
+use Prim.Native.Nat.{ℕ, suc, _+_, _-_, _*_, _≤_, _<_, min}
+use native.Mathlib.Omega.{arith}
+use native.Mathlib.Nat.{add-zero, zero-add, add-assoc, add-mul, one-mul, zero-mul}
+use lib.ListN.{length, drop, length-drop}
+use Rattle.calls.specs.State.{Refusal, number, none, Call}
+use Rattle.calls.specs.Plain.{tries, Fed, Plain, begun, untried, moved, plainReplied, plainRefusal, plainCall, plainNext, plains, plainAfter}
+use Rattle.calls.specs.Whole.{acceptedTold, acceptedIn}
+use Rattle.calls.specs.Refusals.{taken}
+use Rattle.calls.specs.Tries.{tries-within, tries-ample}
+
+-- A call that may be accepted has a cap and free places of at least m.
+abbrev pub Roomy : ℕ → Call → Type 0
+Roomy m c = 0 < c .cap → c .free < length (c .list) → (m ≤ c .cap) × (m ≤ length (c .list) - c .free)
+
+-- Each call of a list is such.
+abbrev pub AllRoomy : ℕ → List Call → Type 0
+AllRoomy m [] = Unit {0}
+AllRoomy m (c ∷ cs) = Roomy m c × AllRoomy m cs
+
+-- After n accepted calls: finished with all of the row tried, or going on, with at least m tried in each of them and some of the row left.
+pub record Count (total m : ℕ) (p : Plain) (n : ℕ) : Type 0 where
+  pub fits : p .tried ≤ total
+  pub closed : p .finished ≡ true → (1 ≤ n) × (p .tried ≡ total)
+  pub going : p .finished ≡ false → (n * m ≤ p .tried) × (0 < n → p .tried < total)
+
+one-more : (n m : ℕ) → (n + 1) * m ≡ n * m + m
+one-more n m = add-mul n 1 m ∙ ap (λ (k : ℕ). n * m + k) (one-mul m)
+
+-- k more are tried of a row of which l was left, and r is left now
+count-moved : (total m last n t k : ℕ) (l r : List ℕ) → n * m ≤ t → t ≤ total → length l ≡ total - t → k ≤ length l → (k < length l → m ≤ k) → drop k l ≡ r
+    → Count total m (moved last (t + k) r) (n + 1)
+count-moved total m last n t k l [] a b d g h e =
+    let z = length-drop k l in
+    let y : length (drop k l) ≡ 0 = ap length e in
+    record { fits = omega arith; closed = λ q. omega arith; going = λ q. absurd (true≢false q) }
+count-moved total m last n t k l (x ∷ r) a b d g h e =
+    let z = length-drop k l in
+    let y : length (drop k l) ≡ suc (length r) = ap length e in
+    let i = h (omega arith) in
+    record {
+      fits = omega arith;
+      closed = λ q. absurd (false≢true q);
+      going = λ q. (omega (arith, one-more n m), λ i. omega arith);
+    }
+
+module _ {F : Type 0} (w : Fed F) (m : ℕ) where
+  count-next : (p : Plain) (n : ℕ) (c : Call) → Roomy m c → Count (length (w .suspects)) m p n
+      → Count (length (w .suspects)) m (plainNext w p c .plain) (n + acceptedTold (plainNext w p c .told))
+  unfolding plainCall
+  count-next p n c big count = go (plainRefusal (p .finished) (c .cap) (length (c .list)) (c .free)) refl
+    where
+      l : List ℕ
+      l = untried w p
+
+      k : ℕ
+      k = tries (w .mark) (c .cap) (length (c .list) - c .free) l
+
+      go : (v : Refusal) → plainRefusal (p .finished) (c .cap) (length (c .list)) (c .free) ≡ v
+          → Count (length (w .suspects)) m (plainReplied w p (c .free) v k .plain) (n + acceptedTold (plainReplied w p (c .free) v k .told))
+      go (number i) q = rw add-zero count
+      go none q =
+          let ok = taken (p .finished) (c .cap) (length (c .list)) (c .free) q in
+          let room = big (ok .some) (ok .place) in
+          let most = tries-ample (w .mark) (min m (length l)) (c .cap) (length (c .list) - c .free) l (omega arith) (omega arith) (omega arith) in
+          count-moved (length (w .suspects)) m (w .last) n (p .tried) k l (drop k l) (count .going (ok .going) .0) (count .fits)
+          (length-drop (p .tried) (w .suspects)) (tries-within (w .mark) (c .cap) (length (c .list) - c .free) l) (λ s. omega arith) refl
+
+  counts : (calls : List Call) (p : Plain) (n : ℕ) → AllRoomy m calls → Count (length (w .suspects)) m p n
+      → Count (length (w .suspects)) m (plainAfter w p calls) (n + acceptedIn (plains w p calls))
+  unfolding plains plainAfter acceptedIn
+  counts [] p n big count = rw add-zero count
+  counts (c ∷ cs) p n big count =
+      rw (← add-assoc n) (counts cs (plainNext w p c .plain) (n + acceptedTold (plainNext w p c .told)) (big .1) (count-next p n c (big .0) count))
+
+  -- Calls from the start of a plain sweep, each with a cap and free places of at least m.
+  pub counted : (calls : List Call) → AllRoomy m calls → Count (length (w .suspects)) m (plainAfter w (begun w) calls) (acceptedIn (plains w (begun w) calls))
+  counted calls big = rw zero-add at (counts calls (begun w) 0 big start)
+    where
+      start : Count (length (w .suspects)) m (begun w) 0
+      start =
+          record {
+            fits = omega arith;
+            closed = λ z. absurd (false≢true z);
+            going = λ z. (omega (arith, zero-mul m), λ i. absurd (omega arith));
+          }
+
+-- A sweep is finished where accepted calls leave nothing to go on with.
+pub closes : {total m n : ℕ} {p : Plain} → Count total m p n → 1 ≤ n → (p .tried < total → n * m ≤ p .tried → ⊥) → p .finished ≡ true
+closes {total} {m} {n} {p} count a h = go (p .finished) refl
+  where
+    go : (b : Bool) → p .finished ≡ b → b ≡ true
+    go true q = refl
+    go false q = let g = count .going q in absurd (h (g .1 a) (g .0))

@@ -1,0 +1,20 @@
+-- The theory of sweep calls. Definitions: Engine, State, Call, Plain, ByRow and Whole. Laws: the others, of which Demand has demand 3 and Loop what a loop over a call's steps wants. Examples: Toy.
+pub mod Engine
+pub mod State
+pub mod Call
+pub mod Plain
+pub mod ByRow
+pub mod Whole
+pub mod Rows
+pub mod Tries
+pub mod Words
+pub mod Lists
+pub mod Refusals
+pub mod Runs
+pub mod One
+pub mod Same
+pub mod Sums
+pub mod Finish
+pub mod Demand
+pub mod Loop
+pub mod Toy

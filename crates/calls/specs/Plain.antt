@@ -1,0 +1,144 @@
+-- Definitions: the plain sweep (document 01, "The plain sweep"), over the row of all suspects in range. It knows no search. What stands in quotes is document 01's.
+use mathlib.Core.Bool.{Bool, true, false}
+use mathlib.Core.List.{List, [], _∷_, _++_}
+use Prim.Native.Nat.{ℕ, zero, suc, _+_, _-_}
+use lib.Dec.{eqb, leb}
+use lib.ListN.{length, take, drop}
+use Rattle.marks.specs.declared.Mark.{Mark}
+use Rattle.marks.specs.declared.Mark.the-variants.{Right, Open, Wrong}
+use Rattle.calls.specs.State.{Refusal, number, none, judged, Outcome, refused, accepted, State, Call, listed}
+
+-- ---- the row
+
+-- The n significands from a on, ascending.
+unfoldable pub spanOf : ℕ → ℕ → List ℕ
+spanOf a zero = []
+spanOf a (suc n) = a ∷ spanOf (suc a) n
+
+-- The significands from a up to but not including b, ascending.
+unfoldable pub span : ℕ → ℕ → List ℕ
+unfolding spanOf
+span a b = spanOf a (b - a)
+
+-- x before a list, if a test holds.
+abbrev pub keep : Bool → ℕ → List ℕ → List ℕ
+keep true x l = x ∷ l
+keep false x l = l
+
+-- Those of a list for which a test holds, in order.
+unfoldable pub pick : (ℕ → Bool) → List ℕ → List ℕ
+pick p [] = []
+pick p (x ∷ l) = keep (p x) x (pick p l)
+
+-- The suspects from a up to but not including b, ascending.
+unfoldable pub row : (ℕ → Bool) → ℕ → ℕ → List ℕ
+unfolding pick span
+row suspect a b = pick suspect (span a b)
+
+-- ---- a call's trials and words
+
+-- 1 for a significand that is not right.
+abbrev pub notRight : Mark → ℕ
+notRight Right = 0
+notRight Open = 1
+notRight Wrong = 1
+
+-- How many of a row are tried: "until c are tried in this call, or f of these were not right, or the row is used up".
+unfoldable pub tries : (ℕ → Mark) → (c f : ℕ) → List ℕ → ℕ
+tries mark c f [] = 0
+tries mark zero f (x ∷ l) = 0
+tries mark (suc c) zero (x ∷ l) = 0
+tries mark (suc c) (suc f) (x ∷ l) = suc (tries mark c (suc f - notRight (mark x)) l)
+
+-- The words "of the tried ones that are not right, in that order".
+unfoldable pub wordsOf : (ℕ → Mark) → List ℕ → List ℕ
+wordsOf mark [] = []
+wordsOf mark (x ∷ l) = listed (mark x) x ++ wordsOf mark l
+
+-- ---- the sweep
+
+-- What the plain sweep is fed, the factor and the range, with their marks and "the row of all suspects in range, ascending".
+pub record Fed (F : Type 0) : Type 0 where
+  pub factor : F
+  pub first : ℕ
+  pub last : ℕ
+  pub mark : ℕ → Mark
+  pub suspects : List ℕ
+
+-- The row and the marks of a factor and a range.
+abbrev pub fed : {F : Type 0} → (F → ℕ → Bool) → (F → ℕ → Mark) → F → ℕ → ℕ → Fed F
+fed suspect mark f first last = record { factor = f; first = first; last = last; mark = mark f; suspects = row (suspect f) first (suc last) }
+
+-- It has "the number of them tried", "the next significand" and "a finished mark".
+pub record Plain : Type 0 where
+  pub tried : ℕ
+  pub next : ℕ
+  pub finished : Bool
+
+-- "at first 0", "at first the first of the range", "at first not set"
+abbrev pub begun : {F : Type 0} → Fed F → Plain
+begun w = record { tried = 0; next = w .first; finished = false }
+
+-- The suspects not yet tried.
+abbrev pub untried : {F : Type 0} → Fed F → Plain → List ℕ
+untried w p = drop (p .tried) (w .suspects)
+
+-- Where t are tried and a rest of the row is left: "finished exactly when the row is used up";
+-- "the next significand is the last of the range if it is finished, otherwise the first suspect not tried".
+abbrev pub moved : (last t : ℕ) → List ℕ → Plain
+moved last t [] = record { tried = t; next = last; finished = true }
+moved last t (x ∷ l) = record { tried = t; next = x; finished = false }
+
+-- An accepted call answers "how many it tried, and the first free place plus the number of its words", and has its words.
+pub record Told : Type 0 where
+  pub trials : ℕ
+  pub place : ℕ
+  pub words : List ℕ
+
+-- A plain call's answer, and the sweep after it.
+pub record PlainReply : Type 0 where
+  pub told : Outcome Told
+  pub plain : Plain
+
+-- "A refusal changes nothing." Any other call tries the next k.
+abbrev pub plainReplied : {F : Type 0} → Fed F → Plain → (free : ℕ) → Refusal → (k : ℕ) → PlainReply
+plainReplied w p free (number n) k = record { told = refused n; plain = p }
+plainReplied w p free none k =
+    let words = wordsOf (w .mark) (take k (untried w p)) in
+    record {
+      told = accepted (record { trials = k; place = free + length words; words = words });
+      plain = moved (w .last) (p .tried + k) (drop k (untried w p));
+    }
+
+-- "If it is finished, a call is refused with 33; otherwise cap 0 with 18; otherwise a first free place at or past the list's end with 19."
+abbrev pub plainRefusal : Bool → (cap size free : ℕ) → Refusal
+plainRefusal finished cap size free = judged ((33, finished) ∷ (18, eqb cap 0) ∷ (19, leb size free) ∷ [])
+
+-- A call of the plain sweep, fed its "cap, list length and first free place"; it has "f free places, f being the list's length less the first free place".
+unfoldable pub plainCall : {F : Type 0} → Fed F → Plain → (cap size free : ℕ) → PlainReply
+plainCall w p cap size free = plainReplied w p free (plainRefusal (p .finished) cap size free) (tries (w .mark) cap (size - free) (untried w p))
+
+-- ---- lists of calls
+
+-- What is compared of a call: "accepted, or the refusal's number; if accepted, the trials, the place returned and the words; and always the whole state handed back".
+pub record Seen (F : Type 0) : Type 0 where
+  pub told : Outcome Told
+  pub state : State F
+
+-- The plain sweep as a state, "whose factor and range are those fed in".
+abbrev pub stateOf : {F : Type 0} → Fed F → Plain → State F
+stateOf w p = record { factor = w .factor; first = w .first; last = w .last; next = p .next; finished = p .finished }
+
+-- What the plain sweep makes of a call of which only cap, list length and first free place count.
+abbrev pub plainNext : {F : Type 0} → Fed F → Plain → Call → PlainReply
+plainNext w p c = plainCall w p (c .cap) (length (c .list)) (c .free)
+
+-- What the plain sweep shows of each call of a list.
+unfoldable pub plains : {F : Type 0} → Fed F → Plain → List Call → List (Seen F)
+plains w p [] = []
+plains w p (c ∷ cs) = record { told = plainNext w p c .told; state = stateOf w (plainNext w p c .plain) } ∷ plains w (plainNext w p c .plain) cs
+
+-- The plain sweep after the calls of a list.
+unfoldable pub plainAfter : {F : Type 0} → Fed F → Plain → List Call → Plain
+plainAfter w p [] = p
+plainAfter w p (c ∷ cs) = plainAfter w (plainNext w p c .plain) cs

@@ -1,0 +1,127 @@
+-- Examples: a small engine of which the laws hold, so that demand 3 holds of it, and calls of it worked out. Assumes nothing.
+use mathlib.Core.Path.{_≡_, refl}
+use mathlib.Core.Bool.{Bool, true, false, cond, _||_}
+use mathlib.Core.Logic.{_≢_}
+use mathlib.Core.List.{List, [], _∷_}
+use Prim.Native.Nat.{ℕ, suc, _+_, _*_, _%_, _≤_}
+use native.Mathlib.Omega.{arith}
+use borrow.Author.Tests.{eq-eqb, ne-eqb, ltb-false}
+use lib.Dec.{eqb, ltb, leb}
+use Rattle.marks.specs.declared.Mark.{Mark}
+use Rattle.marks.specs.declared.Mark.the-variants.{Right, Open, Wrong}
+use Rattle.search.specs.declared.Place.the-variants.{At}
+use Rattle.calls.specs.Engine.{Half, low, high, halfOf, lowEnd, Engine, Least, Lawful}
+use Rattle.calls.specs.State.{refused, accepted, State, fresh, newState, Call}
+use Rattle.calls.specs.Call.{ahead, run, sweepCall}
+use Rattle.calls.specs.Plain.{fed, begun, plains, plainCall, row, tries, wordsOf}
+use Rattle.calls.specs.Whole.{Whole}
+use Rattle.calls.specs.Refusals.{or-false}
+use Rattle.calls.specs.Demand.{whole-sweep}
+
+-- X is a suspect for the factor f, from 0 to 6, if X + f is a multiple of 7.
+abbrev pub toySuspect : ℕ → ℕ → Bool
+toySuspect f X = eqb ((X + f) % 7) 0
+
+abbrev toyMark : ℕ → ℕ → Mark
+toyMark f X = cond (toySuspect f X) (cond (eqb (X % 2) 0) Right (cond (eqb (X % 3) 0) Open Wrong)) Right
+
+abbrev toyRounds : Half → ℕ → ℕ
+toyRounds low a = a % 5
+toyRounds high a = a % 3
+
+-- Significands from 64 to 127, of which those from 100 on are high.
+abbrev pub toy : Engine ℕ
+toy =
+    record {
+      faulty = λ f. leb 7 f;
+      badRange = λ f first last. ltb first 64 || leb 128 last || ltb last first;
+      mark = toyMark;
+      firstHigh = λ f. 100;
+      find = λ f h a. record { place = At (a + (6 * (a + f)) % 7); rounds = toyRounds h a };
+    }
+
+least : (f end a : ℕ) → Least (toySuspect f) end a (At (a + (6 * (a + f)) % 7))
+least f end a = (omega arith, (λ h. eq-eqb ((a + (6 * (a + f)) % 7 + f) % 7) 0 (omega arith)), λ Y u v w. ne-eqb ((Y + f) % 7) 0 (λ z. omega arith))
+
+few : (h : Half) (a : ℕ) → toyRounds h a ≤ 4
+few low a = omega arith
+few high a = omega arith
+
+suspected : (X : ℕ) (t : Bool) → cond t (cond (eqb (X % 2) 0) Right (cond (eqb (X % 3) 0) Open Wrong)) Right ≢ Right → t ≡ true
+suspected X true q = refl
+suspected X false q = absurd (q refl)
+
+-- The laws hold of it, with at most 4 rounds a search.
+pub toy-lawful : Lawful toySuspect toy (λ f. 4)
+toy-lawful f first last sound inside =
+    let i = or-false (ltb first 64 || leb 128 last) (ltb last first) inside in
+    record {
+      ordered = ltb-false last first (i .1);
+      suspected = λ X h k q. suspected X (toySuspect f X) q;
+      finds-low = λ a h k i. least f (lowEnd 100 last) a;
+      finds-high = λ a h k i. least f (suc last) a;
+      few = λ a h k. few (halfOf 100 a) a;
+    }
+
+-- Demand 3 holds of it.
+pub toy-whole : (f first last : ℕ) (s : State ℕ) → newState toy f first last ≡ accepted s → (calls : List Call) → Whole toySuspect toy (λ f. 4) (sweepCall toy) s calls
+toy-whole = whole-sweep toy-lawful
+
+-- ---- calls over 81 to 127 for the factor 2, with the suspects 82, 89, 96, 103, 110, 117 and 124, of which 89 and 103 are wrong and 117 is open
+
+abbrev before : ℕ → State ℕ
+before next = record { factor = 2; first = 81; last = 127; next = next; finished = false }
+
+abbrev end : State ℕ
+end = record { factor = 2; first = 81; last = 127; next = 127; finished = true }
+
+-- 31 comes before 17.
+new-refused : newState toy 7 127 81 ≡ refused 31
+new-refused = refl
+
+-- The cap stops the first call, at 96.
+first-call : sweepCall toy (before 81) (record { cap = 2; list = 9 ∷ 9 ∷ 9 ∷ []; free = 1 })
+    ≡ record { answer = accepted (record { trials = 2; rounds = 4; place = 2 }); state = before 96; list = 9 ∷ 178 ∷ 9 ∷ [] }
+unfolding sweepCall run ahead
+first-call = refl
+
+-- A refused call changes nothing.
+refused-call : sweepCall toy (before 96) (record { cap = 0; list = 9 ∷ 9 ∷ 9 ∷ []; free = 3 })
+    ≡ record { answer = refused 18; state = before 96; list = 9 ∷ 9 ∷ 9 ∷ [] }
+unfolding sweepCall run ahead
+refused-call = refl
+
+-- The call resumes at 96, goes on into the high half, and is stopped by a full list at 124.
+resumed-call : sweepCall toy (before 96) (record { cap = 5; list = 9 ∷ 9 ∷ []; free = 0 })
+    ≡ record { answer = accepted (record { trials = 4; rounds = 7; place = 2 }); state = before 124; list = 206 ∷ 235 ∷ [] }
+unfolding sweepCall run ahead
+resumed-call = refl
+
+-- The last suspect is the last of the range: no search is made past it.
+closing-call : sweepCall toy (fresh 2 121 124) (record { cap = 5; list = 9 ∷ []; free = 0 })
+    ≡ record {
+      answer = accepted (record { trials = 1; rounds = 1; place = 0 });
+      state = record { factor = 2; first = 121; last = 124; next = 124; finished = true };
+      list = 9 ∷ [];
+    }
+unfolding sweepCall run ahead
+closing-call = refl
+
+-- a sweep of four calls, the last of them past its finish
+abbrev calls : List Call
+calls =
+    record { cap = 2; list = 9 ∷ 9 ∷ 9 ∷ []; free = 1 }
+    ∷ record { cap = 5; list = 9 ∷ 9 ∷ []; free = 0 }
+    ∷ record { cap = 9; list = 9 ∷ []; free = 0 }
+    ∷ record { cap = 0; list = []; free = 0 }
+    ∷ []
+
+-- The plain sweep computes the same.
+plain-calls : plains (fed toySuspect toyMark 2 81 127) (begun (fed toySuspect toyMark 2 81 127)) calls
+    ≡ record { told = accepted (record { trials = 2; place = 2; words = 178 ∷ [] }); state = before 96 }
+    ∷ record { told = accepted (record { trials = 4; place = 2; words = 206 ∷ 235 ∷ [] }); state = before 124 }
+    ∷ record { told = accepted (record { trials = 1; place = 0; words = [] }); state = end }
+    ∷ record { told = refused 33; state = end }
+    ∷ []
+unfolding plains plainCall row tries wordsOf
+plain-calls = refl

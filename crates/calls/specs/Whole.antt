@@ -1,0 +1,167 @@
+-- Definitions: lists of sweep calls (document 01, "Whole sweeps"), and demand 3 as one record. What stands in quotes is document 01's or the demand's.
+use mathlib.Core.Path.{_≡_}
+use mathlib.Core.Bool.{Bool, true}
+use mathlib.Core.Logic.{_⊎_, _↔_}
+use mathlib.Core.List.{List, [], _∷_, _++_, List·Memᴰ}
+use Prim.Native.Nat.{ℕ, suc, _+_, _-_, _*_, _≤_, _<_, min, max}
+use lib.ListN.{length, take, drop}
+use lib.Seq.{slice}
+use Rattle.marks.specs.declared.Mark.{Mark}
+use Rattle.marks.specs.declared.Mark.the-variants.{Open, Wrong}
+use Rattle.calls.specs.Engine.{Engine}
+use Rattle.calls.specs.State.{Outcome, refused, accepted, State, Call}
+use Rattle.calls.specs.Call.{Result, Reply}
+use Rattle.calls.specs.Plain.{span, wordsOf, Fed, fed, Plain, begun, untried, Told, Seen, plains, plainAfter}
+use Rattle.calls.specs.ByRow.{starts, roundsFrom, rowAhead}
+
+-- ---- what is seen of calls; `call` is any account of a call, good or bad
+
+-- "A call's words are those from its first free place up to but not including the place it returns, read as it returns; a refused call has none."
+abbrev pub toldBy : Call → List ℕ → Outcome Result → Outcome Told
+toldBy c list (refused n) = refused n
+toldBy c list (accepted r) = accepted (record { trials = r .trials; place = r .place; words = slice (c .free) (r .place) list })
+
+-- What is compared of a call with the plain sweep.
+abbrev pub seen : {F : Type 0} → Call → Reply F → Seen F
+seen c r = record { told = toldBy c (r .list) (r .answer); state = r .state }
+
+-- What is seen of each call of a list. "Each call is given the state that the one before returned, refused or not".
+unfoldable pub sweeps : {F : Type 0} → (State F → Call → Reply F) → State F → List Call → List (Seen F)
+sweeps call s [] = []
+sweeps call s (c ∷ cs) = seen c (call s c) ∷ sweeps call (call s c .state) cs
+
+-- The state that the last call of a list hands back.
+unfoldable pub stateAfter : {F : Type 0} → (State F → Call → Reply F) → State F → List Call → State F
+stateAfter call s [] = s
+stateAfter call s (c ∷ cs) = stateAfter call (call s c .state) cs
+
+-- P of each call of a list, with the state that it is given and its reply.
+abbrev pub Each : {F : Type 0} → (State F → Call → Reply F → Type 0) → (State F → Call → Reply F) → State F → List Call → Type 0
+Each P call s [] = Unit {0}
+Each P call s (c ∷ cs) = P s c (call s c) × Each P call (call s c .state) cs
+
+-- P of what an accepted call answers; of a refused one there is nothing to say.
+abbrev pub IfAccepted : {A : Type 0} → (A → Type 0) → Outcome A → Type 0
+IfAccepted P (refused n) = Unit {0}
+IfAccepted P (accepted a) = P a
+
+-- ---- sums over calls
+
+-- The trials of one call; a refused one has none.
+abbrev pub trialsTold : Outcome Told → ℕ
+trialsTold (refused n) = 0
+trialsTold (accepted t) = t .trials
+
+-- The words of one call.
+abbrev pub wordsTold : Outcome Told → List ℕ
+wordsTold (refused n) = []
+wordsTold (accepted t) = t .words
+
+-- 1 for an accepted call.
+abbrev pub acceptedTold : Outcome Told → ℕ
+acceptedTold (refused n) = 0
+acceptedTold (accepted t) = 1
+
+-- The trials of calls, added up.
+unfoldable pub trialsIn : {F : Type 0} → List (Seen F) → ℕ
+trialsIn [] = 0
+trialsIn (x ∷ l) = trialsTold (x .told) + trialsIn l
+
+-- The words of calls, joined.
+unfoldable pub wordsIn : {F : Type 0} → List (Seen F) → List ℕ
+wordsIn [] = []
+wordsIn (x ∷ l) = wordsTold (x .told) ++ wordsIn l
+
+-- The number of accepted calls.
+unfoldable pub acceptedIn : {F : Type 0} → List (Seen F) → ℕ
+acceptedIn [] = 0
+acceptedIn (x ∷ l) = acceptedTold (x .told) + acceptedIn l
+
+-- ---- the parts of demand 3
+
+-- The lent list after a call, over the list before it: "places before it and unused ones keep their words".
+pub record Tail (c : Call) (place : ℕ) (list : List ℕ) : Type 0 where
+  pub before : take (c .free) list ≡ take (c .free) (c .list)
+  pub unused : drop place list ≡ drop place (c .list)
+  pub long : length list ≡ length (c .list)
+
+-- A refused call leaves the whole list.
+abbrev pub ListKept : Call → Outcome Result → List ℕ → Type 0
+ListKept c (refused n) list = list ≡ c .list
+ListKept c (accepted r) list = Tail c (r .place) list
+
+-- The first suspect of those not yet tried; past the range if none is left.
+abbrev pub endOf : (last : ℕ) → List ℕ → ℕ
+endOf last [] = suc last
+endOf last (x ∷ l) = x
+
+-- w is the word of X, which is not right: it tells the mark too.
+abbrev pub WordOf : (ℕ → Mark) → (X w : ℕ) → Type 0
+WordOf mark X w = ((mark X ≡ Open) × (w ≡ 2 * X + 1)) ⊎ ((mark X ≡ Wrong) × (w ≡ 2 * X))
+
+-- w is the word of a significand from a up to but not including b.
+pub record Listed (mark : ℕ → Mark) (a b w : ℕ) : Type 0 where
+  pub X : ℕ
+  pub from : a ≤ X
+  pub below : X < b
+  pub word : WordOf mark X w
+
+-- From a up to but not including b, each above the one before.
+abbrev pub Ascends : (a b : ℕ) → List ℕ → Type 0
+Ascends a b [] = Unit {0}
+Ascends a b (x ∷ l) = (a ≤ x) × (x < b) × Ascends (suc x) b l
+
+-- Words hold exactly the significands from a up to b that are not right, once each, ascending, with their marks.
+pub record Holds (mark : ℕ → Mark) (a b : ℕ) (words : List ℕ) : Type 0 where
+  -- the words of all of them, in order
+  pub are : words ≡ wordsOf mark (span a b)
+  -- which is: a word is there exactly if it is one of theirs
+  pub exactly : (w : ℕ) → List·Memᴰ w words ↔ Listed mark a b w
+  -- and each is above the one before, so that none stands twice
+  pub ascending : Ascends (2 * a) (2 * b) words
+
+-- An accepted call's rounds are the sum over its searches' starts, read off the row of suspects, and at most B of the factor for each trial and two more.
+pub record RoundsRight {F : Type 0} (suspect : F → ℕ → Bool) (e : Engine F) (B : F → ℕ) (s : State F) (r : Result) : Type 0 where
+  pub are : r .rounds ≡ roundsFrom e (s .factor) (starts (e .firstHigh (s .factor)) (s .last) (s .next) (r .trials) (rowAhead suspect s))
+  pub few : r .rounds ≤ B (s .factor) * (r .trials + 2)
+
+-- An accepted call tries at least the smallest of cap, free places and suspects left.
+abbrev pub Ample : {F : Type 0} → (F → ℕ → Bool) → State F → Call → Result → Type 0
+Ample suspect s c r = min (c .cap) (min (length (c .list) - c .free) (length (rowAhead suspect s))) ≤ r .trials
+
+-- What the plain sweep is fed for a new state.
+abbrev pub fedBy : {F : Type 0} → (F → ℕ → Bool) → Engine F → State F → Fed F
+fedBy suspect e s = fed suspect (e .mark) (s .factor) (s .first) (s .last)
+
+-- What it shows of calls from there on.
+abbrev pub plainly : {F : Type 0} → (F → ℕ → Bool) → Engine F → State F → List Call → List (Seen F)
+plainly suspect e s calls = plains (fedBy suspect e s) (begun (fedBy suspect e s)) calls
+
+-- Where it is after them.
+abbrev pub plainEnd : {F : Type 0} → (F → ℕ → Bool) → Engine F → State F → List Call → Plain
+plainEnd suspect e s calls = plainAfter (fedBy suspect e s) (begun (fedBy suspect e s)) calls
+
+-- ---- demand 3
+
+-- "For every list of sweep calls from a new state, refused ones included, whatever their caps, lists and free places". Each field says which of the engines that condition (c) names it shuts out.
+pub record Whole {F : Type 0} (suspect : F → ℕ → Bool) (e : Engine F) (B : F → ℕ) (call : State F → Call → Reply F) (s : State F) (calls : List Call) : Type 0 where
+  -- "each call's answer, trials, words and state are those of document 01's plain sweep"
+  -- (shut out: one that lists all in its first call past the cap; invented trials)
+  pub same : sweeps call s calls ≡ plainly suspect e s calls
+  -- the words of a call are all that it writes: places before its first free place and unused ones are as they were, and a refused call leaves the list
+  pub lists : Each (λ s c r. ListKept c (r .answer) (r .list)) call s calls
+  -- "joined words hold exactly the significands in range that are not right below the first suspect not yet tried (all if none is left), once each, ascending, with marks"
+  pub words : Holds (e .mark (s .factor)) (s .first) (endOf (s .last) (untried (fedBy suspect e s) (plainEnd suspect e s calls))) (wordsIn (sweeps call s calls))
+  -- "trials add up": to the number of suspects tried
+  pub trials : trialsIn (sweeps call s calls) ≡ plainEnd suspect e s calls .tried
+  -- "it is finished exactly when all suspects are tried", and a call was accepted
+  -- (shut out: one that calls itself finished with nothing tried)
+  pub finished : (stateAfter call s calls .finished ≡ true) ↔ ((1 ≤ acceptedIn (sweeps call s calls)) × (trialsIn (sweeps call s calls) ≡ length (fedBy suspect e s .suspects)))
+  -- "within as many accepted calls as suspects", or one where there are none
+  pub latest : max 1 (length (fedBy suspect e s .suspects)) ≤ acceptedIn (sweeps call s calls) → stateAfter call s calls .finished ≡ true
+  -- "rounds are the searches' and at most 64 × (trials + 2)"
+  -- (shut out: invented rounds)
+  pub rounds : Each (λ s c r. IfAccepted (RoundsRight suspect e B s) (r .answer)) call s calls
+  -- the stop rule's least: an accepted call has a cap and free places of at least 1, so it tries its first suspect
+  -- (shut out: one that stops before its first suspect)
+  pub ample : Each (λ s c r. IfAccepted (Ample suspect s c) (r .answer)) call s calls

@@ -1,0 +1,190 @@
+-- The parts as binary32 numbers: those that are stored have exactly the values Ch and Cl. Assumes nothing.
+use mathlib.Core.Path.{_≡_, sym, ap, _∙_, subst}
+use mathlib.Core.Bool.{Bool, false, not}
+use Prim.Native.Nat.{ℕ, suc, _+_, _-_, _*_, _^_, _≤_, _<_}
+use native.Mathlib.Nat.{mul-le-mul-right, mul-le-mul, le-of-lt, lt-of-not-le, lt-of-le-of-lt, eq-of-mul-eq-mul-right}
+use native.Mathlib.Decide.{decLe}
+use native.Mathlib.Omega.{arith}
+use lib.Dec.{T, lit<}
+use lib.IntN.{ℤ, pos, natAbs}
+use lib.Pow.{pow-add, pow-pos, pow-mono}
+use lib.Ieee
+use lib.Ieee.{binary32, isNan}
+use lib.Ieee.Exact.{HasValue}
+use lib.Ieee.Scale.{round-same}
+use Rattle.rounding.specs.Apart.{apart}
+use Rattle.rounding.specs.Grid.{toEven}
+use Rattle.rounding.specs.Ieee.{round-itself}
+use Rattle.rounding.specs.RoundLaws.{HasBits}
+use Rattle.rounding.specs.Signed.{negative, signedOf}
+use Rattle.factor.specs.declared.Parts.{Parts}
+use Rattle.factor.specs.declared.Applied.{Applied}
+use Rattle.factor.specs.Precision.{Kept}
+use Rattle.factor.specs.Parts.{highPart, lowPart, partsAt}
+use Rattle.factor.specs.Whole.{End, whole, step}
+use Rattle.factor.specs.LowForm.{Tells}
+use Rattle.factor.specs.PartsLaws.{bottom-is, high-counts, high-is, high-least, high-most, low-counts, low-kept, low-tells, whole-of-parts}
+use Rattle.factor.specs.declared.Factor.{Factor}
+use Rattle.factor.specs.declared.SetUp.the-variants.{Accepted}
+use Rattle.factor.specs.SetUp.{float32, partsOf, appliedOf, setUp}
+use Rattle.factor.specs.SetUpLaws.{setUp-sound}
+use Rattle.rounding.specs.Binary32.{value-number}
+
+-- ---- what is stored, from the parts that are kept
+abbrev pub appliedFrom : (n : ℕ) → ℤ → Parts → Applied
+appliedFrom n k p = record { high = Ieee.round binary32 false (p .high) (2 ^ (n - 1)); low = Ieee.round binary32 (negative (p .low)) (natAbs (p .low)) (2 ^ p .places); scale = k }
+
+-- parts that a binary32 number holds: the low significand zero, or of n bits
+pub record LowStorable (n : ℕ) (low : ℤ) (places : ℕ) : Type 0 where
+  pub none : natAbs low ≡ 0 → (low ≡ pos 0) × (places ≡ 0)
+  pub some : 0 < natAbs low → HasBits n (natAbs low)
+  pub deep : 0 < natAbs low → n ≤ suc places
+  pub shallow : places < 62 + n
+
+-- and the high one from 2 ^ (n - 1) to 2 ^ n
+pub record Storable (n : ℕ) (p : Parts) : Type 0 where
+  pub least : 2 ^ (n - 1) ≤ p .high
+  pub most : p .high ≤ 2 ^ n
+  pub low : LowStorable n (p .low) (p .places)
+
+module _ (n : ℕ) (N : Kept n) (c : ℕ) (ce : End 62 c) where
+  P : 0 < n
+  P = omega (arith, N)
+
+  F : 2 * n ≤ 62
+  F = omega (arith, N)
+
+  abbrev p : Parts
+  p = partsAt toEven n 62 c
+
+  -- Ch is the high significand over 2 ^ (n - 1)
+  pub high-over : highPart toEven n 62 c .num * 2 ^ (n - 1) ≡ p .high * highPart toEven n 62 c .den
+  high-over =
+      let x = highPart toEven n 62 c in
+      let k = high-counts toEven n 62 P F c ce in
+      let b = bottom-is n 62 F P in
+      eq-of-mul-eq-mul-right (step n 62) (pow-pos (62 + 1 - n)) (x .num * 2 ^ (n - 1)) (p .high * x .den)
+      (omega (arith, k .count, ap (λ (z : ℕ). x .num * z) b, ap (λ (z : ℕ). z * step n 62 * x .den) (high-is toEven n 62 P F c ce)))
+
+  -- Cl is s over 2 ^ places
+  pub low-over : lowPart toEven n 62 c .num * 2 ^ p .places ≡ natAbs (p .low) * lowPart toEven n 62 c .den
+  low-over =
+      let x = lowPart toEven n 62 c in
+      let k = low-counts toEven n 62 P F c ce in
+      eq-of-mul-eq-mul-right (2 ^ 62) (pow-pos 62) (x .num * 2 ^ p .places) (natAbs (p .low) * x .den)
+      (omega (arith, ap (λ (z : ℕ). z * 2 ^ p .places) (k .count), ap (λ (z : ℕ). z * x .den) (low-kept toEven n 62 P F c ce)))
+
+  pub low-sign : lowPart toEven n 62 c .minus ≡ negative (p .low)
+  low-sign = low-counts toEven n 62 P F c ce .sign ∙ ap (λ w. w .minus) (whole-of-parts toEven n 62 P F c ce)
+
+  -- so the floats are those of the kept parts
+  pub applied-from : (k : ℤ) → appliedOf n k c ≡ appliedFrom n k (partsOf n c)
+  unfolding appliedOf partsOf
+  applied-from k =
+      let h = highPart toEven n 62 c in
+      let l = lowPart toEven n 62 c in
+      let hc = high-counts toEven n 62 P F c ce in
+      let lc = low-counts toEven n 62 P F c ce in
+      let high : float32 h ≡ Ieee.round binary32 false (p .high) (2 ^ (n - 1)) =
+      ap (λ (b : Bool). Ieee.round binary32 b (h .num) (h .den)) (hc .sign) ∙ round-same binary32 false (h .num) (h .den) (p .high) (2 ^ (n - 1)) (hc .some) (pow-pos (n - 1)) high-over in
+      let low : float32 l ≡ Ieee.round binary32 (negative (p .low)) (natAbs (p .low)) (2 ^ p .places) =
+      ap (λ (b : Bool). Ieee.round binary32 b (l .num) (l .den)) low-sign ∙ round-same binary32 (negative (p .low)) (l .num) (l .den) (natAbs (p .low)) (2 ^ p .places) (lc .some) (pow-pos (p .places)) low-over in
+      λ i. record { high = high i; low = low i; scale = k }
+
+  pub storable : Storable n p
+  storable =
+      let t = low-tells toEven n 62 P F c ce in
+      let z = natAbs (signedOf (whole toEven n 62 c .minus) (apart c (whole toEven n 62 c .high * step n 62))) in
+      let h = high-is toEven n 62 P F c ce in
+      go (decLe z 0) t h
+    where
+      go : {h l : ℕ} {z : ℤ} → Dec (natAbs z ≤ 0) → Tells n 62 h z l p → p .high ≡ whole toEven n 62 c .high → Storable n p
+      go (yes y) t h =
+          let e = t .none (omega arith) in
+          record {
+            least = rw h (high-least toEven n 62 P F c ce);
+            most = rw h (high-most toEven n 62 P F c ce);
+            low = record { none = λ _. e; some = λ m. absurd (omega (arith, ap natAbs (e .0))); deep = λ m. absurd (omega (arith, ap natAbs (e .0))); shallow = omega (arith, e .1) };
+          }
+      go (no y) t h =
+          let b = t .some (lt-of-not-le y) in
+          record {
+            least = rw h (high-least toEven n 62 P F c ce);
+            most = rw h (high-most toEven n 62 P F c ce);
+            low = record { none = λ e. absurd (omega (arith, b .0 .least, pow-pos (n - 1))); some = λ _. b .0; deep = λ _. omega (arith, b .1); shallow = b .2 };
+          }
+
+-- ---- a number of at most n bits is a binary32 number: m * 2 ^ (24 - n) has 24 bits at most
+module _ (n : ℕ) (N : n ≤ 24) where
+  pub widened-most : (m : ℕ) → m ≤ 2 ^ n → m * 2 ^ (24 - n) ≤ 2 ^ 24
+  widened-most m h =
+      let e : 24 ≡ n + (24 - n) = omega arith in
+      let w : 2 ^ 24 ≡ 2 ^ n * 2 ^ (24 - n) = ap (λ (z : ℕ). 2 ^ z) e ∙ pow-add 2 n (24 - n) in
+      omega (arith, mul-le-mul-right (2 ^ (24 - n)) h, w)
+
+  pub widened-least : (m : ℕ) → 0 < n → 2 ^ (n - 1) ≤ m → 2 ^ 23 ≤ m * 2 ^ (24 - n)
+  widened-least m p h =
+      let e : 23 ≡ (n - 1) + (24 - n) = omega arith in
+      let w : 2 ^ 23 ≡ 2 ^ (n - 1) * 2 ^ (24 - n) = ap (λ (z : ℕ). 2 ^ z) e ∙ pow-add 2 (n - 1) (24 - n) in
+      omega (arith, mul-le-mul-right (2 ^ (24 - n)) h, w)
+
+  -- m / 2 ^ q in units of 2 ^ - 149
+  pub in-units : (m q : ℕ) → q ≤ 125 + n → m * 2 ^ 149 ≡ m * 2 ^ (24 - n) * 2 ^ (125 + n - q) * 2 ^ q
+  in-units m q h =
+      let e : 149 ≡ (24 - n) + ((125 + n - q) + q) = omega arith in
+      let w : 2 ^ 149 ≡ 2 ^ (24 - n) * (2 ^ (125 + n - q) * 2 ^ q) = ap (λ (z : ℕ). 2 ^ z) e ∙ pow-add 2 (24 - n) ((125 + n - q) + q) ∙ ap (λ (z : ℕ). 2 ^ (24 - n) * z) (pow-add 2 (125 + n - q) q) in
+      ap (λ (z : ℕ). m * z) w ∙ regroup m (2 ^ (24 - n)) (2 ^ (125 + n - q)) (2 ^ q)
+    where
+      regroup : (a b c d : ℕ) → a * (b * (c * d)) ≡ a * b * c * d
+      regroup a b c d = omega arith
+
+  -- so it is stored exactly
+  pub stored-exactly : (s : Bool) (a c m q : ℕ) → 0 < c → m ≤ 2 ^ n → n ≤ suc q → q ≤ 125 + n → a * 2 ^ q ≡ m * c → HasValue (Ieee.round binary32 s a c) s a c
+  stored-exactly s a c m q C small lo hi e =
+      round-itself binary32 s a c (m * 2 ^ (24 - n)) (125 + n - q) C (widened-most m small)
+      (eq-of-mul-eq-mul-right (2 ^ q) (pow-pos q) (a * 2 ^ 149) (m * 2 ^ (24 - n) * 2 ^ (125 + n - q) * c) (regroup a c m (2 ^ q) (2 ^ 149) (m * 2 ^ (24 - n) * 2 ^ (125 + n - q)) e (in-units m q hi)))
+      (lt-of-le-of-lt (mul-le-mul (widened-most m small) (pow-mono {i = 125 + n - q} {j = 126} (omega arith))) (lit< tt))
+    where
+      regroup : (a c m Q T M : ℕ) → a * Q ≡ m * c → m * T ≡ M * Q → a * T * Q ≡ M * c * Q
+      regroup a c m Q T M x y = omega (arith, ap (λ (z : ℕ). z * T) x, ap (λ (z : ℕ). z * c) y)
+
+  -- and it is the float that is put together from its bits
+  pub in-floats : (s : Bool) (m q : ℕ) → q ≤ 125 + n → Ieee.round binary32 s (m * 2 ^ (24 - n) * 2 ^ (125 + n - q)) (2 ^ 149) ≡ Ieee.round binary32 s m (2 ^ q)
+  in-floats s m q h = round-same binary32 s (m * 2 ^ (24 - n) * 2 ^ (125 + n - q)) (2 ^ 149) m (2 ^ q) (pow-pos 149) (pow-pos q) (sym (in-units m q h))
+
+-- ---- the stored numbers have exactly the values Ch and Cl
+module _ (n : ℕ) (N : Kept n) (k : ℤ) (c : ℕ) (ce : End 62 c) where
+  pub stored-high : HasValue (appliedOf n k c .high) false (highPart toEven n 62 c .num) (highPart toEven n 62 c .den)
+  unfolding appliedOf
+  stored-high =
+      let x = highPart toEven n 62 c in
+      let t = high-counts toEven n 62 (P n N c ce) (F n N c ce) c ce in
+      subst (λ (b : Bool). HasValue (Ieee.round binary32 b (x .num) (x .den)) false (x .num) (x .den)) (sym (t .sign))
+      (stored-exactly n (N .most) false (x .num) (x .den) (partsAt toEven n 62 c .high) (n - 1) (t .some) (storable n N c ce .most) (omega arith) (omega arith) (high-over n N c ce))
+
+  pub stored-low : HasValue (appliedOf n k c .low) (lowPart toEven n 62 c .minus) (lowPart toEven n 62 c .num) (lowPart toEven n 62 c .den)
+  unfolding appliedOf
+  stored-low = go (decLe (natAbs (partsAt toEven n 62 c .low)) 0)
+    where
+      s : LowStorable n (partsAt toEven n 62 c .low) (partsAt toEven n 62 c .places)
+      s = storable n N c ce .low
+
+      go : Dec (natAbs (partsAt toEven n 62 c .low) ≤ 0) → HasValue (float32 (lowPart toEven n 62 c)) (lowPart toEven n 62 c .minus) (lowPart toEven n 62 c .num) (lowPart toEven n 62 c .den)
+      go (yes y) =
+          let z = s .none (omega arith) in
+          let none : lowPart toEven n 62 c .num ≡ 0 = omega (arith, low-over n N c ce, ap (λ (q : ℕ). lowPart toEven n 62 c .num * 2 ^ q) (z .1), ap (λ (m : ℤ). natAbs m * lowPart toEven n 62 c .den) (z .0)) in
+          stored-exactly n (N .most) (lowPart toEven n 62 c .minus) (lowPart toEven n 62 c .num) (lowPart toEven n 62 c .den) 0 n (low-counts toEven n 62 (P n N c ce) (F n N c ce) c ce .some) (omega arith) (omega arith) (omega arith) (omega (arith, ap (λ (m : ℕ). m * 2 ^ n) none))
+      go (no y) =
+          let m : 0 < natAbs (partsAt toEven n 62 c .low) = lt-of-not-le y in
+          stored-exactly n (N .most) (lowPart toEven n 62 c .minus) (lowPart toEven n 62 c .num) (lowPart toEven n 62 c .den) (natAbs (partsAt toEven n 62 c .low)) (partsAt toEven n 62 c .places) (low-counts toEven n 62 (P n N c ce) (F n N c ce) c ce .some) (le-of-lt (s .some m .most)) (s .deep m) (omega (arith, s .shallow)) (low-over n N c ce)
+
+-- so what set-up stores are numbers
+pub accepted-numbers : (n : ℕ) (k : ℤ) (L U : ℕ) (f : Factor) → setUp n k L U ≡ Accepted f → T (not (isNan (f .applied .high))) × T (not (isNan (f .applied .low)))
+accepted-numbers n k L U f e =
+    let t = setUp-sound n k L U f e in
+    let kept : Kept n = record { least = t .1 .fewest; most = t .1 .most } in
+    let end = t .1 .lower-end in
+    subst (λ (g : Factor). T (not (isNan (g .applied .high))) × T (not (isNan (g .applied .low)))) (sym (t .0)) (
+      value-number (appliedOf n k L .high) false (highPart toEven n 62 L .num) (highPart toEven n 62 L .den) (stored-high n kept k L end),
+      value-number (appliedOf n k L .low) (lowPart toEven n 62 L .minus) (lowPart toEven n 62 L .num) (lowPart toEven n 62 L .den) (stored-low n kept k L end),
+    )
