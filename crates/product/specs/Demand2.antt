@@ -19,8 +19,8 @@ use Rattle.factor.specs.Parts.{partsAt}
 use Rattle.factor.specs.Whole.{End}
 use Rattle.factor.specs.SetUp.{partsOf, Sound}
 use Rattle.product.specs.declared.Product.{Product}
-use Rattle.product.specs.Product.{argument, low, first, fused, second, product, valueOf}
-use Rattle.product.specs.Marks.{mark, Says}
+use Rattle.product.specs.Product.{argument, low, first, fused, second, product, productBy, valueOf}
+use Rattle.product.specs.Marks.{markBy, Says}
 use Rattle.product.specs.ProductLaws.{fused-some, product-is, product-value}
 use Rattle.product.specs.MarkLaws.{mark-says, mark-only}
 
@@ -62,27 +62,20 @@ module _ (f : Factor) (s : Sound f) (X : ℕ) (x : HasBits (f .precision .bits) 
   abbrev n : ℕ
   n = f .precision .bits
 
-  abbrev L : ℕ
-  L = f .lower
-
-  abbrev U : ℕ
-  U = f .upper
-
   abbrev v : Product
-  v = product toEven n (f .parts) X
+  v = productBy f X
 
   P : 0 < n
   P = omega (arith, s .fewest)
 
-  -- the steps
   pub two-steps : TwoSteps toEven n (f .parts) X
   unfolding partsOf
-  two-steps = subst (λ (p : Parts). TwoSteps toEven n p X) (sym (s .parts)) (at-end toEven n 62 P (omega (arith, s .most)) L (s .lower-end) X x)
+  two-steps = subst (λ (p : Parts). TwoSteps toEven n p X) (sym (s .parts)) (at-end toEven n 62 P (omega (arith, s .most)) (f .lower) (s .lower-end) X x)
 
-  -- the mark says of the product what demand 2 has it say: right, every fraction between the ends gives it; wrong, none does; open, one does and another does not
-  pub mark-tells : Says toEven n 62 L U X v (mark toEven n 62 L U X v)
-  mark-tells = mark-says toEven n 62 P L U X v (s .lower-end .from) (s .ordered) (x .least) (le-of-lt (two-steps .bits .most))
+  -- the mark of the product is what demand 2 has it say: right, every fraction between the ends gives it; wrong, none does; open, one does and another does not
+  pub mark-tells : Says toEven n 62 (f .lower) (f .upper) X v (markBy f X v)
+  mark-tells = mark-says toEven n 62 P (f .lower) (f .upper) X v (s .lower-end .from) (s .ordered) (x .least) (le-of-lt (two-steps .bits .most))
 
   -- and no other mark would be true
-  pub mark-alone : (m : Mark) → Says toEven n 62 L U X v m → mark toEven n 62 L U X v ≡ m
-  mark-alone = mark-only toEven n 62 P L U X v (s .lower-end .from) (s .ordered) (x .least) (le-of-lt (two-steps .bits .most))
+  pub mark-alone : (m : Mark) → Says toEven n 62 (f .lower) (f .upper) X v m → markBy f X v ≡ m
+  mark-alone = mark-only toEven n 62 P (f .lower) (f .upper) X v (s .lower-end .from) (s .ordered) (x .least) (le-of-lt (two-steps .bits .most))

@@ -18,12 +18,9 @@ use Rattle.rounding.specs.FractionLaws.{Counts, over-counts, RN-counts, RN-coun
 use Rattle.factor.specs.Accepted.{Between}
 use Rattle.product.specs.declared.Product.{Product}
 use Rattle.product.specs.Product.{argument, valueOf}
-use Rattle.product.specs.ProductLaws.{units, value-counts}
+use Rattle.product.specs.Units.{units, markUnits}
+use Rattle.product.specs.ProductLaws.{value-counts}
 use Rattle.product.specs.Marks.{exact, mark, Gives, Says}
-
--- the mark of v by whole numbers: a and b are RN(L * x) and RN(U * x)
-abbrev pub markUnits : (a b v : ℕ) → Mark
-markUnits a b v = cond (ltb v a) Wrong (cond (ltb b v) Wrong (cond (eqb a v && eqb b v) Right Open))
 
 -- right exactly if v is both
 pub right-units : (a b v : ℕ) → a ≡ v → b ≡ v → markUnits a b v ≡ Right

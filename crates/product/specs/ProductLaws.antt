@@ -25,7 +25,7 @@ use Rattle.rounding.specs.Signed.{negative}
 use Rattle.factor.specs.PartsLaws.{width-is, step-is, bottom-is, high-from, high-is, low-most, width-le, worth-near, whole-of-parts, low-kept}
 use Rattle.product.specs.declared.Product.{Product}
 use Rattle.product.specs.Product.{argument, high, low, first, fused, second, product, valueOf}
-use Rattle.product.specs.Units.{firstUnits, fusedUnits, secondUnits}
+use Rattle.product.specs.Units.{firstUnits, fusedUnits, secondUnits, units}
 
 -- ---- of two numbers with significands of n bits the one with the larger exponent is larger
 module _ (n : ℕ) (P : 0 < n) where
@@ -37,10 +37,7 @@ module _ (n : ℕ) (P : 0 < n) where
   pub exponent-le : (s j t k : ℕ) → s < 2 ^ n → 2 ^ (n - 1) ≤ t → t * 2 ^ k ≤ s * 2 ^ j → k ≤ j
   exponent-le s j t k h l e = le-of-suc-le-suc (lt-of-not-le (λ (g : suc j ≤ k). not-le-of-lt (exponent-order s j t k h l g) e))
 
--- ---- a product as a whole number of the unit 2 ^ - (E + n - 1)
-abbrev pub units : (E : ℕ) → Product → ℕ
-units E v = v .significand * 2 ^ (E + v .binade)
-
+-- ---- a product as a whole number of the unit
 pub value-counts : (n E : ℕ) (v : Product) → Counts (2 ^ (E + (n - 1))) false (units E v) (valueOf n v)
 value-counts n E v =
     let s = v .significand in

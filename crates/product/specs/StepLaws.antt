@@ -1,19 +1,18 @@
 -- The steps of the product as code takes them, in the unit 2 ^ - (E + n - 1): how far u1 is shifted, how large each number grows, and that rounding the
 -- fused sum gives the product. Assumes nothing.
-use mathlib.Core.Path.{_≡_, refl, sym, ap, _∙_, subst}
-use mathlib.Core.Bool.{Bool, true, false}
+use mathlib.Core.Path.{_≡_, sym, ap, _∙_, subst}
 use Prim.Native.Nat.{ℕ, zero, suc, _+_, _-_, _*_, _^_, _≤_, _<_}
-use native.Mathlib.Nat.{mul-le-mul, mul-le-mul-right, mul-le-mul-left, mul-pos, eq-of-mul-eq-mul-right, le-trans, le-of-eq, le-of-lt, le-of-suc-le-suc, lt-of-lt-of-le, lt-of-not-le, not-le-of-lt, mul-lt-mul-of-pos-right, one-mul, div-one}
-use native.Mathlib.Decide.{decLt}
+use native.Mathlib.Nat.{mul-le-mul, mul-le-mul-left, mul-pos, eq-of-mul-eq-mul-right, le-trans, le-of-eq, le-of-lt, lt-of-le-of-lt, lt-of-lt-of-le, lt-of-not-le, not-le-of-lt, mul-lt-mul-of-pos-right, one-mul, div-one}
+use native.Mathlib.Decide.{decLe, decLt}
 use native.Mathlib.Omega.{arith}
 use lib.IntN.{ℤ, pos, natAbs}
 use lib.Pow.{pow-add, pow-pos, pow-mono}
 use lib.Ieee.{size, minus}
-use lib.Ieee.Digits.{size-lt, size-reaches}
+use lib.Ieee.Digits.{size-lt, size-le}
 use lib.Ieee.Order.{drop}
+use Rattle.rounding.specs.Apart.{apart}
 use Rattle.rounding.specs.declared.Rounded.{Rounded}
 use Rattle.rounding.specs.Grid.{Rule, nearest}
-use Rattle.rounding.specs.GridLaws.{nearest-ge}
 use Rattle.rounding.specs.Digits.{pow-half}
 use Rattle.rounding.specs.Unit.{rn}
 use Rattle.rounding.specs.UnitLaws.{rn-le, rn-ge, rn-in-binade, rn-scale-whole, rn-whole-small}
@@ -21,9 +20,10 @@ use Rattle.rounding.specs.Round.{rounded, roundedIn}
 use Rattle.rounding.specs.RoundLaws.{HasBits, rounded-at, rounded-bits, roundedIn-exponent, minus-zero}
 use Rattle.rounding.specs.Signed.{signedOf}
 use Rattle.factor.specs.declared.Parts.{Parts}
-use Rattle.factor.specs.Parts.{rest, partsAt}
+use Rattle.factor.specs.Parts.{partsAt}
 use Rattle.factor.specs.Whole.{End, Whole, step, whole, wholeOf}
-use Rattle.factor.specs.PartsLaws.{top-is, high-most, rest-counts, low-kept, whole-of-parts}
+use Rattle.factor.specs.PartsLaws.{high-most, low-kept, low-tells, whole-of-parts}
+use Rattle.factor.specs.LowForm.{top-is}
 use Rattle.product.specs.Product.{product}
 use Rattle.product.specs.Units.{firstUnits, fusedUnits, secondUnits, roundedUnits, PartsAtEnd}
 use Rattle.product.specs.ProductLaws.{IsProduct, is-product, exponent-from, product-only, product-is, first-most, first-under, fused-least, second-most}
@@ -85,11 +85,6 @@ module _ (rule : Rule) (n E : ℕ) (P : 0 < n) (c : ℕ) (ce : End E c) (X : ℕ
       let u : X ≤ 2 ^ n - 1 = omega (arith, xb .most) in
       rounded-units-is rule n E P (c * X) end-from (rn-le rule n P (c * X) 1 (2 ^ n - 1) (suc E) (omega arith) (omega arith) (omega (arith, mul-le-mul u (le-of-lt (ce .to)))))
 
-size-of : (b : Bool) (m : ℕ) → natAbs (signedOf b m) ≡ m
-size-of true zero = refl
-size-of true (suc m) = refl
-size-of false m = refl
-
 -- u1 = u as code has it: m is |s| * X of d digits, for the low significand s of q places. All but n digits are dropped, and what is kept is shifted into the unit
 pub record FirstStep (rule : Rule) (n E q m d u : ℕ) : Type 0 where
   pub digits : 2 * n ≤ suc d
@@ -129,20 +124,22 @@ module _ (rule : Rule) (n E : ℕ) (p : Parts) (at : PartsAtEnd rule n E p) wher
   pub high-le : p .high ≤ 2 ^ n
   high-le = subst (λ (v : Whole). v .high ≤ 2 ^ n) w-is (high-most rule n E P F c ce)
 
-  -- the low significand has n bits where it is not zero
-  low-bits : 0 < s → HasBits n s
-  unfolding partsAt rounded
-  low-bits = subst (λ (z : Parts). 0 < natAbs (z .low) → HasBits n (natAbs (z .low))) (sym kept) (go (rest rule n E c .num) (rest rule n E c .den) (rest rule n E c .minus) (rest-counts rule n E P F c ce .some))
+  -- the low significand has n bits where it is not zero, and its places have a range
+  low-some : 0 < s → HasBits n s × (2 * n ≤ suc q) × (q < E + n)
+  low-some h = subst (λ (z : Parts). HasBits n (natAbs (z .low)) × (2 * n ≤ suc (z .places)) × (z .places < E + n)) (sym kept) (go (decLe (natAbs z) 0))
     where
-      go : (N d : ℕ) (b : Bool) → 0 < d → 0 < natAbs (signedOf b (rounded rule n N d .significand)) → HasBits n (natAbs (signedOf b (rounded rule n N d .significand)))
-      go zero d b D h = absurd (omega (arith, size-of b 0))
-      go (suc N) d b D h = rw (size-of b (rounded rule n (suc N) d .significand)) (rounded-bits rule n P (suc N) d (omega arith) D)
+      z : ℤ
+      z = signedOf (whole rule n E c .minus) (apart c (whole rule n E c .high * step n E))
+
+      go : Dec (natAbs z ≤ 0) → HasBits n (natAbs (partsAt rule n E c .low)) × (2 * n ≤ suc (partsAt rule n E c .places)) × (partsAt rule n E c .places < E + n)
+      go (yes g) = let none = low-tells rule n E P F c ce .none (omega arith) in absurd (omega (arith, ap (λ (y : Parts). natAbs (y .low)) kept, ap natAbs (none .0)))
+      go (no g) = low-tells rule n E P F c ce .some (lt-of-not-le g)
 
   pub low-lt : s < 2 ^ n
   low-lt = go (decLt 0 s)
     where
       go : Dec (0 < s) → s < 2 ^ n
-      go (yes h) = low-bits h .most
+      go (yes h) = low-some h .0 .most
       go (no h) = omega (arith, pow-pos n)
 
   low-value : s * 2 ^ E ≡ w .low * 2 ^ q
@@ -180,23 +177,26 @@ module _ (rule : Rule) (n E : ℕ) (p : Parts) (at : PartsAtEnd rule n E p) wher
         pos-of zero b g = absurd (omega arith)
         pos-of (suc a) b g = omega arith
 
-        s-pos : 0 < s
-        s-pos = pos-of s X (le-trans h (le-of-eq e))
+        low : HasBits n s × (2 * n ≤ suc q) × (q < E + n)
+        low = low-some (pos-of s X (le-trans h (le-of-eq e)))
 
+        -- m has 2 * n - 1 digits or one more
         digits : 2 * n ≤ suc d
         digits =
-            let least : 2 ^ (n - 1 + (n - 1)) ≤ m = le-trans (le-of-eq (pow-add 2 (n - 1) (n - 1))) (le-trans (mul-le-mul (low-bits s-pos .least) (xb .least)) (le-of-eq (sym e))) in
+            let least : 2 ^ (n - 1 + (n - 1)) ≤ m = le-trans (le-of-eq (pow-add 2 (n - 1) (n - 1))) (le-trans (mul-le-mul (low .0 .least) (xb .least)) (le-of-eq (sym e))) in
             let more : n - 1 + (n - 1) < size m = lt-of-not-le λ (g : size m ≤ n - 1 + (n - 1)). not-le-of-lt (lt-of-lt-of-le (size-lt m) (pow-mono g)) least in
             omega arith
 
-        places-lt : q < E + n
-        places-lt = lt-of-not-le λ (g : E + n ≤ q).
-            let a : 2 ^ (E + n) ≤ 2 ^ q = pow-mono g in
-            let l : 0 < w .low = pos-of (w .low) (2 ^ q) (le-trans (mul-pos s-pos (pow-pos E)) (le-of-eq low-value)) in
-            omega (arith, low-value, mul-le-mul-right (2 ^ q) l, mul-lt-mul-of-pos-right (low-bits s-pos .most) (pow-pos E), pow-add 2 E n)
+        digits-le : d ≤ n + n
+        digits-le =
+            let less : m < 2 ^ (n + n) = lt-of-le-of-lt (le-of-eq e) (lt-of-le-of-lt (mul-le-mul-left s (le-of-lt (xb .most))) (lt-of-lt-of-le (mul-lt-mul-of-pos-right (low .0 .most) (pow-pos n)) (le-of-eq (sym (pow-add 2 n n))))) in
+            le-trans (le-of-eq f) (size-le m (n + n) less)
 
         reach : q ≤ d - n + E
-        reach = omega (arith, digits, places-lt)
+        reach = omega (arith, digits, low .2)
+
+        room : d - n + E - q ≤ E
+        room = omega (arith, digits-le, low .1, at .two)
 
         k : ℕ
         k = d - n
@@ -208,13 +208,6 @@ module _ (rule : Rule) (n E : ℕ) (p : Parts) (at : PartsAtEnd rule n E p) wher
             let t : 2 ^ k * 2 ^ E ≡ 2 ^ (k + E - q) * 2 ^ q = sym (pow-add 2 k E) ∙ ap (λ (z : ℕ). 2 ^ z) (omega (arith, reach)) ∙ pow-add 2 (k + E - q) q in
             eq-of-mul-eq-mul-right (2 ^ q) (pow-pos q) u (nearest rule m (2 ^ k) * 2 ^ (k + E - q))
             (first-scaled ∙ ap (λ (z : ℕ). rn rule n z 1 * 2 ^ E) (sym e) ∙ omega (arith, ap (λ (z : ℕ). z * 2 ^ E) r, ap (λ (z : ℕ). nearest rule m (2 ^ k) * z) t))
-
-        room : d - n + E - q ≤ E
-        room = le-of-suc-le-suc (lt-of-not-le λ (g : suc E ≤ k + E - q).
-            let a : 2 ^ E ≤ 2 ^ (k + E - q) = pow-mono (omega arith) in
-            let l : k < size m = omega (arith, digits) in
-            let o : 1 ≤ nearest rule m (2 ^ k) = nearest-ge rule m (2 ^ k) 1 (pow-pos k) (omega (arith, size-reaches m k l)) in
-            omega (arith, value, first-lt, mul-le-mul-right (2 ^ (k + E - q)) o))
 
     -- ---- u2
     pub fused-from : 2 ^ (n - 1) * 2 ^ E ≤ fusedUnits rule n E w X

@@ -1,7 +1,11 @@
 -- The two steps of the product as whole numbers of the unit 2 ^ - (E + n - 1), in which proofs are made and code counts. Definitions only. Assumes nothing.
 use mathlib.Core.Path.{_≡_}
-use Prim.Native.Nat.{ℕ, _-_, _*_, _≤_}
+use mathlib.Core.Bool.{_&&_, cond}
+use Prim.Native.Nat.{ℕ, _+_, _-_, _*_, _^_, _≤_}
+use lib.Dec.{ltb, eqb}
 use lib.IntN.{natAbs}
+use Rattle.marks.specs.declared.Mark.{Mark}
+use Rattle.marks.specs.declared.Mark.the-variants.{Right, Open, Wrong}
 use Rattle.rounding.specs.Grid.{Rule}
 use Rattle.rounding.specs.Unit.{rn}
 use Rattle.rounding.specs.Round.{rounded}
@@ -28,6 +32,14 @@ secondUnits rule n E w X = rn rule n (fusedUnits rule n E w X) 1
 unfoldable pub roundedUnits : Rule → (n E N : ℕ) → Product
 unfolding rounded
 roundedUnits rule n E N = let r = rounded rule n N 1 in record { significand = r .significand; binade = natAbs (r .exponent) - E }
+
+-- the other way: a product S * 2 ^ b / 2 ^ (n - 1) in units
+abbrev pub units : (E : ℕ) → Product → ℕ
+units E v = v .significand * 2 ^ (E + v .binade)
+
+-- the mark of v by whole numbers: a and b are RN(L * x) and RN(U * x)
+abbrev pub markUnits : (a b v : ℕ) → Mark
+markUnits a b v = cond (ltb v a) Wrong (cond (ltb b v) Wrong (cond (eqb a v && eqb b v) Right Open))
 
 -- p are the parts at some end of the scale E
 pub record PartsAtEnd (rule : Rule) (n E : ℕ) (p : Parts) : Type 0 where

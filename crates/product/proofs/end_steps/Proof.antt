@@ -1,6 +1,6 @@
 -- `product::end_steps` meets its contract: the product with an end lies from 1 to below 4, and so does what it rounds to. Assumes nothing.
 use mathlib.Core.Path.{_≡_, sym, ap, _∙_, subst}
-use Prim.Native.Nat.{ℕ, _+_, _*_, _^_}
+use Prim.Native.Nat.{ℕ, _+_, _*_, _^_, _<_}
 use native.Mathlib.Nat.{lt-of-lt-of-le}
 use native.Mathlib.Omega.{arith}
 use lib.Pow.{pow-add, pow-mono}
@@ -20,7 +20,8 @@ product-requires c κs = search needs
 rounded-units-requires : tie.Need-rounded-units-requires
 rounded-units-requires c κs =
     let a = c .before in
-    (a .pre .0, omega (arith, a .pre .1), rw (c .product .ensures) (end-from toEven (a .args .n) 62 (a .pre .0) (a .args .c) (a .pre .2) (a .args .x) (a .pre .3)))
+    let some : 0 < a .args .n = omega (arith, a .pre .0 .least) in
+    (some, omega (arith, a .pre .0 .most), rw (c .product .ensures) (end-from toEven (a .args .n) 62 some (a .args .c) (a .pre .1) (a .args .x) (a .pre .2)))
 
 -- what was rounded
 is : (c : tie.After-rounded-units) → IsProduct (c .before .before .args .n) 62 (rn toEven (c .before .before .args .n) (c .before .before .args .c * c .before .before .args .x) 1) (c .rounded-units .result)
@@ -29,13 +30,13 @@ is c =
     let n = a .args .n in
     subst (λ (v : Product). IsProduct n 62 (rn toEven n (a .args .c * a .args .x) 1) v)
     (sym (c .rounded-units .ensures ∙ ap (roundedUnits toEven n 62) (c .before .product .ensures)))
-    (end-is toEven n 62 (a .pre .0) (a .args .c) (a .pre .2) (a .args .x) (a .pre .3))
+    (end-is toEven n 62 (omega (arith, a .pre .0 .least)) (a .args .c) (a .pre .1) (a .args .x) (a .pre .2))
 
 steps-of-requires : tie.Need-steps-of-requires
 steps-of-requires c κs =
     let a = c .before .before in
     let v = is c in
-    (lt-of-lt-of-le (v .bits .most) (pow-mono {i = a .args .n} {j = 63} (omega (arith, a .pre .1))), v .binade)
+    (lt-of-lt-of-le (v .bits .most) (pow-mono {i = a .args .n} {j = 63} (omega (arith, a .pre .0 .most))), v .binade)
 
 -- S * 2 ^ b in the finer unit
 finer : (s b : ℕ) → s * 2 ^ b * 2 ^ 62 ≡ s * 2 ^ (62 + b)

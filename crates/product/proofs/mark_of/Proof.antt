@@ -6,7 +6,8 @@ use native.Mathlib.Omega.{arith}
 use lib.Pow.{pow-mono}
 use borrow.Author.Needs.{needs}
 use Rattle.rounding.specs.Grid.{toEven}
-use Rattle.product.specs.MarkLaws.{markUnits, mark-steps}
+use Rattle.product.specs.Units.{markUnits}
+use Rattle.product.specs.MarkLaws.{mark-steps}
 use Rattle.product.proofs.mark_of.Statement.{statement}
 use Rattle.product.proofs.mark_of.Tie as tie
 
