@@ -1,5 +1,10 @@
 pub mod Product
 pub mod Marks
+pub mod Answer
 pub mod Units
 pub mod ProductLaws
+pub mod StepLaws
+pub mod SoundLaws
 pub mod MarkLaws
+pub mod Demand2
+pub mod AnswerLaws

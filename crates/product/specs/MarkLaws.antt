@@ -2,7 +2,7 @@
 use mathlib.Core.Path.{_≡_, refl, sym, ap, _∙_, subst}
 use mathlib.Core.Bool.{Bool, true, false, _&&_, cond}
 use Prim.Native.Nat.{ℕ, _+_, _-_, _*_, _^_, _≤_, _<_}
-use native.Mathlib.Nat.{mul-le-mul-right, mul-pos, le-trans, le-of-eq, le-of-lt, lt-of-not-le, not-le-of-lt}
+use native.Mathlib.Nat.{mul-le-mul-right, mul-pos, le-trans, le-of-eq, le-of-lt, lt-of-not-le, not-le-of-lt, eq-of-mul-eq-mul-right}
 use native.Mathlib.Omega.{arith}
 use lib.Dec.{ltb, eqb}
 use lib.Pow.{pow-add, pow-pos}
@@ -14,23 +14,17 @@ use Rattle.rounding.specs.Digits.{pow-half}
 use Rattle.rounding.specs.Unit.{rn}
 use Rattle.rounding.specs.UnitLaws.{rn-mono, rn-fixed}
 use Rattle.rounding.specs.Fraction.{Fraction, over, times}
-use Rattle.rounding.specs.FractionLaws.{Counts, over-counts, counts-finer, RN-counts, RN-counts-fraction, times-counts, counts-same, counts-unique, below-counts, equal-counts}
+use Rattle.rounding.specs.FractionLaws.{Counts, over-counts, RN-counts, RN-counts-fraction, times-counts, counts-same, counts-unique, below-counts, equal-counts}
 use Rattle.factor.specs.Accepted.{Between}
 use Rattle.product.specs.declared.Product.{Product}
 use Rattle.product.specs.Product.{argument, valueOf}
+use Rattle.product.specs.Units.{units, markUnits}
+use Rattle.product.specs.ProductLaws.{value-counts}
 use Rattle.product.specs.Marks.{exact, mark, Gives, Says}
-
--- the mark of v by whole numbers: a and b are RN(L * x) and RN(U * x)
-abbrev pub markUnits : (a b v : ℕ) → Mark
-markUnits a b v = cond (ltb v a) Wrong (cond (ltb b v) Wrong (cond (eqb a v && eqb b v) Right Open))
 
 -- right exactly if v is both
 pub right-units : (a b v : ℕ) → a ≡ v → b ≡ v → markUnits a b v ≡ Right
 right-units a b v p q = rw (le-ltb v a (omega arith), le-ltb b v (omega arith), eq-eqb a v p, eq-eqb b v q)
-
--- a product S * 2 ^ b / 2 ^ (n - 1) in the unit 2 ^ - (E + n - 1)
-abbrev pub units : (E : ℕ) → Product → ℕ
-units E v = v .significand * 2 ^ (E + v .binade)
 
 module _ (rule : Rule) (n E : ℕ) (P : 0 < n) (L U X : ℕ) (v : Product) where
   abbrev t : ℕ
@@ -48,27 +42,39 @@ module _ (rule : Rule) (n E : ℕ) (P : 0 < n) (L U X : ℕ) (v : Product) where
   unit : 2 ^ E * 2 ^ (n - 1) ≡ 2 ^ t
   unit = sym (pow-add 2 E (n - 1))
 
-  value-counts : Counts (2 ^ t) false N (valueOf n v)
-  value-counts =
-      let k = counts-finer (2 ^ (n - 1)) (2 ^ E) (pow-pos E) false (v .significand * 2 ^ v .binade) (valueOf n v) (over-counts (v .significand * 2 ^ v .binade) (n - 1)) in
-      subst (λ (z : ℕ). Counts (2 ^ t) false z (valueOf n v)) (omega (arith, ap (λ (z : ℕ). v .significand * z) (pow-add 2 E (v .binade))))
-      (subst (λ (z : ℕ). Counts z false (v .significand * 2 ^ v .binade * 2 ^ E) (valueOf n v)) (omega (arith, unit)) k)
-
   -- ---- the mark by whole numbers
   end-counts : (c : ℕ) → Counts (2 ^ t) false (rn rule n (c * X) 1) (exact rule n X (over c E))
   end-counts c =
       RN-counts rule n P t false (c * X) (times (over c E) (argument n X))
       (subst (λ (z : ℕ). Counts z false (c * X) (times (over c E) (argument n X))) unit (times-counts (2 ^ E) (2 ^ (n - 1)) c X false (over c E) (argument n X) (over-counts c E) (over-counts X (n - 1))))
 
-  pub mark-units : mark rule n E L U X v ≡ markUnits a b N
+  mark-counts : (T i j m : ℕ) → Counts T false i (exact rule n X (over L E)) → Counts T false j (exact rule n X (over U E)) → Counts T false m (valueOf n v) → mark rule n E L U X v ≡ markUnits i j m
   unfolding mark
-  mark-units =
+  mark-counts T i j m p q r =
       rw (
-        below-counts (2 ^ t) N a (valueOf n v) (exact rule n X (over L E)) value-counts (end-counts L),
-        below-counts (2 ^ t) b N (exact rule n X (over U E)) (valueOf n v) (end-counts U) value-counts,
-        equal-counts (2 ^ t) a N (exact rule n X (over L E)) (valueOf n v) (end-counts L) value-counts,
-        equal-counts (2 ^ t) b N (exact rule n X (over U E)) (valueOf n v) (end-counts U) value-counts,
+        below-counts T m i (valueOf n v) (exact rule n X (over L E)) r p,
+        below-counts T j m (exact rule n X (over U E)) (valueOf n v) q r,
+        equal-counts T i m (exact rule n X (over L E)) (valueOf n v) p r,
+        equal-counts T j m (exact rule n X (over U E)) (valueOf n v) q r,
       )
+
+  pub mark-units : mark rule n E L U X v ≡ markUnits a b N
+  mark-units = mark-counts (2 ^ t) a b N (end-counts L) (end-counts U) (value-counts n E v)
+
+  -- and by whole numbers of the step 2 ^ (1 - n) of binade 0, i and j being those of the ends
+  pub mark-steps : (i j : ℕ) → i * 2 ^ E ≡ a → j * 2 ^ E ≡ b → mark rule n E L U X v ≡ markUnits i j (v .significand * 2 ^ v .binade)
+  mark-steps i j p q = mark-counts (2 ^ (n - 1)) i j (v .significand * 2 ^ v .binade) (at L i p) (at U j q) (over-counts (v .significand * 2 ^ v .binade) (n - 1))
+    where
+      at : (c k : ℕ) → k * 2 ^ E ≡ rn rule n (c * X) 1 → Counts (2 ^ (n - 1)) false k (exact rule n X (over c E))
+      at c k e =
+          let x = exact rule n X (over c E) in
+          let w = end-counts c in
+          record {
+            unit = pow-pos (n - 1);
+            some = w .some;
+            sign = w .sign;
+            count = eq-of-mul-eq-mul-right (2 ^ E) (pow-pos E) (x .num * 2 ^ (n - 1)) (k * x .den) (omega (arith, w .count, ap (λ (z : ℕ). x .num * z) unit, ap (λ (z : ℕ). z * x .den) e));
+          }
 
   -- ---- every fraction between
   module _ (le : 2 ^ E ≤ L) (lu : L ≤ U) (x1 : 2 ^ (n - 1) ≤ X) (bits : v .significand ≤ 2 ^ n) where
@@ -96,10 +102,10 @@ module _ (rule : Rule) (n E : ℕ) (P : 0 < n) (L U X : ℕ) (v : Product) where
             omega (arith, f, mul-le-mul-right (C .den) x1, ap (λ (z : ℕ). z * C .den) (pow-half n P))
 
     gives : (C : Fraction) → Between E L U C → rounds C ≡ N → Gives rule n X v C
-    gives C k e = counts-same (2 ^ t) false N (exact rule n X C) (valueOf n v) (subst (λ (z : ℕ). Counts (2 ^ t) false z (exact rule n X C)) e (exact-counts C k)) value-counts
+    gives C k e = counts-same (2 ^ t) false N (exact rule n X C) (valueOf n v) (subst (λ (z : ℕ). Counts (2 ^ t) false z (exact rule n X C)) e (exact-counts C k)) (value-counts n E v)
 
     given : (C : Fraction) → Between E L U C → Gives rule n X v C → rounds C ≡ N
-    given C k = counts-unique (2 ^ t) false (rounds C) N (exact rule n X C) (valueOf n v) (exact-counts C k) value-counts
+    given C k = counts-unique (2 ^ t) false (rounds C) N (exact rule n X C) (valueOf n v) (exact-counts C k) (value-counts n E v)
 
     from-L : (C : Fraction) → Between E L U C → a ≤ rounds C
     from-L C k = rn-mono rule n P (L * X) 1 (C .num * 2 ^ E * X) (C .den) (omega arith) (k .some) (omega (arith, mul-le-mul-right X (k .least)))

@@ -3,8 +3,10 @@ use mathlib.Core.Bool.{_&&_, cond}
 use Prim.Native.Nat.{ℕ}
 use Rattle.marks.specs.declared.Mark.{Mark}
 use Rattle.marks.specs.declared.Mark.the-variants.{Right, Open, Wrong}
-use Rattle.rounding.specs.Grid.{Rule}
+use Rattle.rounding.specs.Grid.{Rule, toEven}
 use Rattle.rounding.specs.Fraction.{Fraction, over, times, RN, Same, below, equal}
+use Rattle.factor.specs.declared.Factor.{Factor}
+use Rattle.factor.specs.Precision.{scaleOf}
 use Rattle.factor.specs.Accepted.{Between}
 use Rattle.product.specs.declared.Product.{Product}
 use Rattle.product.specs.Product.{argument, valueOf}
@@ -20,6 +22,10 @@ compared a b v = cond (below v a) Wrong (cond (below b v) Wrong (cond (equal a v
 -- the mark of a value at the ends L and U of the scale E
 unfoldable pub mark : Rule → (n E L U X : ℕ) → Product → Mark
 mark rule n E L U X v = compared (exact rule n X (over L E)) (exact rule n X (over U E)) (valueOf n v)
+
+-- the mark of a value by a factor's own precision and ends
+abbrev pub markBy : Factor → ℕ → Product → Mark
+markBy f X v = mark toEven (f .precision .bits) (scaleOf (f .precision .bits)) (f .lower) (f .upper) X v
 
 -- ---- demand 2, in its own words
 -- the fraction C, multiplied by x, rounds to v

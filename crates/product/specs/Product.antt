@@ -1,10 +1,11 @@
 -- The two-step product (document 01, "The product"; source document 004, Algorithm 1), over the tie rule and the precision n. Definitions only. Assumes nothing.
 use Prim.Native.Nat.{ℕ, _-_, _*_, _^_}
 use lib.IntN.{pos, natAbs, _+ℤ_}
-use Rattle.rounding.specs.Grid.{Rule}
+use Rattle.rounding.specs.Grid.{Rule, toEven}
 use Rattle.rounding.specs.Round.{rounded}
 use Rattle.rounding.specs.Fraction.{Fraction, over, times, plus, RN}
 use Rattle.factor.specs.declared.Parts.{Parts}
+use Rattle.factor.specs.declared.Factor.{Factor}
 use Rattle.rounding.specs.Signed.{negative}
 use Rattle.product.specs.declared.Product.{Product}
 
@@ -38,6 +39,10 @@ product rule n p X =
     let y = fused rule n p X in
     let r = rounded rule n (y .num) (y .den) in
     record { significand = r .significand; binade = natAbs (r .exponent +ℤ pos (n - 1)) }
+
+-- the product of a factor, by its own precision and parts
+abbrev pub productBy : Factor → ℕ → Product
+productBy f X = product toEven (f .precision .bits) (f .parts) X
 
 -- a product as a number
 abbrev pub valueOf : (n : ℕ) → Product → Fraction

@@ -2,7 +2,7 @@
 use mathlib.Core.Path.{_≡_, refl, sym, ap, _∙_, subst}
 use mathlib.Core.Bool.{Bool, true, false}
 use Prim.Native.Nat.{ℕ, zero, suc, _+_, _-_, _*_, _^_, _≤_, _<_}
-use native.Mathlib.Nat.{mul-pos, mul-le-mul-right, mul-le-mul-left, mul-le-mul, le-trans, le-of-eq, le-of-lt, le-of-suc-le-suc, lt-of-not-le, not-le-of-lt, lt-of-mul-lt-mul-right, mul-lt-mul-of-pos-left, mul-lt-mul-of-pos-right, pow-succ'}
+use native.Mathlib.Nat.{mul-pos, mul-le-mul-right, mul-le-mul-left, mul-le-mul, le-trans, le-of-eq, le-of-lt, le-of-suc-le-suc, lt-of-not-le, not-le-of-lt, lt-of-mul-lt-mul-right, mul-lt-mul-of-pos-left, mul-lt-mul-of-pos-right, eq-of-mul-eq-mul-right, pow-succ'}
 use native.Mathlib.Omega.{arith}
 use lib.Dec.{ltb}
 use lib.Pow.{pow-add, pow-pos, pow-mono}
@@ -16,16 +16,16 @@ use Rattle.rounding.specs.Unit.{rn}
 use Rattle.rounding.specs.UnitLaws.{rn-error, rn-le, rn-ge, rn-below}
 use Rattle.rounding.specs.Round.{rounded, roundedIn}
 use Rattle.rounding.specs.RoundLaws.{HasBits, rounded-at, rounded-bits, roundedIn-exponent, minus-shift, minus-le}
-use Rattle.rounding.specs.Fraction.{Fraction, times}
-use Rattle.rounding.specs.FractionLaws.{Counts, sumSign, sumSize, over-counts, counts-finer, RN-counts, times-counts, plus-counts}
+use Rattle.rounding.specs.Fraction.{Fraction, times, Same}
+use Rattle.rounding.specs.FractionLaws.{Counts, sumSign, sumSize, over-counts, counts-finer, RN-counts, times-counts, plus-counts, counts-same}
 use Rattle.factor.specs.declared.Parts.{Parts}
 use Rattle.factor.specs.Parts.{partsAt}
 use Rattle.factor.specs.Whole.{End, Whole, step, plusOrMinus, whole}
 use Rattle.rounding.specs.Signed.{negative}
 use Rattle.factor.specs.PartsLaws.{width-is, step-is, bottom-is, high-from, high-is, low-most, width-le, worth-near, whole-of-parts, low-kept}
 use Rattle.product.specs.declared.Product.{Product}
-use Rattle.product.specs.Product.{argument, high, low, first, fused, second, product}
-use Rattle.product.specs.Units.{firstUnits, fusedUnits, secondUnits}
+use Rattle.product.specs.Product.{argument, high, low, first, fused, second, product, valueOf}
+use Rattle.product.specs.Units.{firstUnits, fusedUnits, secondUnits, units}
 
 -- ---- of two numbers with significands of n bits the one with the larger exponent is larger
 module _ (n : ℕ) (P : 0 < n) where
@@ -36,6 +36,42 @@ module _ (n : ℕ) (P : 0 < n) where
 
   pub exponent-le : (s j t k : ℕ) → s < 2 ^ n → 2 ^ (n - 1) ≤ t → t * 2 ^ k ≤ s * 2 ^ j → k ≤ j
   exponent-le s j t k h l e = le-of-suc-le-suc (lt-of-not-le (λ (g : suc j ≤ k). not-le-of-lt (exponent-order s j t k h l g) e))
+
+-- ---- a product as a whole number of the unit
+pub value-counts : (n E : ℕ) (v : Product) → Counts (2 ^ (E + (n - 1))) false (units E v) (valueOf n v)
+value-counts n E v =
+    let s = v .significand in
+    let k = counts-finer (2 ^ (n - 1)) (2 ^ E) (pow-pos E) false (s * 2 ^ v .binade) (valueOf n v) (over-counts (s * 2 ^ v .binade) (n - 1)) in
+    subst (λ (z : ℕ). Counts (2 ^ (E + (n - 1))) false z (valueOf n v)) (omega (arith, ap (λ (z : ℕ). s * z) (pow-add 2 E (v .binade))))
+    (subst (λ (z : ℕ). Counts z false (s * 2 ^ v .binade * 2 ^ E) (valueOf n v)) (omega (arith, pow-add 2 E (n - 1))) k)
+
+-- v is N of that unit, from 1 to below 4, with a significand of n bits
+pub record IsProduct (n E N : ℕ) (v : Product) : Type 0 where
+  pub bits : HasBits n (v .significand)
+  pub binade : v .binade ≤ 1
+  pub value : units E v ≡ N
+
+module _ (n E : ℕ) (P : 0 < n) (N : ℕ) where
+  -- N has just one such form
+  pub product-only : (u v : Product) → IsProduct n E N u → IsProduct n E N v → u ≡ v
+  product-only u v p q =
+      let e : units E u ≡ units E v = p .value ∙ sym (q .value) in
+      let l = exponent-le n P (u .significand) (E + u .binade) (v .significand) (E + v .binade) (p .bits .most) (q .bits .least) (le-of-eq (sym e)) in
+      let g = exponent-le n P (v .significand) (E + v .binade) (u .significand) (E + u .binade) (q .bits .most) (p .bits .least) (le-of-eq e) in
+      let b : u .binade ≡ v .binade = omega arith in
+      let s : u .significand ≡ v .significand = eq-of-mul-eq-mul-right (2 ^ (E + v .binade)) (pow-pos (E + v .binade)) (u .significand) (v .significand) (ap (λ (z : ℕ). u .significand * 2 ^ (E + z)) (sym b) ∙ e) in
+      λ i. record { significand = s i; binade = b i }
+
+  -- and the exponent of a significand of n bits tells it
+  module _ (from : 2 ^ (n - 1) * 2 ^ E ≤ N) (s i : ℕ) (bits : HasBits n s) (v : s * 2 ^ i ≡ N) where
+    pub exponent-from : E ≤ i
+    exponent-from = exponent-le n P s i (2 ^ (n - 1)) E (bits .most) (le-of-eq refl) (le-trans from (le-of-eq (sym v)))
+
+    pub is-product : N ≤ (2 ^ n - 1) * 2 ^ suc E → IsProduct n E N (record { significand = s; binade = i - E })
+    is-product to =
+        let lo = exponent-from in
+        let hi : i ≤ suc E = exponent-le n P (2 ^ n - 1) (suc E) s i (omega (arith, pow-pos n)) (bits .least) (le-trans (le-of-eq v) to) in
+        record { bits = bits; binade = omega arith; value = ap (λ (z : ℕ). s * 2 ^ z) (omega arith) ∙ v }
 
 module _ (rule : Rule) (n E : ℕ) (P : 0 < n) (F : 2 * n ≤ E) (c : ℕ) (ce : End E c) where
   abbrev G : ℕ
@@ -55,7 +91,7 @@ module _ (rule : Rule) (n E : ℕ) (P : 0 < n) (F : 2 * n ≤ E) (c : ℕ) (ce :
 
   module _ (X : ℕ) (xe : X < 2 ^ n) where
     -- ---- u1
-    first-most : firstUnits rule n w X ≤ X * W
+    pub first-most : firstUnits rule n w X ≤ X * W
     unfolding firstUnits
     first-most = rn-le rule n P (w .low * X) 1 X (E - n) (omega arith) (le-of-lt xe) (omega (arith, mul-le-mul-right X (low-most rule n E P F c ce)))
 
@@ -66,7 +102,7 @@ module _ (rule : Rule) (n E : ℕ) (P : 0 < n) (F : 2 * n ≤ E) (c : ℕ) (ce :
         let r = rn-error rule n P (w .low * X) 1 (E - n) (omega arith) b in
         (omega (arith, r .0), omega (arith, r .1))
 
-    first-under : firstUnits rule n w X ≤ w .high * G * X
+    pub first-under : firstUnits rule n w X ≤ w .high * G * X
     first-under = omega (arith, first-most, mul-le-mul-right X (le-trans (width-le rule n E P F c ce) (high-from rule n E P F c ce)))
 
     -- ---- Ch * x + u1 is never below x: where the low part is negative the high part is a whole step above 1
@@ -171,36 +207,39 @@ module _ (rule : Rule) (n E : ℕ) (P : 0 < n) (F : 2 * n ≤ E) (c : ℕ) (ce :
       fine : 2 ^ n * 1 ≤ 2 * y
       fine = omega (arith, fused-least, mul-le-mul-left (2 ^ E) x1, mul-le-mul-right (2 ^ (n - 1)) (pow-pos E), pow-half n P)
 
+      y-pos : 0 < y
+      y-pos = omega (arith, fine, pow-pos n)
+
+      pub fused-some : (0 < fused rule n p X .num) × (0 < fused rule n p X .den)
+      fused-some = let k = fused-counts in (num-pos (fused rule n p X .num) (fused rule n p X .den) (k .count) (k .some), k .some)
+        where
+          num-pos : (a d : ℕ) → a * 2 ^ t ≡ y * d → 0 < d → 0 < a
+          num-pos zero d e D = absurd (omega (arith, mul-pos y-pos D))
+          num-pos (suc a) d e D = omega arith
+
       abbrev r : Rounded
       r = rounded rule n (fused rule n p X .num) (fused rule n p X .den)
 
       r-at : r ≡ roundedIn rule n t y 1
       r-at = let k = fused-counts in rounded-at rule n P (fused rule n p X .num) (fused rule n p X .den) t y 1 (k .some) (omega arith) (omega (arith, k .count)) fine
 
-      -- S * 2 ^ (E + b), with S of n bits and b at most 1
-      pub record IsProduct (v : Product) : Type 0 where
-        pub bits : HasBits n (v .significand)
-        pub binade : v .binade ≤ 1
-        pub value : v .significand * 2 ^ (E + v .binade) ≡ secondUnits rule n E w X
-
-      pub product-is : IsProduct (product rule n p X)
+      pub product-is : IsProduct n E (secondUnits rule n E w X) (product rule n p X)
       unfolding product secondUnits
       product-is = of (roundedIn-exponent rule n P t y 1)
         where
           bits : HasBits n (r .significand)
-          bits = let k = fused-counts in rounded-bits rule n P (fused rule n p X .num) (fused rule n p X .den) (num-pos (fused rule n p X .num) (fused rule n p X .den) (k .count) (k .some)) (k .some)
-            where
-              num-pos : (a d : ℕ) → a * 2 ^ t ≡ y * d → 0 < d → 0 < a
-              num-pos zero d e D = absurd (omega (arith, fine, mul-pos y-pos D, pow-pos n))
-                where
-                  y-pos : 0 < y
-                  y-pos = omega (arith, fine, pow-pos n)
-              num-pos (suc a) d e D = omega arith
+          bits = rounded-bits rule n P (fused rule n p X .num) (fused rule n p X .den) (fused-some .0) (fused-some .1)
 
-          of : (i : ℕ) × (roundedIn rule n t y 1 .exponent ≡ minus i t) × (roundedIn rule n t y 1 .significand * 2 ^ i ≡ rn rule n y 1) → IsProduct (record { significand = r .significand; binade = natAbs (r .exponent +ℤ pos (n - 1)) })
+          of : (i : ℕ) × (roundedIn rule n t y 1 .exponent ≡ minus i t) × (roundedIn rule n t y 1 .significand * 2 ^ i ≡ rn rule n y 1)
+              → IsProduct n E (rn rule n y 1) (record { significand = r .significand; binade = natAbs (r .exponent +ℤ pos (n - 1)) })
           of (i, e, v) =
               let v' : r .significand * 2 ^ i ≡ rn rule n y 1 = ap (λ (z : Rounded). z .significand * 2 ^ i) r-at ∙ v in
-              let lo : E ≤ i = exponent-le n P (r .significand) i (2 ^ (n - 1)) E (bits .most) (le-of-eq refl) (le-trans second-least (le-of-eq (sym v'))) in
-              let hi : i ≤ suc E = exponent-le n P (2 ^ n - 1) (suc E) (r .significand) i (omega (arith, pow-pos n)) (bits .least) (le-trans (le-of-eq v') second-most) in
+              let lo = exponent-from n E P (rn rule n y 1) second-least (r .significand) i bits v' in
               let b : natAbs (r .exponent +ℤ pos (n - 1)) ≡ i - E = ap natAbs (ap (λ (z : ℤ). z +ℤ pos (n - 1)) (ap (λ (z : Rounded). z .exponent) r-at ∙ e) ∙ minus-shift i E (n - 1) ∙ minus-le i E lo) in
-              record { bits = bits; binade = rw b (omega arith); value = ap (λ (z : ℕ). r .significand * 2 ^ (E + z)) b ∙ ap (λ (z : ℕ). r .significand * 2 ^ z) (omega arith) ∙ v' }
+              subst (λ (z : ℕ). IsProduct n E (rn rule n y 1) (record { significand = r .significand; binade = z })) (sym b) (is-product n E P (rn rule n y 1) second-least (r .significand) i bits v' second-most)
+
+      -- it is u2
+      pub product-value : Same (second rule n p X) (valueOf n (product rule n p X))
+      product-value =
+          let v = product rule n p X in
+          counts-same (2 ^ t) false (units E v) (second rule n p X) (valueOf n v) (subst (λ (z : ℕ). Counts (2 ^ t) false z (second rule n p X)) (sym (product-is .value)) second-counts) (value-counts n E v)

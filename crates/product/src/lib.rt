@@ -1,7 +1,176 @@
 // The two-step product of a factor and a significand, and its mark (document 01, "The product").
+use factor::Factor;
+use factor::Parts;
+use factor::Precision;
+use marks::Mark;
+use rounding::TieRule;
+use wide::Wide;
+ghost use mathlib.Core.Path.{_≡_};
+ghost use Prim.Native.Nat.{_+_, _-_, _*_, _<_, _≤_, _^_};
+ghost use Rattle.rounding.specs.Grid.{toEven};
+ghost use Rattle.rounding.specs.Unit.{rn};
+ghost use Rattle.rounding.specs.RoundLaws.{HasBits};
+ghost use Rattle.wide.specs.Value.{valueOf};
+ghost use Rattle.factor.specs.Precision.{Kept, significandOut};
+ghost use Rattle.factor.specs.Whole.{End, wholeOf};
+ghost use Rattle.factor.specs.SetUp.{Sound};
+ghost use Rattle.product.specs.Product.{productBy};
+ghost use Rattle.product.specs.Marks.{markBy};
+ghost use Rattle.product.specs.Units.{firstUnits, fusedUnits, roundedUnits, markUnits, PartsAtEnd};
+ghost use Rattle.product.specs.Answer.{answered, multiplied};
 
 // A product from 1 to below 4: a significand of n bits, and its binade, 0 for [1, 2) and 1 for [2, 4).
 pub struct Product {
     pub significand: u64,
     pub binade: u32,
+}
+
+// The answer to a multiplication: the product in the case of its mark, or the refusal 31 or 17.
+pub enum ProductAnswer {
+    Right(Product),
+    Open(Product),
+    Wrong(Product),
+    Refused(u32),
+}
+
+// The size of u1 = RN(Cl * x), in the unit 2 ^ - (61 + n), in which all that follows is a whole number.
+fn first_units(n: u32, parts: Parts, x: u64) -> u64
+    requires { ⌜ Kept n × PartsAtEnd toEven n 62 parts × HasBits n x ⌝ }
+    ensures { λ r. ⌜ r ≡ firstUnits toEven n (wholeOf 62 parts) x ⌝ }
+{
+    let exact = round::magnitude(parts.low) * x;
+    if exact == 0 {
+        return 0;
+    }
+    let dropped = wide::word_digits(exact) - n;
+    let near = round::nearest_word(exact, dropped, TieRule::ToEven);
+    near.taken << (dropped + Precision::SCALE - parts.places)
+}
+
+// Ch * x + u1, the sum and the product exact.
+fn fused_units(p: Precision, parts: Parts, x: u64) -> Wide
+    requires { ⌜ Kept (p .bits) × PartsAtEnd toEven (p .bits) 62 parts × HasBits (p .bits) x ⌝ }
+    ensures { λ r. ⌜ valueOf r ≡ fusedUnits toEven (p .bits) 62 (wholeOf 62 parts) x ⌝ }
+{
+    let high = wide::shifted_left(wide::from_word(parts.high * x), p.step());
+    let first = wide::from_word(first_units(p.bits, parts, x));
+    if parts.low < 0 {
+        return wide::difference(high, first);
+    }
+    wide::sum(high, first)
+}
+
+// A number of that unit, at least 1, to n bits: its leading zeros tell the digits to drop, 62 in binade 0.
+fn rounded_units(y: Wide, n: u32) -> Product
+    requires { ⌜ (1 ≤ n) × (n < 64) × (2 ^ (n - 1) * 2 ^ 62 ≤ valueOf y) ⌝ }
+    ensures { λ r. ⌜ r ≡ roundedUnits toEven n 62 (valueOf y) ⌝ }
+{
+    let r = round::round_wide(y, n, TieRule::ToEven);
+    Product {
+        significand: r.significand,
+        binade: r.exponent as u32 - Precision::SCALE,
+    }
+}
+
+// The product u2 = RN(Ch * x + u1) of a factor that was accepted and a significand in range.
+pub fn product_of(f: Factor, x: u64) -> Product
+    requires { ⌜ Sound f × HasBits (f .precision .bits) x ⌝ }
+    ensures { λ r. ⌜ r ≡ productBy f x ⌝ }
+{
+    let p = f.precision;
+    let parts = f.parts;
+    rounded_units(fused_units(p, parts, x), p.bits)
+}
+
+// A product as a whole number of 2 ^ (1 - n), the step of binade 0: so products are compared.
+fn steps_of(v: Product) -> u64
+    requires { ⌜ (v .significand < 2 ^ 63) × (v .binade ≤ 1) ⌝ }
+    ensures { λ r. ⌜ r ≡ v .significand * 2 ^ v .binade ⌝ }
+{
+    v.significand << v.binade
+}
+
+// RN(C * x) at an end, in the same steps.
+fn end_steps(c: u64, n: u32, x: u64) -> u64
+    requires { ⌜ Kept n × End 62 c × HasBits n x ⌝ }
+    ensures { λ r. ⌜ r * 2 ^ 62 ≡ rn toEven n (c * x) 1 ⌝ }
+{
+    steps_of(rounded_units(wide::product(c, x), n))
+}
+
+// The mark of a value between or outside the two that the ends round to.
+fn compared(a: u64, b: u64, v: u64) -> Mark
+    ensures { λ r. ⌜ r ≡ markUnits a b v ⌝ }
+{
+    if v < a {
+        return Mark::Wrong;
+    }
+    if b < v {
+        return Mark::Wrong;
+    }
+    if a == v {
+        if b == v {
+            return Mark::Right;
+        }
+        return Mark::Open;
+    }
+    Mark::Open
+}
+
+// The mark of a value, whoever made it, by what both ends times x round to.
+pub fn mark_of(f: Factor, x: u64, v: Product) -> Mark
+    requires { ⌜ Sound f × HasBits (f .precision .bits) x × HasBits (f .precision .bits) (v .significand) × (v .binade ≤ 1) ⌝ }
+    ensures { λ r. ⌜ r ≡ markBy f x v ⌝ }
+{
+    let n = f.precision.bits;
+    compared(
+        end_steps(f.lower, n, x),
+        end_steps(f.upper, n, x),
+        steps_of(v),
+    )
+}
+
+// The mark of the product: what a sweep asks of a suspect.
+pub fn trial(f: Factor, x: u64) -> Mark
+    requires { ⌜ Sound f × HasBits (f .precision .bits) x ⌝ }
+    ensures { λ r. ⌜ r ≡ markBy f x (productBy f x) ⌝ }
+{
+    mark_of(f, x, product_of(f, x))
+}
+
+// Refusal 17: a significand outside 2 ^ (n - 1) to 2 ^ n - 1.
+pub fn significand_out(p: Precision, x: u64) -> bool
+    requires { ⌜ Kept (p .bits) ⌝ }
+    ensures { λ r. ⌜ r ≡ significandOut (p .bits) x ⌝ }
+{
+    if x < p.least() {
+        return true;
+    }
+    p.most() < x
+}
+
+// A product in the case of its mark.
+fn answer(m: Mark, v: Product) -> ProductAnswer
+    ensures { λ r. ⌜ r ≡ answered m v ⌝ }
+{
+    match m {
+        Mark::Right => ProductAnswer::Right(v),
+        Mark::Open => ProductAnswer::Open(v),
+        Mark::Wrong => ProductAnswer::Wrong(v),
+    }
+}
+
+// Multiplies a significand: the product with its mark, or refusal 31 for the factor, or 17 for the significand.
+pub fn multiply(f: Factor, x: u64) -> ProductAnswer
+    ensures { λ r. ⌜ r ≡ multiplied f x ⌝ }
+{
+    if factor::is_intact(f) {
+        let p = f.precision;
+        if significand_out(p, x) {
+            return ProductAnswer::Refused(17);
+        }
+        let v = product_of(f, x);
+        return answer(mark_of(f, x, v), v);
+    }
+    ProductAnswer::Refused(31)
 }

@@ -1,0 +1,229 @@
+-- The steps of the product as code takes them, in the unit 2 ^ - (E + n - 1): how far u1 is shifted, how large each number grows, and that rounding the
+-- fused sum gives the product. Assumes nothing.
+use mathlib.Core.Path.{_≡_, sym, ap, _∙_, subst}
+use Prim.Native.Nat.{ℕ, zero, suc, _+_, _-_, _*_, _^_, _≤_, _<_}
+use native.Mathlib.Nat.{mul-le-mul, mul-le-mul-left, mul-pos, eq-of-mul-eq-mul-right, le-trans, le-of-eq, le-of-lt, lt-of-le-of-lt, lt-of-lt-of-le, lt-of-not-le, not-le-of-lt, mul-lt-mul-of-pos-right, one-mul, div-one}
+use native.Mathlib.Decide.{decLe, decLt}
+use native.Mathlib.Omega.{arith}
+use lib.IntN.{ℤ, pos, natAbs}
+use lib.Pow.{pow-add, pow-pos, pow-mono}
+use lib.Ieee.{size, minus}
+use lib.Ieee.Digits.{size-lt, size-le}
+use lib.Ieee.Order.{drop}
+use Rattle.rounding.specs.Apart.{apart}
+use Rattle.rounding.specs.declared.Rounded.{Rounded}
+use Rattle.rounding.specs.Grid.{Rule, nearest}
+use Rattle.rounding.specs.Digits.{pow-half}
+use Rattle.rounding.specs.Unit.{rn}
+use Rattle.rounding.specs.UnitLaws.{rn-le, rn-ge, rn-in-binade, rn-scale-whole, rn-whole-small}
+use Rattle.rounding.specs.Round.{rounded, roundedIn}
+use Rattle.rounding.specs.RoundLaws.{HasBits, rounded-at, rounded-bits, roundedIn-exponent, minus-zero}
+use Rattle.rounding.specs.Signed.{signedOf}
+use Rattle.factor.specs.declared.Parts.{Parts}
+use Rattle.factor.specs.Parts.{partsAt}
+use Rattle.factor.specs.Whole.{End, Whole, step, whole, wholeOf}
+use Rattle.factor.specs.PartsLaws.{high-most, low-kept, low-tells, whole-of-parts}
+use Rattle.factor.specs.LowForm.{top-is}
+use Rattle.product.specs.Product.{product}
+use Rattle.product.specs.Units.{firstUnits, fusedUnits, secondUnits, roundedUnits, PartsAtEnd}
+use Rattle.product.specs.ProductLaws.{IsProduct, is-product, exponent-from, product-only, product-is, first-most, first-under, fused-least, second-most}
+
+-- ---- RN of a whole number N of the unit, at least 1
+module _ (rule : Rule) (n E : ℕ) (P : 0 < n) (N : ℕ) (from : 2 ^ (n - 1) * 2 ^ E ≤ N) where
+  abbrev r : Rounded
+  r = rounded rule n N 1
+
+  some : 0 < N
+  some = le-trans (mul-pos (pow-pos (n - 1)) (pow-pos E)) from
+
+  bits : HasBits n (r .significand)
+  bits = rounded-bits rule n P N 1 some (omega arith)
+
+  rn-from : 2 ^ (n - 1) * 2 ^ E ≤ rn rule n N 1
+  rn-from = rn-ge rule n P N 1 (2 ^ (n - 1)) E (omega arith) (omega (arith, pow-half n P)) (omega (arith, from))
+
+  -- at least E digits are dropped
+  pub record Dropped : Type 0 where
+    pub count : ℕ
+    pub exponent : r .exponent ≡ pos count
+    pub value : r .significand * 2 ^ count ≡ rn rule n N 1
+    pub least : E ≤ count
+
+  pub dropped : Dropped
+  dropped = of (roundedIn-exponent rule n P 0 N 1)
+    where
+      fine : 2 ^ n * 1 ≤ 2 * N
+      fine = omega (arith, pow-half n P, mul-le-mul-left (2 ^ (n - 1)) (pow-pos E), from)
+
+      at : r ≡ roundedIn rule n 0 N 1
+      at = rounded-at rule n P N 1 0 N 1 (omega arith) (omega arith) (omega arith) fine
+
+      of : (i : ℕ) × (roundedIn rule n 0 N 1 .exponent ≡ minus i 0) × (roundedIn rule n 0 N 1 .significand * 2 ^ i ≡ rn rule n N 1) → Dropped
+      of (i, e, v) =
+          let v' : r .significand * 2 ^ i ≡ rn rule n N 1 = ap (λ (z : Rounded). z .significand * 2 ^ i) at ∙ v in
+          record {
+            count = i;
+            exponent = ap (λ (z : Rounded). z .exponent) at ∙ e ∙ minus-zero i;
+            value = v';
+            least = exponent-from n E P (rn rule n N 1) rn-from (r .significand) i bits v';
+          }
+
+  -- so the form of `roundedUnits` is the number's
+  pub rounded-units-is : rn rule n N 1 ≤ (2 ^ n - 1) * 2 ^ suc E → IsProduct n E (rn rule n N 1) (roundedUnits rule n E N)
+  unfolding roundedUnits
+  rounded-units-is to =
+      let d = dropped in
+      subst (λ (z : ℤ). IsProduct n E (rn rule n N 1) (record { significand = r .significand; binade = natAbs z - E })) (sym (d .exponent)) (is-product n E P (rn rule n N 1) rn-from (r .significand) (d .count) bits (d .value) to)
+
+-- ---- at an end c, with X a significand: RN(C * x)
+module _ (rule : Rule) (n E : ℕ) (P : 0 < n) (c : ℕ) (ce : End E c) (X : ℕ) (xb : HasBits n X) where
+  pub end-from : 2 ^ (n - 1) * 2 ^ E ≤ c * X
+  end-from = omega (arith, mul-le-mul (ce .from) (xb .least))
+
+  pub end-is : IsProduct n E (rn rule n (c * X) 1) (roundedUnits rule n E (c * X))
+  end-is =
+      let u : X ≤ 2 ^ n - 1 = omega (arith, xb .most) in
+      rounded-units-is rule n E P (c * X) end-from (rn-le rule n P (c * X) 1 (2 ^ n - 1) (suc E) (omega arith) (omega arith) (omega (arith, mul-le-mul u (le-of-lt (ce .to)))))
+
+-- u1 = u as code has it: m is |s| * X of d digits, for the low significand s of q places. All but n digits are dropped, and what is kept is shifted into the unit
+pub record FirstStep (rule : Rule) (n E q m d u : ℕ) : Type 0 where
+  pub digits : 2 * n ≤ suc d
+  pub reach : q ≤ d - n + E
+  pub room : d - n + E - q ≤ E
+  pub value : u ≡ nearest rule m (2 ^ (d - n)) * 2 ^ (d - n + E - q)
+
+-- ---- p are the parts at an end
+module _ (rule : Rule) (n E : ℕ) (p : Parts) (at : PartsAtEnd rule n E p) where
+  P : 0 < n
+  P = omega (arith, at .two)
+
+  abbrev F : 2 * n ≤ E
+  F = at .fine
+
+  abbrev c : ℕ
+  c = at .end
+
+  abbrev ce : End E c
+  ce = at .is-end
+
+  abbrev kept : p ≡ partsAt rule n E c
+  kept = at .parts
+
+  abbrev w : Whole
+  w = wholeOf E p
+
+  w-is : whole rule n E c ≡ w
+  w-is = whole-of-parts rule n E P F c ce ∙ ap (wholeOf E) (sym kept)
+
+  abbrev s : ℕ
+  s = natAbs (p .low)
+
+  abbrev q : ℕ
+  q = p .places
+
+  pub high-le : p .high ≤ 2 ^ n
+  high-le = subst (λ (v : Whole). v .high ≤ 2 ^ n) w-is (high-most rule n E P F c ce)
+
+  -- the low significand has n bits where it is not zero, and its places have a range
+  low-some : 0 < s → HasBits n s × (2 * n ≤ suc q) × (q < E + n)
+  low-some h = subst (λ (z : Parts). HasBits n (natAbs (z .low)) × (2 * n ≤ suc (z .places)) × (z .places < E + n)) (sym kept) (go (decLe (natAbs z) 0))
+    where
+      z : ℤ
+      z = signedOf (whole rule n E c .minus) (apart c (whole rule n E c .high * step n E))
+
+      go : Dec (natAbs z ≤ 0) → HasBits n (natAbs (partsAt rule n E c .low)) × (2 * n ≤ suc (partsAt rule n E c .places)) × (partsAt rule n E c .places < E + n)
+      go (yes g) = let none = low-tells rule n E P F c ce .none (omega arith) in absurd (omega (arith, ap (λ (y : Parts). natAbs (y .low)) kept, ap natAbs (none .0)))
+      go (no g) = low-tells rule n E P F c ce .some (lt-of-not-le g)
+
+  pub low-lt : s < 2 ^ n
+  low-lt = go (decLt 0 s)
+    where
+      go : Dec (0 < s) → s < 2 ^ n
+      go (yes h) = low-some h .0 .most
+      go (no h) = omega (arith, pow-pos n)
+
+  low-value : s * 2 ^ E ≡ w .low * 2 ^ q
+  low-value = subst (λ (v : Whole). s * 2 ^ E ≡ v .low * 2 ^ q) w-is (subst (λ (z : Parts). natAbs (z .low) * 2 ^ E ≡ whole rule n E c .low * 2 ^ z .places) (sym kept) (low-kept rule n E P F c ce))
+
+  module _ (X : ℕ) (xb : HasBits n X) where
+    abbrev u : ℕ
+    u = firstUnits rule n w X
+
+    -- ---- u1
+    pub first-lt : u < 2 ^ E
+    first-lt =
+        let m = subst (λ (v : Whole). firstUnits rule n v X ≤ X * 2 ^ (E - n)) w-is (first-most rule n E P F c ce X (xb .most)) in
+        omega (arith, m, mul-lt-mul-of-pos-right (xb .most) (pow-pos (E - n)), top-is n E F)
+
+    pub first-le : u ≤ p .high * step n E * X
+    first-le = subst (λ (v : Whole). firstUnits rule n v X ≤ v .high * step n E * X) w-is (first-under rule n E P F c ce X (xb .most))
+
+    first-scaled : u * 2 ^ q ≡ rn rule n (s * X) 1 * 2 ^ E
+    unfolding firstUnits
+    first-scaled =
+        sym (rn-scale-whole rule n P (w .low * X) q)
+        ∙ ap (λ (z : ℕ). rn rule n z 1) (omega (arith, ap (λ (z : ℕ). z * X) low-value))
+        ∙ rn-scale-whole rule n P (s * X) E
+
+    pub first-none : s * X ≡ 0 → u ≡ 0
+    first-none e =
+        eq-of-mul-eq-mul-right (2 ^ q) (pow-pos q) u 0
+        (first-scaled ∙ ap (λ (z : ℕ). rn rule n z 1 * 2 ^ E) e ∙ ap (λ (z : ℕ). z * 2 ^ E) (rn-whole-small rule n P 0 (omega arith)) ∙ omega arith)
+
+    pub first-some : (m d : ℕ) → m ≡ s * X → d ≡ size m → 0 < m → FirstStep rule n E q m d u
+    first-some m d e f h = record { digits = digits; reach = reach; room = room; value = value }
+      where
+        pos-of : (a b : ℕ) → 0 < a * b → 0 < a
+        pos-of zero b g = absurd (omega arith)
+        pos-of (suc a) b g = omega arith
+
+        low : HasBits n s × (2 * n ≤ suc q) × (q < E + n)
+        low = low-some (pos-of s X (le-trans h (le-of-eq e)))
+
+        -- m has 2 * n - 1 digits or one more
+        digits : 2 * n ≤ suc d
+        digits =
+            let least : 2 ^ (n - 1 + (n - 1)) ≤ m = le-trans (le-of-eq (pow-add 2 (n - 1) (n - 1))) (le-trans (mul-le-mul (low .0 .least) (xb .least)) (le-of-eq (sym e))) in
+            let more : n - 1 + (n - 1) < size m = lt-of-not-le λ (g : size m ≤ n - 1 + (n - 1)). not-le-of-lt (lt-of-lt-of-le (size-lt m) (pow-mono g)) least in
+            omega arith
+
+        digits-le : d ≤ n + n
+        digits-le =
+            let less : m < 2 ^ (n + n) = lt-of-le-of-lt (le-of-eq e) (lt-of-le-of-lt (mul-le-mul-left s (le-of-lt (xb .most))) (lt-of-lt-of-le (mul-lt-mul-of-pos-right (low .0 .most) (pow-pos n)) (le-of-eq (sym (pow-add 2 n n))))) in
+            le-trans (le-of-eq f) (size-le m (n + n) less)
+
+        reach : q ≤ d - n + E
+        reach = omega (arith, digits, low .2)
+
+        room : d - n + E - q ≤ E
+        room = omega (arith, digits-le, low .1, at .two)
+
+        k : ℕ
+        k = d - n
+
+        value : u ≡ nearest rule m (2 ^ (d - n)) * 2 ^ (d - n + E - q)
+        value =
+            let dropped-k : drop n m 1 ≡ k = ap (λ (z : ℕ). size z - n) (div-one m) ∙ ap (λ (z : ℕ). z - n) (sym f) in
+            let r : rn rule n m 1 ≡ nearest rule m (2 ^ k) * 2 ^ k = rn-in-binade rule n P m 1 k dropped-k ∙ ap (λ (z : ℕ). nearest rule m z * 2 ^ k) (one-mul (2 ^ k)) in
+            let t : 2 ^ k * 2 ^ E ≡ 2 ^ (k + E - q) * 2 ^ q = sym (pow-add 2 k E) ∙ ap (λ (z : ℕ). 2 ^ z) (omega (arith, reach)) ∙ pow-add 2 (k + E - q) q in
+            eq-of-mul-eq-mul-right (2 ^ q) (pow-pos q) u (nearest rule m (2 ^ k) * 2 ^ (k + E - q))
+            (first-scaled ∙ ap (λ (z : ℕ). rn rule n z 1 * 2 ^ E) (sym e) ∙ omega (arith, ap (λ (z : ℕ). z * 2 ^ E) r, ap (λ (z : ℕ). nearest rule m (2 ^ k) * z) t))
+
+    -- ---- u2
+    pub fused-from : 2 ^ (n - 1) * 2 ^ E ≤ fusedUnits rule n E w X
+    fused-from = subst (λ (v : Whole). 2 ^ (n - 1) * 2 ^ E ≤ fusedUnits rule n E v X) w-is (omega (arith, fused-least rule n E P F c ce X (xb .most), mul-le-mul-left (2 ^ E) (xb .least)))
+
+    pub product-of-parts : IsProduct n E (secondUnits rule n E w X) (product rule n p X)
+    product-of-parts =
+        subst (λ (v : Whole). IsProduct n E (secondUnits rule n E v X) (product rule n p X)) w-is
+        (subst (λ (z : Parts). IsProduct n E (secondUnits rule n E (whole rule n E c) X) (product rule n z X)) (sym kept) (product-is rule n E P F c ce X (xb .most) (xb .least)))
+
+    second-le : secondUnits rule n E w X ≤ (2 ^ n - 1) * 2 ^ suc E
+    second-le = subst (λ (v : Whole). secondUnits rule n E v X ≤ (2 ^ n - 1) * 2 ^ suc E) w-is (second-most rule n E P F c ce X (xb .most) (xb .least))
+
+    -- rounding the fused sum gives the product
+    pub product-rounds : roundedUnits rule n E (fusedUnits rule n E w X) ≡ product rule n p X
+    unfolding secondUnits
+    product-rounds =
+        let y = fusedUnits rule n E w X in
+        product-only n E P (rn rule n y 1) (roundedUnits rule n E y) (product rule n p X) (rounded-units-is rule n E P y fused-from second-le) product-of-parts
