@@ -3,6 +3,7 @@ pub mod Marks
 pub mod Answer
 pub mod Units
 pub mod ProductLaws
+pub mod Near
 pub mod StepLaws
 pub mod SoundLaws
 pub mod MarkLaws

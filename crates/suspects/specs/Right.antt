@@ -1,9 +1,9 @@
 -- Every significand that is no suspect is right: no midpoint lies near L * x, so the fused sum and C * x round alike. Assumes nothing.
-use mathlib.Core.Path.{_≡_, sym, ap, subst}
+use mathlib.Core.Path.{_≡_, sym, ap}
 use mathlib.Core.Logic.{_⊎_, inl, inr}
 use mathlib.Core.Bool.{Bool, cond}
 use Prim.Native.Nat.{ℕ, suc, _+_, _-_, _*_, _^_, _≤_, _<_}
-use native.Mathlib.Nat.{mul-le-mul-right, mul-le-mul-left, mul-le-mul, le-trans, le-of-eq, le-of-lt, lt-of-not-le, eq-or-lt-of-le, pow-succ', mul-lt-mul-of-pos-right}
+use native.Mathlib.Nat.{mul-le-mul-right, mul-le-mul-left, mul-le-mul, le-trans, le-of-eq, le-of-lt, lt-of-not-le, eq-or-lt-of-le, pow-succ'}
 use native.Mathlib.Decide.{decLe, decLt}
 use native.Mathlib.Omega.{arith}
 use lib.Pow.{pow-add, pow-pos, pow-mono}
@@ -12,13 +12,13 @@ use Rattle.rounding.specs.Grid.{Rule}
 use Rattle.rounding.specs.Digits.{pow-half}
 use Rattle.rounding.specs.Unit.{rn}
 use Rattle.rounding.specs.UnitLaws.{rn-constant}
-use Rattle.rounding.specs.Fraction.{Fraction}
 use Rattle.factor.specs.Parts.{partsAt}
 use Rattle.factor.specs.Whole.{End, Whole, whole}
 use Rattle.factor.specs.PartsLaws.{top-is}
-use Rattle.factor.specs.Accepted.{Between, spread, whole-same}
+use Rattle.factor.specs.Accepted.{spread}
 use Rattle.product.specs.Units.{fusedUnits, secondUnits}
-use Rattle.product.specs.ProductLaws.{fused-least, fused-near}
+use Rattle.product.specs.ProductLaws.{fused-least}
+use Rattle.product.specs.Near.{near-lower}
 use Rattle.suspects.specs.Suspects.{halfStep, midpoint, Suspect}
 
 -- ---- which of RN's midpoints can lie near L * X. The binades meet at 2 ^ (E + n)
@@ -107,22 +107,6 @@ module _ (rule : Rule) (n E : ℕ) (P : 0 < n) (F : 2 * n ≤ E) (L U : ℕ) (le
   abbrev w : Whole
   w = whole rule n E L
 
-  -- |Ch * x + u1 - C * x| < 2 ^ (1 - 2 * n) for every fraction C between the ends
-  module _ (X : ℕ) (xe : X < 2 ^ n) where
-    near-L : (fusedUnits rule n E w X < L * X + 2 ^ (E - n)) × (L * X < fusedUnits rule n E w X + 2 ^ (E - n))
-    near-L = fused-near rule n E P F L le X xe
-
-    near-U : (fusedUnits rule n E w X < U * X + 2 ^ (E - n)) × (U * X < fusedUnits rule n E w X + 2 ^ (E - n))
-    near-U =
-        subst (λ (p : Whole). (fusedUnits rule n E p X < U * X + 2 ^ (E - n)) × (U * X < fusedUnits rule n E p X + 2 ^ (E - n))) (sym (whole-same rule n E P F L U le ue same)) (fused-near rule n E P F U ue X xe)
-
-    pub near-between : (C : Fraction) → Between E L U C
-        → (fusedUnits rule n E w X * C .den < C .num * 2 ^ E * X + 2 ^ (E - n) * C .den) × (C .num * 2 ^ E * X < fusedUnits rule n E w X * C .den + 2 ^ (E - n) * C .den)
-    near-between C k = (
-      omega (arith, mul-lt-mul-of-pos-right (near-L .0) (k .some), mul-le-mul-right X (k .least)),
-      omega (arith, mul-lt-mul-of-pos-right (near-U .1) (k .some), mul-le-mul-right X (k .most)),
-    )
-
   module _ (X : ℕ) (x1 : 2 ^ (n - 1) ≤ X) (xe : X < 2 ^ n) (clear : ¬ Suspect n E L U X) where
     abbrev y : ℕ
     y = fusedUnits rule n E w X
@@ -146,5 +130,5 @@ module _ (rule : Rule) (n E : ℕ) (P : 0 < n) (F : 2 * n ≤ E) (L U : ℕ) (le
     product-alike = go (decLe (L * X) y)
       where
         go : Dec (L * X ≤ y) → rn rule n (L * X) 1 ≡ rn rule n y 1
-        go (yes h) = pair (L * X) y h (mul-le-mul-right X (le .from)) (omega (arith, pow-pos (E - n))) (omega (arith, near-L X xe .0))
-        go (no h) = sym (pair y (L * X) (omega (arith, lt-of-not-le h)) (fused-least rule n E P F L le X xe) (near-L X xe .1) (omega (arith, pow-pos (E - n))))
+        go (yes h) = pair (L * X) y h (mul-le-mul-right X (le .from)) (omega (arith, pow-pos (E - n))) (omega (arith, near-lower rule n E P F L U le ue same X xe .0))
+        go (no h) = sym (pair y (L * X) (omega (arith, lt-of-not-le h)) (fused-least rule n E P F L le X xe) (near-lower rule n E P F L U le ue same X xe .1) (omega (arith, pow-pos (E - n))))
