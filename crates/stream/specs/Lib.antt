@@ -1,0 +1,3 @@
+-- The program as a function, with its examples.
+pub mod Output
+pub mod Examples

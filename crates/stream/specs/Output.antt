@@ -1,0 +1,114 @@
+-- The whole program (document 01, "Frames and report"): from the bytes that come in to the bytes that go out. Definitions only. Assumes nothing.
+use mathlib.Core.Bool.{cond}
+use mathlib.Core.List.{List, [], _∷_, _++_}
+use Prim.Native.Nat.{ℕ, suc, _+_, _^_}
+use lib.Dec.{eqb, leb}
+use lib.ListN.{length}
+use Rattle.marks.specs.declared.Mark.{Mark}
+use Rattle.marks.specs.declared.Mark.the-variants.{Right, Open, Wrong}
+use Rattle.factor.specs.declared.Factor.{Factor}
+use Rattle.factor.specs.declared.SetUp
+use Rattle.factor.specs.declared.SetUp.{SetUp}
+use Rattle.factor.specs.Precision.{scaleOf, leastOf}
+use Rattle.factor.specs.SetUp.{setUp}
+use Rattle.product.specs.Product.{productBy}
+use Rattle.product.specs.Marks.{markBy}
+use Rattle.suspects.specs.Suspects.{isSuspect}
+use Rattle.calls.specs.Plain.{row, wordsOf}
+use Rattle.frame.specs.declared.FrameAnswer.{FrameAnswer}
+use Rattle.frame.specs.declared.Report.{Report}
+use Rattle.frame.specs.Lines.{lineFeed}
+use Rattle.frame.specs.Frame.{frameOf}
+use Rattle.frame.specs.Report.{wordLine, reportLine, refusalLine}
+
+-- ---- a factor, swept over all its significands
+-- the suspects of the whole range, ascending
+unfoldable pub suspectsOf : Factor → List ℕ
+suspectsOf f = let n = f .precision .bits in row (isSuspect n (scaleOf n) (f .lower) (f .upper)) (leastOf n) (2 ^ n)
+
+-- the mark of a significand's product
+abbrev pub markOf : Factor → ℕ → Mark
+markOf f X = markBy f X (productBy f X)
+
+-- 1 for a wrong one, and for an open one
+abbrev pub isWrong : Mark → ℕ
+isWrong Right = 0
+isWrong Open = 0
+isWrong Wrong = 1
+
+abbrev pub isOpen : Mark → ℕ
+isOpen Right = 0
+isOpen Open = 1
+isOpen Wrong = 0
+
+-- how many of a list have a mark of a kind
+unfoldable pub counted : (Mark → ℕ) → (ℕ → Mark) → List ℕ → ℕ
+counted kind mark [] = 0
+counted kind mark (x ∷ l) = kind (mark x) + counted kind mark l
+
+-- the listed words, each on a line of its own, 8 digits
+unfoldable pub wordLines : List ℕ → List ℕ
+wordLines [] = []
+wordLines (w ∷ l) = wordLine 8 w ++ wordLines l
+
+-- the report of line i
+abbrev pub reportOf : ℕ → Factor → Report
+reportOf i f = record { number = i; trials = length (suspectsOf f); wrongs = counted isWrong (markOf f) (suspectsOf f); opens = counted isOpen (markOf f) (suspectsOf f) }
+
+-- "It prints the listed words (8 digits), each on a line of its own, then a report on one line"
+unfoldable pub sweptOutput : ℕ → Factor → List ℕ
+sweptOutput i f = wordLines (wordsOf (markOf f) (suspectsOf f)) ++ reportLine 8 (reportOf i f)
+
+-- ---- a line
+-- "A refused line prints its number, FF and the refusal"
+abbrev pub setUpOutput : ℕ → SetUp → List ℕ
+setUpOutput i (SetUp.Accepted f) = sweptOutput i f
+setUpOutput i (SetUp.Refused j) = refusalLine i j
+
+abbrev pub frameOutput : ℕ → FrameAnswer → List ℕ
+frameOutput i (FrameAnswer.Frame f) = setUpOutput i (setUp (f .precision) (f .scale) (f .lower) (f .upper))
+frameOutput i (FrameAnswer.Refused j) = refusalLine i j
+
+-- what line i prints; 24 is judged first and stands alone
+unfoldable pub lineOutput : ℕ → List ℕ → List ℕ
+lineOutput i line = frameOutput i (frameOf line)
+
+-- ---- the lines of the input
+-- the input in pieces: the lines that end with a line feed, without it, and what stands after the last of them
+pub record Pieces : Type 0 where
+  pub lines : List (List ℕ)
+  pub rest : List ℕ
+
+-- a byte before the pieces: it belongs to the first of them
+abbrev pub before : ℕ → List (List ℕ) → List ℕ → Pieces
+before b [] rest = record { lines = []; rest = b ∷ rest }
+before b (line ∷ lines) rest = record { lines = (b ∷ line) ∷ lines; rest = rest }
+
+-- a line feed ends the first line, any other byte belongs to it
+abbrev pub put : ℕ → Pieces → Pieces
+put b p = cond (eqb b lineFeed) (record { lines = [] ∷ p .lines; rest = p .rest }) (before b (p .lines) (p .rest))
+
+unfoldable pub pieces : List ℕ → Pieces
+pieces [] = record { lines = []; rest = [] }
+pieces (b ∷ input) = put b (pieces input)
+
+-- "It stops after 65,535 lines": what is numbered higher prints nothing
+abbrev pub mostLines : ℕ
+mostLines = 65535
+
+abbrev pub among : ℕ → List ℕ → List ℕ
+among i bytes = cond (leb i mostLines) bytes []
+
+-- "a last line without its line feed is not a frame", and nothing is no line
+abbrev pub lastOutput : ℕ → List ℕ → List ℕ
+lastOutput i [] = []
+lastOutput i (b ∷ rest) = refusalLine i 24
+
+-- the lines from number i on, and the last one
+unfoldable pub linesOutput : ℕ → List (List ℕ) → List ℕ → List ℕ
+linesOutput i [] rest = among i (lastOutput i rest)
+linesOutput i (line ∷ lines) rest = among i (lineOutput i line) ++ linesOutput (suc i) lines rest
+
+-- the program: lines are numbered from 1
+unfoldable pub output : List ℕ → List ℕ
+output input = linesOutput 1 (pieces input .lines) (pieces input .rest)
