@@ -6,5 +6,5 @@ pub mod ProductLaws
 pub mod StepLaws
 pub mod SoundLaws
 pub mod MarkLaws
-pub mod Demand2
 pub mod AnswerLaws
+pub mod Demand2
