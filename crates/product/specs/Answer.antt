@@ -8,7 +8,7 @@ use Rattle.factor.specs.SetUp.{intact}
 use Rattle.product.specs.declared.Product.{Product}
 use Rattle.product.specs.declared.ProductAnswer.{ProductAnswer}
 use Rattle.product.specs.Product.{product, productBy}
-use Rattle.product.specs.Marks.{mark, markBy}
+use Rattle.product.specs.Marks.{mark, markBy, SaysBy}
 
 -- ---- the answer
 -- a product in the case of its mark
@@ -35,3 +35,10 @@ outcomeOf (ProductAnswer.Right v) = marked Mark.Right (v .significand) (v .binad
 outcomeOf (ProductAnswer.Open v) = marked Mark.Open (v .significand) (v .binade)
 outcomeOf (ProductAnswer.Wrong v) = marked Mark.Wrong (v .significand) (v .binade)
 outcomeOf (ProductAnswer.Refused k) = refusal k
+
+-- ---- demand 2 of an answer: what its mark says of every fraction between the factor's ends; a refusal says nothing of them
+abbrev pub Tells : Factor → ℕ → ProductAnswer → Type 0
+Tells f X (ProductAnswer.Right v) = SaysBy f X v Mark.Right
+Tells f X (ProductAnswer.Open v) = SaysBy f X v Mark.Open
+Tells f X (ProductAnswer.Wrong v) = SaysBy f X v Mark.Wrong
+Tells f X (ProductAnswer.Refused k) = Unit {0}

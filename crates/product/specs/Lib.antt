@@ -7,5 +7,5 @@ pub mod Near
 pub mod StepLaws
 pub mod SoundLaws
 pub mod MarkLaws
-pub mod Demand2
 pub mod AnswerLaws
+pub mod Demand2

@@ -38,3 +38,7 @@ Says rule n E L U X v Right = (C : Fraction) → Between E L U C → Gives rule 
 Says rule n E L U X v Wrong = (C : Fraction) → Between E L U C → ¬ Gives rule n X v C
 Says rule n E L U X v Open =
     ((C : Fraction) × Between E L U C × Gives rule n X v C) × ((C : Fraction) × Between E L U C × ¬ Gives rule n X v C)
+
+-- between a factor's own ends
+abbrev pub SaysBy : Factor → ℕ → Product → Mark → Type 0
+SaysBy f X v m = Says toEven (f .precision .bits) (scaleOf (f .precision .bits)) (f .lower) (f .upper) X v m
