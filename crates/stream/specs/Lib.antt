@@ -1,5 +1,7 @@
--- The program as a function, with its examples.
+-- The program as a function, with its examples and its laws.
 pub mod Output
 pub mod Examples
 pub mod PieceLaws
 pub mod SweepLaws
+pub mod Keep
+pub mod Judged

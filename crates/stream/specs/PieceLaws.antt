@@ -1,18 +1,16 @@
 -- The program while it reads a line: what is still to print, from the part of the line that is kept and the input to come. Assumes nothing.
-use mathlib.Core.Path.{_≡_, refl, sym, ap, ap₂, _∙_}
-use mathlib.Core.Bool.{Bool, true, false, cond, _&&_}
+use mathlib.Core.Path.{_≡_, refl, sym, ap, _∙_}
 use mathlib.Core.List.{List, [], _∷_, _++_, append-assoc}
-use Prim.Native.Nat.{ℕ, zero, suc, _+_, _*_, _≤_, _<_}
+use Prim.Native.Nat.{ℕ, suc, _+_, _*_, _≤_, _<_}
 use native.Mathlib.Omega.{arith}
-use lib.Dec.{eqb, leb}
 use lib.ListN.{length, length-append}
-use borrow.Author.Tests.{ne-eqb, eq-eqb, le-leb, lt-leb}
+use borrow.Author.Tests.{ne-eqb, lt-leb}
 use Rattle.frame.specs.Lines.{lineFeed}
 use Rattle.frame.specs.Frame.{endDigits, spaced, frameOf}
 use Rattle.frame.specs.Report.{refusalLine}
-use Rattle.stream.specs.Output.{Pieces, before, put, pieces, mostLines, among, lastOutput, lineOutput, frameOutput, linesOutput, output}
+use Rattle.stream.specs.Output.{Pieces, before, put, pieces, mostLines, among, lastOutput, lineOutput, linesOutput, output}
 
-append-nil : (l : List ℕ) → l ++ [] ≡ l
+pub append-nil : (l : List ℕ) → l ++ [] ≡ l
 append-nil [] = refl
 append-nil (x ∷ l) = ap (λ (m : List ℕ). x ∷ m) (append-nil l)
 

@@ -1,7 +1,8 @@
 -- The program while it sweeps a frame: what is still to print, from the suspects that are left and the counts so far. Assumes nothing.
 use mathlib.Core.Path.{_≡_, refl, sym, ap, ap₂, _∙_}
 use mathlib.Core.List.{List, [], _∷_, _++_, append-assoc}
-use Prim.Native.Nat.{ℕ, suc, _+_, _-_, _*_, _%_, _≤_}
+use Prim.Native.Nat.{ℕ, _+_, _-_, _*_, _%_, _≤_, _<_}
+use native.Mathlib.Nat.{mod-lt}
 use native.Mathlib.Omega.{arith}
 use lib.ListN.{length, length-append}
 use Rattle.marks.specs.declared.Mark.{Mark}
@@ -11,6 +12,8 @@ use Rattle.calls.specs.State.{listed}
 use Rattle.calls.specs.Plain.{wordsOf}
 use Rattle.frame.specs.declared.Report.{Report}
 use Rattle.frame.specs.Report.{reportLine, wordLine}
+use Rattle.frame.specs.ReportLaws.{length-word}
+use Rattle.stream.specs.PieceLaws.{append-nil}
 use Rattle.stream.specs.Output.{suspectsOf, markOf, isWrong, isOpen, counted, wordLines, reportOf, sweptOutput}
 
 -- ---- joined rows
@@ -29,10 +32,34 @@ unfolding wordLines
 lines-join [] w = refl
 lines-join (x ∷ v) w = rw (lines-join v w) (sym (append-assoc (wordLine 8 x) (wordLines v) (wordLines w)))
 
+-- a word's line has 9 bytes
+pub length-lines : (w : List ℕ) → length (wordLines w) ≡ 9 * length w
+unfolding wordLines
+length-lines [] = refl
+length-lines (x ∷ w) = omega (arith, length-append (wordLine 8 x) (wordLines w), length-word 8 x, length-lines w)
+
+-- one word more
+pub lines-last : (v : List ℕ) (x : ℕ) → wordLines (v ++ (x ∷ [])) ≡ wordLines v ++ wordLine 8 x
+unfolding wordLines
+lines-last v x = lines-join v (x ∷ []) ∙ ap (λ (l : List ℕ). wordLines v ++ l) (append-nil (wordLine 8 x))
+
 -- ---- the words tell the counts: an open one's is odd, a wrong one's even
 unfoldable pub odds : List ℕ → ℕ
 odds [] = 0
 odds (w ∷ l) = w % 2 + odds l
+
+pub odds-last : (v : List ℕ) (x : ℕ) → odds (v ++ (x ∷ [])) ≡ odds v + x % 2
+unfolding odds
+odds-last [] x = omega arith
+odds-last (y ∷ v) x = omega (arith, odds-last v x)
+
+small : (x : ℕ) → x % 2 < 2
+small x = mod-lt x (omega arith)
+
+pub odds-few : (v : List ℕ) → odds v ≤ length v
+unfolding odds
+odds-few [] = omega arith
+odds-few (x ∷ v) = omega (arith, odds-few v, small x)
 
 module _ (mark : ℕ → Mark) where
   pub opens-are : (a : List ℕ) → counted isOpen mark a ≡ odds (wordsOf mark a)
