@@ -1,0 +1,27 @@
+-- `sweep::cut` leaves a place before the end, and none else. Assumes nothing.
+use borrow.Author.Needs.{needs}
+use Rattle.sweep.specs.StepLaws.{cut-before, cut-past, cut-none}
+use Rattle.sweep.proofs.cut.Statement.{statement}
+use Rattle.sweep.proofs.cut.Tie as tie
+
+enum-known-place : tie.Need-enum-known-place
+enum-known-place c = search needs
+
+returns : tie.Need-returns
+returns c =
+    let a = c .before .before .before .before .args in
+    cut-before (a .found) (a .end) (c .before .before .place .given .1) (c .if1 .taken)
+
+enum-told : tie.Need-enum-told
+enum-told c = search needs
+
+returns-2 : tie.Need-returns-2
+returns-2 c =
+    let a = c .before .before .before .before .args in
+    cut-past (a .found) (a .end) (c .before .before .place .given .1) (c .if1 .left)
+
+returns-3 : tie.Need-returns-3
+returns-3 c = let a = c .before .before .args in cut-none (a .found) (a .end) (c .enum-told .given .1)
+
+pub cut-spec : {M : Type 1} → statement M
+cut-spec = tie.close (tie.spec enum-known-place returns enum-told returns-2 returns-3)

@@ -1,0 +1,109 @@
+-- `sweep::sweep_call` meets its contract: refused, or the steps on the free tail that is lent on. Assumes nothing.
+use mathlib.Core.Path.{_≡_, sym, ap, _∙_}
+use Prim.Native.Nat.{_-_, _^_, _≤_, _<_}
+use native.Mathlib.Omega.{arith}
+use lib.ListN.{length}
+use borrow.Author.Needs.{needs}
+use Rattle.factor.specs.declared.Factor.{Factor}
+use Rattle.calls.specs.State.{none}
+use Rattle.calls.specs.Call.{Reply, sweepCall}
+use Rattle.sweep.specs.declared.SweepAnswer.{SweepAnswer}
+use Rattle.sweep.specs.Engine.{engine}
+use Rattle.sweep.specs.Answers.{viewOf, callOf, replyOf, refusalOf}
+use Rattle.sweep.specs.Steps.{judgedBy}
+use Rattle.sweep.specs.TailLaws.{lent, moved, placeOf, lent-length, tail-refused, place-fits, tail-free, tail-taken, tail-moved}
+use Rattle.sweep.proofs.sweep_call.Statement.{statement}
+use Rattle.sweep.proofs.sweep_call.Tie as tie
+
+refusal-of-requires : tie.Need-refusal-of-requires
+refusal-of-requires c κs = search needs
+
+enum-known-verdict : tie.Need-enum-known-verdict
+enum-known-verdict c = search needs
+
+refused-requires : tie.Need-refused-requires
+refused-requires c κs = search needs
+
+enum-told : tie.Need-enum-told
+enum-told c = search needs
+
+-- nothing refuses the call
+taken : (c : tie.After-enum-told) → let a = c .before .before .before .before .args in none ≡ judgedBy (a .state) (a .cap) (length (a .list .now)) (a .free)
+taken c = ap refusalOf (sym (c .enum-told .given .1)) ∙ c .before .before .refusal-of .ensures
+
+-- a list in memory has fewer than 2 ^ 64 places
+short : (c : tie.After-enum-told) → length (c .before .before .before .before .args .list .now) < 2 ^ 64
+short c = search needs
+
+mul-sweep-on : tie.Need-mul-sweep-on
+mul-sweep-on c =
+    let a = c .before .before .before .before .args in
+    let place = tail-free (a .state) (a .cap) (a .list .now) (a .free) (taken c) in
+    search needs
+
+sub-sweep-on : tie.Need-sub-sweep-on
+sub-sweep-on c =
+    let a = c .before .before .before .before .args in
+    let place = tail-free (a .state) (a .cap) (a .list .now) (a .free) (taken c) in
+    search needs
+
+part-sweep-on-start : tie.Need-part-sweep-on-start
+part-sweep-on-start c =
+    let a = c .before .before .before .before .args in
+    let place = tail-free (a .state) (a .cap) (a .list .now) (a .free) (taken c) in
+    search needs
+
+part-sweep-on-end : tie.Need-part-sweep-on-end
+part-sweep-on-end c = search needs
+
+sweep-on-requires : tie.Need-sweep-on-requires
+sweep-on-requires c κs =
+    let a = c .before .before .before .before .before .args in
+    tail-taken (a .state) (a .cap) (a .list .now) (a .free) (taken (c .before))
+
+add-moved : tie.Need-add-moved
+add-moved c =
+    let on = c .before .before .before in
+    let told = on .before .before in
+    let a = told .before .before .before .before .args in
+    let list = a .list .now in
+    let free = tail-free (a .state) (a .cap) list (a .free) (taken told) in
+    let is : on .sweep-on .result .place ≡ placeOf (sweepCall engine (viewOf (a .state)) (callOf (a .cap) (lent list (a .free)) 0) .answer) = ap (λ (r : Reply Factor). placeOf (r .answer)) (on .sweep-on .ensures) in
+    let fits : on .sweep-on .result .place ≤ length list - a .free = omega (arith, is, place-fits (a .state) (a .cap) (lent list (a .free)), lent-length list (a .free)) in
+    omega (arith, short told, free, fits)
+
+returns : tie.Need-returns
+returns c =
+    let told = c .before in
+    let a = told .before .before .before .before .before .args in
+    let number = told .before .verdict .given in
+    ap (λ (r : SweepAnswer). replyOf r (a .list .now)) (c .refused .ensures)
+    ∙ tail-refused (a .state) (a .cap) (a .list .now) (a .free) (number .0 .0) (ap refusalOf (sym (number .1)) ∙ told .before .before .before .refusal-of .ensures)
+
+same-length : tie.Need-same-length
+same-length c = search needs
+
+returns-2 : tie.Need-returns-2
+returns-2 c =
+    let on = c .before .before .before in
+    let told = on .before .before in
+    let a = told .before .before .before .before .args in
+    ap (moved (a .list .now) (a .free)) (on .sweep-on .ensures) ∙ tail-moved (a .state) (a .cap) (a .list .now) (a .free) (taken told)
+
+pub sweep-call-spec : {M : Type 1} → statement M
+sweep-call-spec =
+    tie.close
+    (tie.spec
+    refusal-of-requires
+    enum-known-verdict
+    refused-requires
+    enum-told
+    mul-sweep-on
+    sub-sweep-on
+    part-sweep-on-start
+    part-sweep-on-end
+    sweep-on-requires
+    add-moved
+    returns
+    same-length
+    returns-2)

@@ -1,0 +1,54 @@
+-- Demand 3 of sweeps of a factor: for every list of calls of any function that keeps the contract of `sweep_call`, from a state that one with the contract of
+-- `new_state` gave. `Whole` (in `calls`) has each sentence of the demand as a field, in the demand's order. Assumes nothing.
+use mathlib.Core.Path.{_≡_, sym, ap, _∙_, subst}
+use mathlib.Core.List.{List}
+use Prim.Native.Nat.{ℕ}
+use Rattle.factor.specs.declared.Factor.{Factor}
+use Rattle.calls.specs.State.{State, newState, Call}
+use Rattle.calls.specs.Call.{Reply, sweepCall}
+use Rattle.calls.specs.ByRow.{rowCall}
+use Rattle.calls.specs.Whole.{Whole}
+use Rattle.calls.specs.One.{by-row}
+use Rattle.calls.specs.Demand.{whole-sweep}
+use Rattle.sweep.specs.declared.SweepState.{SweepState}
+use Rattle.sweep.specs.declared.NewSweep.{NewSweep}
+use Rattle.sweep.specs.declared.SweepAnswer.{SweepAnswer}
+use Rattle.sweep.specs.Engine.{suspect, mostRounds, engine}
+use Rattle.sweep.specs.EngineLaws.{lawful}
+use Rattle.sweep.specs.Answers.{viewOf, newOf, replyOf}
+
+-- One call, on every state, also one that no calls lead to: what the searches make of it is what is read off the row of suspects, answer, state, list and
+-- counts. Its rounds are so given a second time, as a sum over the starts of its searches.
+pub call-by-row : (s : State Factor) (c : Call) → sweepCall engine s c ≡ rowCall suspect engine s c
+call-by-row = by-row lawful
+
+-- ---- functions that keep the contracts
+
+-- the answer to a call, and the list that it leaves
+abbrev pub Sweeper : Type 0
+Sweeper = SweepState → Call → SweepAnswer × List ℕ
+
+-- the contract of `sweep_call`
+abbrev pub Sweeps : Sweeper → Type 0
+Sweeps call = (s : SweepState) (c : Call) → replyOf (call s c .0) (call s c .1) ≡ sweepCall engine (viewOf s) c
+
+-- the contract of `new_state`
+abbrev pub Begins : (Factor → ℕ → ℕ → NewSweep) → Type 0
+Begins new = (f : Factor) (first last : ℕ) → newOf (new f first last) ≡ newState engine f first last
+
+-- a state as code holds it
+abbrev pub held : State Factor → SweepState
+held s = record { factor = s .factor; first = s .first; last = s .last; next = s .next; finished = s .finished }
+
+-- a function's calls: "Each call is given the state that the one before returned"
+abbrev pub callsBy : Sweeper → State Factor → Call → Reply Factor
+callsBy call s c = replyOf (call (held s) c .0) (call (held s) c .1)
+
+-- ---- demand 3
+
+pub demand-3 : (new : Factor → ℕ → ℕ → NewSweep) → Begins new → (call : Sweeper) → Sweeps call
+    → (f : Factor) (first last : ℕ) (s : SweepState) → new f first last ≡ NewSweep.Accepted s
+    → (calls : List Call) → Whole suspect engine mostRounds (callsBy call) (viewOf s) calls
+demand-3 new begins call sweeps f first last s q calls =
+    subst (λ (by : State Factor → Call → Reply Factor). Whole suspect engine mostRounds by (viewOf s) calls) (λ i z c. sym (sweeps (held z) c) i)
+    (whole-sweep lawful f first last (viewOf s) (sym (begins f first last) ∙ ap newOf q) calls)

@@ -1,0 +1,46 @@
+-- Definitions: a factor as a sweep sees it (document 01, "Suspects and rounds" and "A sweep"). What stands in quotes is document 01's. Assumes nothing.
+use mathlib.Core.Bool.{Bool, not, _||_}
+use Prim.Native.Nat.{ℕ, _-_, _^_}
+use lib.Dec.{ltb}
+use Rattle.search.specs.declared.Found.{Found}
+use Rattle.factor.specs.declared.Factor.{Factor}
+use Rattle.factor.specs.Precision.{scaleOf, roundsOf, significandOut}
+use Rattle.factor.specs.SetUp.{intact}
+use Rattle.product.specs.Product.{productBy}
+use Rattle.product.specs.Marks.{markBy}
+use Rattle.suspects.specs.declared.Halves.{Halves}
+use Rattle.suspects.specs.Suspects.{isSuspect}
+use Rattle.suspects.specs.Next.{nextFrom, firstHigh, halves}
+use Rattle.calls.specs.Engine.{Half, low, high, Engine}
+
+-- whether X is a suspect of a factor
+abbrev pub suspect : Factor → ℕ → Bool
+suspect f X = let n = f .precision .bits in isSuspect n (scaleOf n) (f .lower) (f .upper) X
+
+-- 17: "a significand outside 2^(n−1) to 2^n − 1, or a range's first above its last"
+abbrev pub rangeOut : (n first last : ℕ) → Bool
+rangeOut n first last = significandOut n first || significandOut n last || ltb last first
+
+-- what is sought in each half, and the first high significand
+abbrev pub halvesOf : Factor → Halves
+halvesOf f = let n = f .precision .bits in halves n (scaleOf n) (f .lower) (f .upper)
+
+-- the search in a half, from a significand on
+abbrev pub findIn : Factor → Half → ℕ → Found
+findIn f low a = let n = f .precision .bits in nextFrom n (scaleOf n) (f .lower) (f .upper) (2 ^ (scaleOf n - 1)) a
+findIn f high a = let n = f .precision .bits in nextFrom n (scaleOf n) (f .lower) (f .upper) (2 ^ scaleOf n) a
+
+-- the most rounds of a search
+abbrev pub mostRounds : Factor → ℕ
+mostRounds f = roundsOf (f .precision .bits)
+
+-- the engine of all factors
+abbrev pub engine : Engine Factor
+engine =
+    record {
+      faulty = λ f. not (intact f);
+      badRange = λ f first last. rangeOut (f .precision .bits) first last;
+      mark = λ f X. markBy f X (productBy f X);
+      firstHigh = λ f. firstHigh (f .precision .bits) (scaleOf (f .precision .bits)) (f .lower);
+      find = findIn;
+    }

@@ -1,0 +1,96 @@
+-- The engine of all factors is lawful: each search finds the least suspect of its half, in few rounds, and every significand that is not right is a suspect.
+-- Assumes nothing.
+use mathlib.Core.Path.{_≡_, refl, subst}
+use mathlib.Core.Bool.{Bool, true, false, not, _||_, true≢false}
+use mathlib.Core.Logic.{_≢_, _↔_}
+use Prim.Native.Nat.{ℕ, suc, _-_, _*_, _≤_}
+use native.Mathlib.Omega.{arith}
+use lib.Dec.{ltb}
+use borrow.Author.Tests.{ltb-false}
+use Rattle.marks.specs.declared.Mark.the-variants.{Right}
+use Rattle.rounding.specs.Grid.{toEven}
+use Rattle.rounding.specs.RoundLaws.{HasBits}
+use Rattle.factor.specs.declared.Parts.{Parts}
+use Rattle.factor.specs.declared.Factor.{Factor}
+use Rattle.factor.specs.Precision.{significandOut}
+use Rattle.factor.specs.SetUp.{partsOf, intact, Sound}
+use Rattle.factor.specs.SetUpLaws.{intact-sound}
+use Rattle.product.specs.Product.{product, productBy}
+use Rattle.product.specs.Marks.{mark, SaysBy}
+use Rattle.product.specs.Demand2.{mark-tells}
+use Rattle.product.specs.AnswerLaws.{significand-in}
+use Rattle.suspects.specs.Suspects.{Suspect}
+use Rattle.suspects.specs.Window.{suspect-iff, not-right-suspect}
+use Rattle.suspects.specs.NextLaws as next
+use Rattle.calls.specs.Engine.{Half, low, high, halfOf, Lawful}
+use Rattle.calls.specs.Refusals.{or-false}
+use Rattle.sweep.specs.Engine.{suspect, rangeOut, findIn, mostRounds, engine}
+
+-- A factor that 31 does not refuse is sound.
+pub sound-of : (f : Factor) → not (intact f) ≡ false → Sound f
+sound-of f q = go (intact f) refl q
+  where
+    go : (b : Bool) → intact f ≡ b → not b ≡ false → Sound f
+    go true e k = intact-sound f e
+    go false e k = absurd (true≢false k)
+
+-- What a range has that 17 does not refuse.
+pub record InRange (n first last : ℕ) : Type 0 where
+  pub first-bits : HasBits n first
+  pub last-bits : HasBits n last
+  pub ordered : first ≤ last
+
+pub in-range : (n first last : ℕ) → rangeOut n first last ≡ false → InRange n first last
+in-range n first last q =
+    let outer = or-false (significandOut n first || significandOut n last) (ltb last first) q in
+    let inner = or-false (significandOut n first) (significandOut n last) (outer .0) in
+    record {
+      first-bits = significand-in n first (inner .0);
+      last-bits = significand-in n last (inner .1);
+      ordered = ltb-false last first (outer .1);
+    }
+
+module _ (f : Factor) (s : Sound f) where
+  abbrev n : ℕ
+  n = f .precision .bits
+
+  two : 2 ≤ n
+  two = omega (arith, s .fewest)
+
+  fine : 2 * n ≤ 62
+  fine = omega (arith, s .most)
+
+  -- The test for a suspect is document 01's definition of one.
+  pub suspect-is : (X : ℕ) → suspect f X ≡ true ↔ Suspect n 62 (f .lower) (f .upper) X
+  suspect-is = suspect-iff toEven n 62 two fine (f .lower) (f .upper) (s .lower-end) (s .upper-end) (s .ordered) (s .same)
+
+  -- The mark of a significand in range says what demand 2 has it say of every fraction between the ends.
+  pub mark-is : (X : ℕ) → HasBits n X → SaysBy f X (productBy f X) (engine .mark f X)
+  mark-is = mark-tells f s
+
+  -- A search takes at most 64 rounds.
+  pub few : (h : Half) (a : ℕ) → findIn f h a .rounds ≤ 64
+  few low a = omega (arith, next.few-low toEven n 62 two fine (f .lower) (f .upper) (s .lower-end) (s .upper-end) (s .same) a)
+  few high a = omega (arith, next.few-high toEven n 62 two fine (f .lower) (f .upper) (s .lower-end) (s .upper-end) (s .same) a)
+
+  not-right : (X : ℕ) → HasBits n X → engine .mark f X ≢ Right → suspect f X ≡ true
+  unfolding partsOf
+  not-right X x q =
+      let L = f .lower in
+      let U = f .upper in
+      let z : ¬ (mark toEven n 62 L U X (product toEven n (partsOf n L) X) ≡ Right) = subst (λ (p : Parts). ¬ (mark toEven n 62 L U X (product toEven n p X) ≡ Right)) (s .parts) q in
+      suspect-is X .1
+      (not-right-suspect toEven n 62 two fine L U (s .lower-end) (s .upper-end) (s .ordered) (s .same) X (x .least) (x .most) z)
+
+-- The engine is lawful.
+pub lawful : Lawful suspect engine mostRounds
+lawful f first last sound inside =
+    let s = sound-of f sound in
+    let r = in-range (f .precision .bits) first last inside in
+    record {
+      ordered = r .ordered;
+      suspected = λ X h k q. not-right f s X (record { least = omega (arith, r .first-bits .least); most = omega (arith, r .last-bits .most) }) q;
+      finds-low = λ a h k i. next.finds-low toEven (f .precision .bits) 62 (two f s) (fine f s) (f .lower) (f .upper) (s .lower-end) (s .upper-end) (s .same) a _ (omega arith);
+      finds-high = λ a h k i. next.finds-high toEven (f .precision .bits) 62 (two f s) (fine f s) (f .lower) (f .upper) (s .lower-end) (s .upper-end) (s .same) a (suc last) i;
+      few = λ a h k. few f s (halfOf (engine .firstHigh f) a) a;
+    }
