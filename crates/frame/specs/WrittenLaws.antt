@@ -39,6 +39,10 @@ written-front {l₁} {l₂} {xs} {i} {j} h a =
     let n : length (take i l₁) ≡ i = length-take-le i l₁ (omega arith) in
     ap (take j) (a .list ∙ sets-eq xs l₁ i h) ∙ take-at (take i l₁ ++ xs) (drop (i + length xs) l₁) j (omega (arith, length-append (take i l₁) xs, a .place))
 
+-- Nothing.
+pub written-none : (l : List ℕ) (i : ℕ) → Written l i [] l i
+written-none l i = record { list = refl; place = sym (add-zero i) }
+
 -- One byte.
 pub written-byte : (l : List ℕ) (i x : ℕ) → Written l i (x ∷ []) (set l i x) (i + 1)
 written-byte l i x = record { list = refl; place = refl }

@@ -5,3 +5,9 @@ pub mod PieceLaws
 pub mod SweepLaws
 pub mod Keep
 pub mod Judged
+pub mod Step
+pub mod StepLaws
+pub mod Chunks
+pub mod PartLaws
+pub mod Moves
+pub mod MoveLaws

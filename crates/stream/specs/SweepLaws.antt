@@ -10,6 +10,7 @@ use Rattle.marks.specs.declared.Mark.the-variants.{Right, Open, Wrong}
 use Rattle.factor.specs.declared.Factor.{Factor}
 use Rattle.calls.specs.State.{listed}
 use Rattle.calls.specs.Plain.{wordsOf}
+use Rattle.calls.specs.Tries.{listed-few}
 use Rattle.frame.specs.declared.Report.{Report}
 use Rattle.frame.specs.Report.{reportLine, wordLine}
 use Rattle.frame.specs.ReportLaws.{length-word}
@@ -81,6 +82,12 @@ module _ (mark : ℕ → Mark) where
       go Right e = omega arith
       go Open e = omega arith
       go Wrong e = omega arith
+
+  -- there are no more words than significands
+  pub words-few : (a : List ℕ) → length (wordsOf mark a) ≤ length a
+  unfolding wordsOf
+  words-few [] = omega arith
+  words-few (x ∷ a) = omega (arith, length-append (listed (mark x) x) (wordsOf mark a), listed-few (mark x) x, words-few a)
 
 -- ---- what is still to print of line i: the words of the suspects left, the report, and what comes later
 abbrev pub tally : (i trials wrongs opens : ℕ) → Report

@@ -3,12 +3,26 @@ ghost use mathlib.Core.Path.{_≡_};
 ghost use Prim.Native.Nat.{_+_, _*_, _≤_};
 ghost use lib.ListN.{length, take, drop};
 ghost use Rattle.frame.specs.Written.{Written};
-ghost use Rattle.stream.specs.Output.{wordLines};
+ghost use lib.Dec.{ltb};
+ghost use Rattle.stream.specs.Output.{mostLines, wordLines};
 ghost use Rattle.stream.specs.SweepLaws.{odds};
 ghost use Rattle.stream.specs.Keep.{keep, kept, upToFeed};
 ghost use Rattle.stream.specs.Judged.{judgedLine};
+ghost use Rattle.factor.specs.SetUp.{intact};
+ghost use mathlib.Core.List.{[]};
+ghost use Rattle.stream.specs.declared.Task;
+ghost use Rattle.stream.specs.Step.{begunWith, tallied, partLines, sweepingTask, readOf, atLine, judgedStep, taskStep, stepOf, endOf};
+ghost use Rattle.stream.specs.StepLaws.{Going, Counted, GoodTask, Fit};
+ghost use Rattle.stream.specs.Moves.{Turned, Moved};
+ghost use Rattle.stream.specs.PartLaws.{addedTo, Addable};
+ghost use mathlib.Core.Bool.{true};
+use factor::Factor;
 use factor::SetUp;
 use frame::FrameAnswer;
+use frame::Report;
+use sweep::SweepAnswer;
+use sweep::SweepState;
+use sweep::Swept;
 
 // The byte that ends a line.
 const LINE_FEED: u8 = 10;
@@ -16,8 +30,58 @@ const LINE_FEED: u8 = 10;
 // So many bytes are kept of a line, one more than a frame has.
 const MOST_KEPT: usize = 40;
 
-// A listed word has so many digits.
+// A listed word, and each count of a report, has so many digits.
 const WORD_DIGITS: usize = 8;
+
+// "It stops after 65,535 lines."
+const MOST_LINES: u64 = 65535;
+
+// Refusal 24: the line is not a frame.
+const NOT_A_FRAME: u32 = 24;
+
+// No step writes more bytes than this: 64 words and a report.
+pub const MOST_WRITTEN: usize = 611;
+
+// A sweep on its way: its state, and how many significands were tried, found wrong and found open.
+pub struct Tally {
+    pub state: SweepState,
+    pub trials: u64,
+    pub wrongs: u64,
+    pub opens: u64,
+}
+
+// What the program is at: reading a line, or sweeping the factor of the line before.
+pub enum Task {
+    Reading,
+    Sweeping(Tally),
+}
+
+// What was read so far: the number of the line, what is kept of it in the first places of `held`, and the task.
+pub struct Progress {
+    pub number: u64,
+    pub held: [u8; 40],
+    pub length: usize,
+    pub task: Task,
+}
+
+// What a step comes to: the progress, where the input goes on, and where the output goes on.
+pub struct Move {
+    pub progress: Progress,
+    pub at: usize,
+    pub used: usize,
+}
+
+// A sweep after one call, and where the output goes on.
+struct Part {
+    tally: Tally,
+    used: usize,
+}
+
+// The progress, and where the output goes on.
+struct Turn {
+    progress: Progress,
+    used: usize,
+}
 
 // How much of a line is kept, and where the input goes on.
 struct Kept {
@@ -95,4 +159,227 @@ fn put_words(list: &[u32], count: usize, out: &mut [u8], at: usize) -> Printed
         i += 1;
     }
     Printed { at: place, opens }
+}
+
+// The tally with a call's state and trials, and with its words, of which so many are open ones.
+fn added(t: Tally, swept: Swept, opens: u64) -> Tally
+    requires { ⌜ Addable t (swept .trials) (swept .place) opens ⌝ }
+    ensures { λ r. ⌜ r ≡ addedTo t (swept .state) (swept .trials) (swept .place) opens ⌝ }
+{
+    let state = swept.state;
+    Tally {
+        state,
+        trials: t.trials + swept.trials,
+        wrongs: t.wrongs + (swept.place as u64 - opens),
+        opens: t.opens + opens,
+    }
+}
+
+// One call of a sweep: its words go out, and the tally grows. The cap is none that counts.
+fn sweep_part(t: Tally, out: &mut [u8], used: usize) -> Part
+    requires { ⌜ Going (t .state) × Counted t × (used + 576 ≤ length (now out)) ⌝ }
+    ensures { λ r. ⌜ (r .tally ≡ tallied t) × Written (now (out .entry)) used (partLines (t .state)) (now (out .exit)) (r .used) ⌝ }
+{
+    let mut list = [0u32; 64];
+    let state = t.state;
+    let answer = sweep::sweep_call(state, u64::MAX, &mut list, 0);
+    match answer {
+        SweepAnswer::Accepted(swept) => {
+            let printed = put_words(&list, swept.place, out, used);
+            let tally = added(t, swept, printed.opens);
+            Part {
+                tally,
+                used: printed.at,
+            }
+        }
+        SweepAnswer::Refused(_) => Part { tally: t, used },
+    }
+}
+
+// The sweep over all significands of a factor, at its beginning.
+fn begin(f: Factor) -> Tally
+    requires { ⌜ intact f ≡ true ⌝ }
+    ensures { λ r. ⌜ r ≡ begunWith f ⌝ }
+{
+    let p = f.precision;
+    Tally {
+        state: SweepState {
+            factor: f,
+            first: p.least(),
+            last: p.most(),
+            next: p.least(),
+            finished: false,
+        },
+        trials: 0,
+        wrongs: 0,
+        opens: 0,
+    }
+}
+
+// At the beginning: line 1, nothing kept.
+pub fn new() -> Progress
+    ensures { λ r. ⌜ Fit r × (readOf r ≡ atLine 1) ⌝ }
+{
+    at_line(1, [0; 40])
+}
+
+// At the beginning of a line.
+fn at_line(number: u64, held: [u8; 40]) -> Progress
+    requires { ⌜ (number ≤ 65536) × (length held ≡ 40) ⌝ }
+    ensures { λ r. ⌜ Fit r × (readOf r ≡ atLine number) ⌝ }
+{
+    Progress {
+        number,
+        held,
+        length: 0,
+        task: Task::Reading,
+    }
+}
+
+// Whether a sweep is on its way: then a step needs no input.
+pub fn is_sweeping(p: Progress) -> bool
+    ensures { λ r. ⌜ r ≡ sweepingTask (p .task) ⌝ }
+{
+    let task = p.task;
+    match task {
+        Task::Reading => false,
+        Task::Sweeping(_) => true,
+    }
+}
+
+// Whether the last line that counts is behind: then no input is read any more.
+pub fn is_over(p: Progress) -> bool
+    ensures { λ r. ⌜ r ≡ ltb mostLines (p .number) ⌝ }
+{
+    MOST_LINES < p.number
+}
+
+// A part of a sweep, and its report at the end.
+fn sweep_step(p: Progress, t: Tally, out: &mut [u8], used: usize) -> Turn
+    requires { ⌜ Fit p × GoodTask (p .number) (Task.Sweeping t) × (used + 611 ≤ length (now out)) ⌝ }
+    ensures { λ r. ⌜ Turned (taskStep (p .number) [] (Task.Sweeping t) []) r (now (out .entry)) used (now (out .exit)) ⌝ }
+{
+    let part = sweep_part(t, out, used);
+    let tally = part.tally;
+    let state = tally.state;
+    let held = p.held;
+    if state.finished {
+        let report = Report {
+            number: p.number,
+            trials: tally.trials,
+            wrongs: tally.wrongs,
+            opens: tally.opens,
+        };
+        let end = frame::put_report(out, part.used, WORD_DIGITS, report);
+        return Turn {
+            progress: at_line(p.number + 1, held),
+            used: end,
+        };
+    }
+    Turn {
+        progress: Progress {
+            number: p.number,
+            held,
+            length: 0,
+            task: Task::Sweeping(tally),
+        },
+        used: part.used,
+    }
+}
+
+// A line that is complete: its refusal, or the sweep of its factor begins.
+fn line_step(number: u64, held: [u8; 40], count: usize, out: &mut [u8], used: usize) -> Turn
+    requires { ⌜ (number ≤ 65535) × (length held ≡ 40) × (count ≤ 40) × (used + 611 ≤ length (now out)) ⌝ }
+    ensures { λ r. ⌜ Turned (judgedStep number (judgedLine (take count held)) []) r (now (out .entry)) used (now (out .exit)) ⌝ }
+{
+    match judge(&held[..count]) {
+        SetUp::Accepted(f) => {
+            let tally = begin(f);
+            Turn {
+                progress: Progress {
+                    number,
+                    held,
+                    length: 0,
+                    task: Task::Sweeping(tally),
+                },
+                used,
+            }
+        }
+        SetUp::Refused(j) => {
+            let end = frame::put_refusal(out, used, number, j);
+            Turn {
+                progress: at_line(number + 1, held),
+                used: end,
+            }
+        }
+    }
+}
+
+// One step: from what was read so far, and the input from `at` on, to the bytes that it writes from `used` on.
+pub fn step(p: Progress, input: &[u8], at: usize, out: &mut [u8], used: usize) -> Move
+    requires { ⌜ Fit p × (at ≤ length (now input)) × (used + 611 ≤ length (now out)) ⌝ }
+    ensures { λ r. ⌜ Moved (stepOf (readOf p) (drop at (now (input .entry)))) (now (input .entry)) r (now (out .entry)) used (now (out .exit)) × (r .used ≤ used + 611) ⌝ }
+{
+    let task = p.task;
+    match task {
+        Task::Sweeping(t) => {
+            let turn = sweep_step(p, t, out, used);
+            let progress = turn.progress;
+            Move {
+                progress,
+                at,
+                used: turn.used,
+            }
+        }
+        Task::Reading => {
+            if MOST_LINES < p.number {
+                return Move {
+                    progress: p,
+                    at: input.len(),
+                    used,
+                };
+            }
+            let mut held = p.held;
+            let kept = keep_line(&mut held, p.length, input, at);
+            if kept.at == input.len() {
+                return Move {
+                    progress: Progress {
+                        number: p.number,
+                        held,
+                        length: kept.length,
+                        task: Task::Reading,
+                    },
+                    at: kept.at,
+                    used,
+                };
+            }
+            let turn = line_step(p.number, held, kept.length, out, used);
+            let progress = turn.progress;
+            Move {
+                progress,
+                at: kept.at + 1,
+                used: turn.used,
+            }
+        }
+    }
+}
+
+// The end of the input: a last line without its line feed is refused.
+pub fn finish(p: Progress, out: &mut [u8], used: usize) -> usize
+    requires { ⌜ Fit p × (used + 611 ≤ length (now out)) ⌝ }
+    ensures { λ r. ⌜ Written (now (out .entry)) used (endOf (readOf p)) (now (out .exit)) r × (r ≤ used + 611) ⌝ }
+{
+    let task = p.task;
+    match task {
+        Task::Sweeping(_) => used,
+        Task::Reading => {
+            if p.length == 0 {
+                return used;
+            }
+            if MOST_LINES < p.number {
+                return used;
+            }
+            frame::put_refusal(out, used, p.number, NOT_A_FRAME)
+        }
+    }
 }

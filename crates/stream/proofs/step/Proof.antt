@@ -1,0 +1,94 @@
+-- `stream::step` meets its contract. Assumes nothing.
+use mathlib.Core.Path.{subst}
+use native.Mathlib.Omega.{arith}
+use Rattle.stream.specs.StepLaws.{GoodTask}
+use Rattle.stream.specs.MoveLaws.{with-room, moved-swept, moved-past, moved-kept, moved-line}
+use borrow.Author.Needs.{needs}
+use Rattle.stream.proofs.step.Statement.{statement}
+use Rattle.stream.proofs.step.Tie as tie
+
+enum-known-task : tie.Need-enum-known-task
+enum-known-task c = search needs
+
+sweep-step-requires : tie.Need-sweep-step-requires
+sweep-step-requires c κs =
+    let known = c .before .before in
+    let start = known .before .before .before .before in
+    (start .pre .0, subst (GoodTask (start .args .p .number)) (known .task .given .1) (start .pre .0 .good .task), start .pre .2)
+
+enum-told : tie.Need-enum-told
+enum-told c = search needs
+
+returns : tie.Need-returns
+returns c =
+    let told = c .before .before in
+    let start = told .before .before .before .before in
+    with-room (start .args .p) _ (start .args .at) _ _ _ _ (moved-past _ (start .pre .0) _ (start .args .at) _ _ (told .enum-told .given .1) (c .if1 .taken))
+
+slice-aggregate-keep-line : tie.Need-slice-aggregate-keep-line
+slice-aggregate-keep-line c = search needs
+
+keep-line-requires : tie.Need-keep-line-requires
+keep-line-requires c κs = search needs
+
+returns-2 : tie.Need-returns-2
+returns-2 c =
+    let call = c .before .before .before in
+    let few = call .before .before .before in
+    let told = few .before .before in
+    let start = told .before .before .before .before in
+    let kept = call .keep-line .ensures in
+    with-room (start .args .p) _ (start .args .at) _ _ _ _ (moved-kept _ (start .pre .0) _ (start .args .at) _ _ (told .enum-told .given .1) (few .if1 .left) _ _ _ (kept .0 .0) (kept .0 .1) (kept .0 .2) (kept .1 .0) (kept .1 .1) (c .if2 .taken))
+
+line-step-requires : tie.Need-line-step-requires
+line-step-requires c κs = search needs
+
+add-t21 : tie.Need-add-t21
+add-t21 c =
+    let test = c .before .before .before .before .before .before in
+    let call = test .before .before .before in
+    let known = call .before .before .before .before .before .before .before .before in
+    let size = known .shared-slice-known .given in
+    record { fits = omega (arith, call .keep-line .ensures .1 .0) }
+
+same-length : tie.Need-same-length
+same-length c = search needs
+
+returns-3 : tie.Need-returns-3
+returns-3 c =
+    let turn = c .before .before .before in
+    let known = turn .before .before .before in
+    let start = known .before .before .before .before in
+    with-room (start .args .p) _ (start .args .at) _ _ _ _ (moved-swept _ (start .pre .0) _ (start .args .at) _ _ _ (known .task .given .1) (start .pre .1) _ _ (turn .sweep-step .ensures))
+
+same-length-2 : tie.Need-same-length-2
+same-length-2 c = search needs
+
+returns-4 : tie.Need-returns-4
+returns-4 c =
+    let turn = c .before .before .before .before in
+    let test = turn .before .before in
+    let call = test .before .before .before in
+    let few = call .before .before .before in
+    let told = few .before .before in
+    let start = told .before .before .before .before in
+    let kept = call .keep-line .ensures in
+    with-room (start .args .p) _ (start .args .at) _ _ _ _ (moved-line _ (start .pre .0) _ (start .args .at) _ _ (told .enum-told .given .1) (few .if1 .left) _ _ _ (kept .0 .0) (kept .0 .1) (kept .0 .2) (kept .1 .0) (kept .1 .1) (test .if2 .left) _ _ (turn .line-step .ensures))
+
+pub step-spec : {M : Type 1} → statement M
+step-spec =
+    tie.close
+    (tie.spec
+    enum-known-task
+    sweep-step-requires
+    enum-told
+    returns
+    slice-aggregate-keep-line
+    keep-line-requires
+    returns-2
+    line-step-requires
+    add-t21
+    same-length
+    returns-3
+    same-length-2
+    returns-4)

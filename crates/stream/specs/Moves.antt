@@ -1,0 +1,24 @@
+-- What the code's steps come to, in the words of the definition. Definitions only. Assumes nothing.
+use mathlib.Core.Path.{_≡_}
+use mathlib.Core.List.{List}
+use Prim.Native.Nat.{ℕ, _≤_}
+use lib.ListN.{length, drop}
+use Rattle.frame.specs.Written.{Written}
+use Rattle.stream.specs.declared.Turn.{Turn}
+use Rattle.stream.specs.declared.Move.{Move}
+use Rattle.stream.specs.Step.{readOf, Stepped}
+use Rattle.stream.specs.StepLaws.{Fit}
+
+-- what was read then, and the bytes written from a place of the output on
+pub record Turned (s : Stepped) (r : Turn) (out : List ℕ) (used : ℕ) (after : List ℕ) : Type 0 where
+  pub fit : Fit (r .progress)
+  pub read : readOf (r .progress) ≡ s .read
+  pub bytes : Written out used (s .bytes) after (r .used)
+
+-- and the input that is left
+pub record Moved (s : Stepped) (input : List ℕ) (r : Move) (out : List ℕ) (used : ℕ) (after : List ℕ) : Type 0 where
+  pub fit : Fit (r .progress)
+  pub read : readOf (r .progress) ≡ s .read
+  pub inside : r .at ≤ length input
+  pub left : drop (r .at) input ≡ s .left
+  pub bytes : Written out used (s .bytes) after (r .used)

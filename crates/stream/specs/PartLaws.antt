@@ -1,0 +1,151 @@
+-- One sweep call of the program: what it answers, read off the suspects that are left. Assumes nothing.
+use mathlib.Core.Path.{_≡_, refl, sym, ap, _∙_}
+use mathlib.Core.Bool.{Bool, true, false, true≢false}
+use mathlib.Core.List.{List}
+use Prim.Native.Nat.{ℕ, _+_, _-_, _^_, _≤_, _<_}
+use native.Mathlib.Omega.{arith}
+use lib.ListN.{length, take}
+use lib.Seq.{sets, length-sets}
+use borrow.Author.Tests.{le-ltb}
+use Rattle.marks.specs.declared.Mark.{Mark}
+use Rattle.factor.specs.declared.Factor.{Factor}
+use Rattle.search.specs.declared.Place.{Place}
+use Rattle.search.specs.declared.Place.the-variants.{At, Nowhere}
+use Rattle.calls.specs.State.{none, judged, Outcome, refused, accepted, State}
+use Rattle.calls.specs.Call.{conditions, handed, Result, Reply, sweepCall}
+use Rattle.calls.specs.Plain.{wordsOf}
+use Rattle.calls.specs.ByRow.{headOf, rowRun}
+use Rattle.calls.specs.Tries.{tries-within, words-fit}
+use Rattle.calls.specs.Lists.{read-back}
+use Rattle.sweep.specs.declared.SweepState.{SweepState}
+use Rattle.sweep.specs.declared.SweepAnswer
+use Rattle.sweep.specs.declared.SweepAnswer.{SweepAnswer}
+use Rattle.sweep.specs.Engine.{engine}
+use Rattle.sweep.specs.Answers.{viewOf, callOf, replyOf}
+use Rattle.sweep.specs.Demand3.{call-by-row}
+use Rattle.stream.specs.declared.Tally.{Tally}
+use Rattle.stream.specs.Output.{markOf, isWrong, isOpen, counted}
+use Rattle.stream.specs.SweepLaws.{length-lines, odds, opens-are, wrongs-are}
+use Rattle.stream.specs.Step.{listSize, noCap, leftOf, triedBy, triedOf, afterOf, stateAt, tallied, partLines}
+use Rattle.stream.specs.StepLaws.{Going, Counted}
+
+-- the words of the call
+abbrev pub wordsBy : SweepState → List ℕ
+wordsBy s = wordsOf (markOf (s .factor)) (triedOf s)
+
+-- the call on a list of 64 words, all of it free, is accepted
+pub record Answered (s : SweepState) (after : SweepState) (t p : ℕ) (list : List ℕ) : Type 0 where
+  pub state : after ≡ stateAt s (headOf (afterOf s))
+  pub trials : t ≡ triedBy s
+  pub place : p ≡ length (wordsBy s)
+  pub words : take p list ≡ wordsBy s
+  pub long : length list ≡ listSize
+  pub fits : length (wordsBy s) ≤ listSize
+
+abbrev pub AnsweredBy : SweepState → SweepAnswer → List ℕ → Type 0
+AnsweredBy s (SweepAnswer.Accepted r) list = Answered s (r .state) (r .trials) (r .place) list
+AnsweredBy s (SweepAnswer.Refused r) list = ⊥
+
+-- ---- the tally
+
+-- with a call's state and trials, and its words, of which so many are open
+abbrev pub addedTo : Tally → (after : SweepState) → (trials words opens : ℕ) → Tally
+addedTo t after trials words opens = record { state = after; trials = t .trials + trials; wrongs = t .wrongs + (words - opens); opens = t .opens + opens }
+
+-- room for the sums
+pub record Addable (t : Tally) (trials words opens : ℕ) : Type 0 where
+  pub tried : t .trials + trials < 2 ^ 64
+  pub failing : t .wrongs + words < 2 ^ 64
+  pub odd : t .opens + opens < 2 ^ 64
+  pub some : opens ≤ words
+
+module _ (t : Tally) (c : Counted t) (after : SweepState) (trials place : ℕ) (list : List ℕ) (a : Answered (t .state) after trials place list) (opens : ℕ) (e : opens ≡ odds (take place list)) where
+  abbrev s : SweepState
+  s = t .state
+
+  abbrev mark : ℕ → Mark
+  mark = markOf (s .factor)
+
+  open-ones : opens ≡ counted isOpen mark (triedOf s)
+  open-ones = e ∙ ap odds (a .words) ∙ sym (opens-are mark (triedOf s))
+
+  wrong-ones : place - opens ≡ counted isWrong mark (triedOf s)
+  wrong-ones = omega (arith, a .place, wrongs-are mark (triedOf s), opens-are mark (triedOf s), open-ones)
+
+  pub addable : Addable t trials place opens
+  addable =
+      let k : triedBy s ≤ length (leftOf s) = tries-within mark noCap listSize (leftOf s) in
+      let o : opens ≤ place = omega (arith, a .place, wrongs-are mark (triedOf s), opens-are mark (triedOf s), open-ones) in
+      let f = a .fits in
+      record {
+        tried = omega (arith, a .trials, c .few);
+        failing = omega (arith, a .place, c .few, c .failing);
+        odd = omega (arith, a .place, c .few, c .failing);
+        some = o;
+      }
+
+  pub added-is : addedTo t after trials place opens ≡ tallied t
+  added-is = λ i. record { state = a .state i; trials = t .trials + a .trials i; wrongs = t .wrongs + wrong-ones i; opens = t .opens + open-ones i }
+
+-- ---- the call
+
+-- what a reply tells
+abbrev trialsIn : Outcome Result → ℕ
+trialsIn (refused n) = 0
+trialsIn (accepted r) = r .trials
+
+abbrev placeIn : Outcome Result → ℕ
+placeIn (refused n) = 0
+placeIn (accepted r) = r .place
+
+abbrev isRefused : Outcome Result → Bool
+isRefused (refused n) = true
+isRefused (accepted r) = false
+
+abbrev codeOf : State Factor → SweepState
+codeOf s = record { factor = s .factor; first = s .first; last = s .last; next = s .next; finished = s .finished }
+
+module _ (s : SweepState) (g : Going s) (list : List ℕ) (size : length list ≡ listSize) where
+  not-refused : judged (conditions engine (viewOf s) (callOf noCap list 0)) ≡ none
+  not-refused = rw (g .whole, g .inside, le-ltb (s .next) (s .first) (g .from), le-ltb (s .last) (s .next) (g .upto), g .going, size)
+
+  few-words : length (wordsBy s) ≤ listSize
+  few-words = words-fit (markOf (s .factor)) noCap listSize (leftOf s)
+
+  front : take (length (wordsBy s)) (sets list 0 (wordsBy s)) ≡ wordsBy s
+  front =
+      let e : 0 + length (wordsBy s) ≡ length (wordsBy s) = omega arith in
+      ap (λ (k : ℕ). take k (sets list 0 (wordsBy s))) (sym e) ∙ read-back list (wordsBy s) 0 (omega (arith, few-words))
+
+  reply-is :
+      sweepCall engine (viewOf s) (callOf noCap list 0)
+      ≡ record {
+        answer = accepted (record { trials = triedBy s; rounds = rowRun engine (s .factor) (s .last) (s .next) (triedBy s) (leftOf s) .rounds; place = 0 + length (wordsBy s) });
+        state = handed (viewOf s) (headOf (afterOf s));
+        list = sets list 0 (wordsBy s);
+      }
+  reply-is = call-by-row (viewOf s) (callOf noCap list 0) ∙ rw (not-refused, size) refl
+
+  -- What the call answers.
+  pub answered : (a : SweepAnswer) (left : List ℕ) → replyOf a left ≡ sweepCall engine (viewOf s) (callOf noCap list 0) → AnsweredBy s a left
+  answered (SweepAnswer.Accepted r) left e =
+      let all = e ∙ reply-is in
+      let p : r .place ≡ length (wordsBy s) = ap (λ (x : Reply Factor). placeIn (x .answer)) all ∙ omega arith in
+      let l : left ≡ sets list 0 (wordsBy s) = ap (λ (x : Reply Factor). x .list) all in
+      record {
+        state = ap (λ (x : Reply Factor). codeOf (x .state)) all ∙ code-handed (headOf (afterOf s));
+        trials = ap (λ (x : Reply Factor). trialsIn (x .answer)) all;
+        place = p;
+        words = ap (λ (k : ℕ). take k left) p ∙ ap (take (length (wordsBy s))) l ∙ front;
+        long = ap length l ∙ length-sets list 0 (wordsBy s) ∙ size;
+        fits = few-words;
+      }
+    where
+      code-handed : (p : Place) → codeOf (handed (viewOf s) p) ≡ stateAt s p
+      code-handed (At X) = refl
+      code-handed Nowhere = refl
+  answered (SweepAnswer.Refused r) left e = true≢false (ap (λ (x : Reply Factor). isRefused (x .answer)) (e ∙ reply-is))
+
+-- A part prints at most 576 bytes.
+pub part-short : (s : SweepState) → length (partLines s) ≤ 576
+part-short s = omega (arith, length-lines (wordsBy s), words-fit (markOf (s .factor)) noCap listSize (leftOf s))

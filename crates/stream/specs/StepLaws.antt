@@ -1,0 +1,315 @@
+-- A step of the program loses nothing: the bytes that it writes, and what is still to print after it, are what was to print before. Assumes nothing.
+use mathlib.Core.Path.{_≡_, refl, sym, ap, _∙_}
+use mathlib.Core.Bool.{Bool, true, false, cond, false≢true}
+use mathlib.Core.List.{List, [], _∷_, _++_, append-assoc}
+use Prim.Native.Nat.{ℕ, suc, _+_, _-_, _*_, _^_, _≤_, _<_}
+use native.Mathlib.Nat.{pow-suc}
+use native.Mathlib.Decide.{decLe}
+use native.Mathlib.Omega.{arith}
+use lib.Dec.{eqb, leb}
+use lib.Pow.{pow-pos, pow-mono}
+use lib.ListN.{length, take-append-drop, length-drop}
+use lib.Seq.{length-take-le}
+use borrow.Author.Tests.{eqb-true, le-leb, lt-leb, le-ltb}
+use Rattle.frame.specs.Lines.{lineFeed}
+use Rattle.frame.specs.Report.{reportLine}
+use Rattle.marks.specs.declared.Mark.{Mark}
+use Rattle.factor.specs.declared.Factor.{Factor}
+use Rattle.factor.specs.declared.SetUp
+use Rattle.factor.specs.declared.SetUp.{SetUp}
+use Rattle.factor.specs.Precision.{leastOf}
+use Rattle.factor.specs.SetUp.{Sound, intact}
+use Rattle.factor.specs.SetUpLaws.{accepted-intact, intact-sound}
+use Rattle.calls.specs.Plain.{row}
+use Rattle.calls.specs.ByRow.{headOf}
+use Rattle.calls.specs.Rows.{begins, row-ascends, ascends-few}
+use Rattle.calls.specs.Tries.{tries-within}
+use Rattle.frame.specs.declared.FrameAnswer.{FrameAnswer}
+use Rattle.frame.specs.Frame.{frameOf}
+use Rattle.sweep.specs.declared.SweepState.{SweepState}
+use Rattle.sweep.specs.Engine.{suspect, rangeOut}
+use Rattle.stream.specs.declared.Tally.{Tally}
+use Rattle.stream.specs.declared.Task
+use Rattle.stream.specs.declared.Task.{Task}
+use Rattle.stream.specs.declared.Progress.{Progress}
+use Rattle.stream.specs.Output.{mostLines, among, suspectsOf, markOf, isWrong, isOpen, counted, setUpOutput, lastOutput, lineOutput, output}
+use Rattle.stream.specs.PieceLaws.{mostKept, reading, reading-all, reading-feed, reading-end, reading-past}
+use Rattle.stream.specs.SweepLaws.{opens-are, wrongs-are, words-few, sweeping, sweeping-all, sweeping-some, sweeping-none}
+use Rattle.stream.specs.Keep.{kept, upToFeed, Part, none-kept, kept-part, reading-kept}
+use Rattle.stream.specs.Judged.{judgedFrame, judgedLine, line-judged}
+use Rattle.stream.specs.Step.{listSize, noCap, leftOf, triedBy, triedOf, afterOf, stateAt, begunWith, talliedTo, tallied, partLines, reportBy, Read, readOf, Stepped, atLine, judgedStep, lineStep, sweptStep, taskStep, stepOf, endTask, endOf}
+
+-- ---- what is still to print
+
+abbrev pub restTask : (i : ℕ) (line : List ℕ) → Task → (input : List ℕ) → List ℕ
+restTask i line Task.Reading input = reading i line input
+restTask i line (Task.Sweeping t) input =
+    sweeping i (markOf (t .state .factor)) (leftOf (t .state)) (t .trials) (t .wrongs) (t .opens) (reading (suc i) [] input)
+
+unfoldable pub restOf : Read → (input : List ℕ) → List ℕ
+restOf r input = restTask (r .number) (r .line) (r .task) input
+
+-- ---- what holds of all that was read
+
+-- a state whose call is not refused for the state
+pub record Going (s : SweepState) : Type 0 where
+  pub whole : intact (s .factor) ≡ true
+  pub inside : rangeOut (s .factor .precision .bits) (s .first) (s .last) ≡ false
+  pub from : s .first ≤ s .next
+  pub upto : s .next ≤ s .last
+  pub going : s .finished ≡ false
+
+-- the counts so far, which stay small: there are no more significands than 2 ^ 24
+pub record Counted (t : Tally) : Type 0 where
+  pub few : t .trials + length (leftOf (t .state)) ≤ 2 ^ 24
+  pub failing : t .wrongs + t .opens ≤ t .trials
+
+abbrev pub GoodTask : ℕ → Task → Type 0
+GoodTask i Task.Reading = Unit {0}
+GoodTask i (Task.Sweeping t) = (i ≤ mostLines) × Going (t .state) × Counted t
+
+pub record Good (r : Read) : Type 0 where
+  pub number : r .number ≤ suc mostLines
+  pub line : Part (r .line)
+  pub task : GoodTask (r .number) (r .task)
+
+pub begin-good : Good (atLine 1)
+begin-good = record { number = omega arith; line = none-kept; task = Prim.tt }
+
+-- ---- a sweep that begins
+
+module _ (f : Factor) (whole : intact f ≡ true) where
+  abbrev n : ℕ
+  n = f .precision .bits
+
+  sound : Sound f
+  sound = intact-sound f whole
+
+  least-most : (2 ^ (n - 1) ≤ 2 ^ n - 1) × (2 ^ n - 1 < 2 ^ n)
+  least-most =
+      let m : n ≡ suc (n - 1) = omega (arith, sound .fewest) in
+      let p : 1 ≤ 2 ^ (n - 1) = pow-pos (n - 1) in
+      let d : 2 ^ n ≡ 2 ^ (n - 1) * 2 = ap (λ (k : ℕ). 2 ^ k) m ∙ pow-suc 2 (n - 1) in
+      (omega arith, omega arith)
+
+  pub begun-going : Going (begunWith f .state)
+  begun-going =
+      let l = least-most in
+      record {
+        whole = whole;
+        inside =
+            rw (
+              le-ltb (2 ^ (n - 1)) (2 ^ (n - 1)) (omega arith),
+              lt-leb (2 ^ n) (2 ^ (n - 1)) (omega arith),
+              le-ltb (2 ^ n - 1) (2 ^ (n - 1)) (omega arith),
+              lt-leb (2 ^ n) (2 ^ n - 1) (omega arith),
+            );
+        from = omega arith;
+        upto = omega arith;
+        going = refl;
+      }
+
+  pub begun-counted : Counted (begunWith f)
+  begun-counted =
+      let l = least-most in
+      let a = ascends-few (2 ^ (n - 1)) (suc (2 ^ n - 1)) (leftOf (begunWith f .state)) (row-ascends (suspect f) (2 ^ (n - 1)) (suc (2 ^ n - 1))) in
+      let b : 2 ^ n ≤ 2 ^ 24 = pow-mono (sound .most) in
+      record { few = omega arith; failing = omega arith }
+
+  pub begun-left : suspectsOf f ≡ leftOf (begunWith f .state)
+  unfolding suspectsOf
+  begun-left =
+      let l = least-most in
+      ap (row (suspect f) (leastOf n)) (omega arith)
+
+abbrev isAccepted : SetUp → Bool
+isAccepted (SetUp.Accepted f) = true
+isAccepted (SetUp.Refused j) = false
+
+abbrev headOr : ℕ → List ℕ → ℕ
+headOr d [] = d
+headOr d (x ∷ l) = x
+
+abbrev isCons : List ℕ → Bool
+isCons [] = false
+isCons (x ∷ l) = true
+
+-- a line is accepted only with a factor that is intact
+pub judged-intact : (line : List ℕ) (f : Factor) → judgedLine line ≡ SetUp.Accepted f → intact f ≡ true
+unfolding judgedLine
+judged-intact line f e = go (frameOf line) e
+  where
+    go : (a : FrameAnswer) → judgedFrame a ≡ SetUp.Accepted f → intact f ≡ true
+    go (FrameAnswer.Frame g) q = accepted-intact (g .precision) (g .scale) (g .lower) (g .upper) f q
+    go (FrameAnswer.Refused j) q = absurd (false≢true (ap isAccepted q))
+
+-- ---- the steps
+
+up-head : (input : List ℕ) (b : ℕ) (rest : List ℕ) → upToFeed input ≡ b ∷ rest → b ≡ lineFeed
+unfolding upToFeed
+up-head [] b rest e = absurd (false≢true (ap isCons e))
+up-head (x ∷ input) b rest e = go (up-head input b rest) (eqb x lineFeed) refl e
+  where
+    go : (upToFeed input ≡ b ∷ rest → b ≡ lineFeed) → (t : Bool) → eqb x lineFeed ≡ t → cond t (x ∷ input) (upToFeed input) ≡ b ∷ rest → b ≡ lineFeed
+    go more true q e = sym (ap (headOr 0) e) ∙ eqb-true x lineFeed q
+    go more false q e = more e
+
+module _ (later : List ℕ) where
+  -- what a step must do
+  abbrev Tells : List ℕ → Stepped → Type 0
+  Tells before s = before ≡ s .bytes ++ restOf (s .read) (s .left ++ later)
+
+  -- a part of a sweep
+  part-tells : (i : ℕ) (line : List ℕ) (t : Tally) (input : List ℕ) → Tells (restTask i line (Task.Sweeping t) (input ++ later)) (taskStep i line (Task.Sweeping t) input)
+  unfolding restOf
+  part-tells i line t input = go (afterOf s) refl
+    where
+      s : SweepState
+      s = t .state
+
+      r : List ℕ
+      r = reading (suc i) [] (input ++ later)
+
+      k : triedBy s ≤ length (leftOf s)
+      k = tries-within (markOf (s .factor)) noCap listSize (leftOf s)
+
+      start : (l : List ℕ) → afterOf s ≡ l
+          → restTask i line (Task.Sweeping t) (input ++ later)
+          ≡ partLines s ++ sweeping i (markOf (s .factor)) l (t .trials + triedBy s) (tallied t .wrongs) (tallied t .opens) r
+      start l e =
+          ap (λ (m : List ℕ). sweeping i (markOf (s .factor)) m (t .trials) (t .wrongs) (t .opens) r) (sym (take-append-drop (triedBy s) (leftOf s)) ∙ ap (λ (m : List ℕ). triedOf s ++ m) e)
+          ∙ sweeping-some i (markOf (s .factor)) (triedOf s) l (t .trials) (t .wrongs) (t .opens) r
+          ∙ ap (λ (m : ℕ). partLines s ++ sweeping i (markOf (s .factor)) l (t .trials + m) (tallied t .wrongs) (tallied t .opens) r) (length-take-le (triedBy s) (leftOf s) k)
+
+      go : (l : List ℕ) → afterOf s ≡ l → Tells (restTask i line (Task.Sweeping t) (input ++ later)) (sweptStep i (talliedTo t l) (talliedTo t l .state .finished) (partLines s) input)
+      go [] e =
+          start [] e
+          ∙ ap (λ (m : List ℕ). partLines s ++ m) (sweeping-none i (markOf (s .factor)) (t .trials + triedBy s) (tallied t .wrongs) (tallied t .opens) r)
+          ∙ sym (append-assoc (partLines s) (reportLine 8 (reportBy i (tallied t))) r)
+      go (x ∷ l) e =
+          let b = begins (suspect (s .factor)) (s .next) (suc (s .last)) (triedBy s) x l e in
+          start (x ∷ l) e ∙ ap (λ (m : List ℕ). partLines s ++ sweeping i (markOf (s .factor)) m (t .trials + triedBy s) (tallied t .wrongs) (tallied t .opens) r) (b .is)
+
+  -- a line that is complete
+  judged-tells : (i : ℕ) (line input : List ℕ) (a : SetUp) → judgedLine line ≡ a
+      → Tells (setUpOutput i a ++ reading (suc i) [] (input ++ later)) (judgedStep i a input)
+  unfolding restOf
+  judged-tells i line input (SetUp.Accepted f) e =
+      sweeping-all i f (reading (suc i) [] (input ++ later))
+      ∙ ap (λ (l : List ℕ). sweeping i (markOf f) l 0 0 0 (reading (suc i) [] (input ++ later))) (begun-left f (judged-intact line f e))
+  judged-tells i line input (SetUp.Refused j) e = refl
+
+  line-tells : (i : ℕ) (line rest : List ℕ) → Part line → i ≤ mostLines → ((b : ℕ) (l : List ℕ) → rest ≡ b ∷ l → b ≡ lineFeed)
+      → Tells (reading i line (rest ++ later)) (lineStep i line rest)
+  unfolding restOf
+  line-tells i line [] p h f = refl
+  line-tells i line (b ∷ rest) p h f =
+      ap (λ (x : ℕ). reading i line (x ∷ (rest ++ later))) (f b rest refl)
+      ∙ reading-feed i line (rest ++ later) (p .plain)
+      ∙ ap (λ (t : Bool). cond t (lineOutput i line) [] ++ reading (suc i) [] (rest ++ later)) (le-leb i mostLines h)
+      ∙ ap (λ (l : List ℕ). l ++ reading (suc i) [] (rest ++ later)) (line-judged i line)
+      ∙ judged-tells i line rest (judgedLine line) refl
+
+  reading-tells : (i : ℕ) (line input : List ℕ) → Part line → Tells (reading i line (input ++ later)) (taskStep i line Task.Reading input)
+  unfolding restOf
+  reading-tells i line input p = go (decLe i mostLines)
+    where
+      go : Dec (i ≤ mostLines) → Tells (reading i line (input ++ later)) (taskStep i line Task.Reading input)
+      go (yes h) =
+          rw (le-leb i mostLines h)
+          (reading-kept i line input later p ∙ line-tells i (kept line input) (upToFeed input) (kept-part line input p) h (λ b l e. up-head input b l e))
+      go (no h) = rw (lt-leb i mostLines (omega arith)) (reading-past i line (input ++ later) (omega arith) ∙ sym (reading-past i line later (omega arith)))
+
+  -- A step loses nothing.
+  pub step-tells : (r : Read) → Good r → (input : List ℕ) → Tells (restOf r (input ++ later)) (stepOf r input)
+  unfolding restOf stepOf
+  step-tells r g input = go (r .task)
+    where
+      go : (t : Task) → Tells (restTask (r .number) (r .line) t (input ++ later)) (taskStep (r .number) (r .line) t input)
+      go Task.Reading = reading-tells (r .number) (r .line) input (g .line)
+      go (Task.Sweeping t) = part-tells (r .number) (r .line) t input
+
+-- ---- what holds of all that was read, after a step
+
+counted-few : (mark : ℕ → Mark) (l : List ℕ) → counted isWrong mark l + counted isOpen mark l ≤ length l
+counted-few mark l = omega (arith, opens-are mark l, wrongs-are mark l, words-few mark l)
+
+-- the counts after a part
+pub tallied-counted : (t : Tally) (l : List ℕ) → afterOf (t .state) ≡ l → leftOf (stateAt (t .state) (headOf l)) ≡ l → Counted t → Counted (talliedTo t l)
+tallied-counted t l e left c =
+    let s = t .state in
+    let k : triedBy s ≤ length (leftOf s) = tries-within (markOf (s .factor)) noCap listSize (leftOf s) in
+    let size : length (leftOf s) - triedBy s ≡ length l = sym (length-drop (triedBy s) (leftOf s)) ∙ ap length e in
+    record {
+      few = omega (arith, c .few, ap length left);
+      failing = omega (arith, c .failing, counted-few (markOf (s .factor)) (triedOf s), length-take-le (triedBy s) (leftOf s) k);
+    }
+
+part-good : (i : ℕ) (t : Tally) (input : List ℕ) → i ≤ mostLines → Going (t .state) → Counted t → Good (taskStep i [] (Task.Sweeping t) input .read)
+part-good i t input h g c = go (afterOf s) refl
+  where
+    s : SweepState
+    s = t .state
+
+    go : (l : List ℕ) → afterOf s ≡ l → Good (sweptStep i (talliedTo t l) (talliedTo t l .state .finished) (partLines s) input .read)
+    go [] e = record { number = omega arith; line = none-kept; task = Prim.tt }
+    go (x ∷ l) e =
+        let b = begins (suspect (s .factor)) (s .next) (suc (s .last)) (triedBy s) x l e in
+        let from = b .from in
+        record {
+          number = omega arith;
+          line = none-kept;
+          task = (
+            h,
+            record { whole = g .whole; inside = g .inside; from = omega (arith, g .from); upto = omega (arith, b .below); going = refl },
+            tallied-counted t (x ∷ l) e (sym (b .is)) c,
+          );
+        }
+
+pub judged-good : (i : ℕ) (line input : List ℕ) (a : SetUp) → judgedLine line ≡ a → i ≤ mostLines → Good (judgedStep i a input .read)
+judged-good i line input (SetUp.Accepted f) e h =
+    record { number = omega arith; line = none-kept; task = (h, begun-going f (judged-intact line f e), begun-counted f (judged-intact line f e)) }
+judged-good i line input (SetUp.Refused j) e h = record { number = omega arith; line = none-kept; task = Prim.tt }
+
+line-good : (i : ℕ) (line rest : List ℕ) → i ≤ mostLines → Part line → Good (lineStep i line rest .read)
+line-good i line [] h p = record { number = omega arith; line = p; task = Prim.tt }
+line-good i line (b ∷ rest) h p = judged-good i line rest (judgedLine line) refl h
+
+pub step-good : (r : Read) → Good r → (input : List ℕ) → Good (stepOf r input .read)
+unfolding stepOf
+step-good r g input = go (r .task) (g .task)
+  where
+    go : (t : Task) → GoodTask (r .number) t → Good (taskStep (r .number) (r .line) t input .read)
+    go (Task.Sweeping t) q = part-good (r .number) t input (q .0) (q .1) (q .2)
+    go Task.Reading q = reads (decLe (r .number) mostLines)
+      where
+        reads : Dec (r .number ≤ mostLines) → Good (taskStep (r .number) (r .line) Task.Reading input .read)
+        reads (yes h) = rw (le-leb (r .number) mostLines h) (line-good (r .number) (kept (r .line) input) (upToFeed input) h (kept-part (r .line) input (g .line)))
+        reads (no h) = rw (lt-leb (r .number) mostLines (omega arith)) (record { number = g .number; line = g .line; task = Prim.tt })
+
+-- ---- at the end of the input
+
+pub end-tells : (r : Read) → Good r → r .task ≡ Task.Reading → restOf r [] ≡ endOf r
+unfolding restOf endOf
+end-tells r g e = rw e (reading-end (r .number) (r .line) (g .line .plain) ∙ go (r .line))
+  where
+    go : (l : List ℕ) → among (r .number) (lastOutput (r .number) l) ≡ endTask (r .number) l Task.Reading
+    go [] = none (leb (r .number) mostLines)
+      where
+        none : (t : Bool) → _≡_ {A = List ℕ} (cond t [] []) []
+        none true = refl
+        none false = refl
+    go (b ∷ l) = refl
+
+-- ---- and at the beginning
+
+pub begin-tells : (input : List ℕ) → restOf (atLine 1) input ≡ output input
+unfolding restOf
+begin-tells input = sym (reading-all input)
+
+-- ---- what holds of the progress
+
+pub record Fit (p : Progress) : Type 0 where
+  pub size : length (p .held) ≡ mostKept
+  pub few : p .length ≤ mostKept
+  pub good : Good (readOf p)
