@@ -1,0 +1,2 @@
+-- What holds between two steps.
+pub mod Held
