@@ -167,9 +167,9 @@ pub fn parts_at(p: Precision, end: u64) -> Parts
     parts_from(p, high, rest_of(end, high << k))
 }
 
-// m * 2 ^ field / 2 ^ 149 with a sign, as a binary32 number: m has 24 bits, or is 2 ^ 24.
-fn float_of(minus: bool, field: u32, m: u32) -> f32
-    requires { ⌜ (2 ^ 23 ≤ m) × (m ≤ 2 ^ 24) × (field < 253) ⌝ }
+// m * 2 ^ field / 2 ^ 149 with a sign, as a binary32 number: m has 24 bits, or is 2 ^ 24, and the field of an infinity is not reached.
+pub fn float_of(minus: bool, field: u32, m: u32) -> f32
+    requires { ⌜ (2 ^ 23 ≤ m) × (m ≤ 2 ^ 24) × (field * 8388608 + m < 2139095040) ⌝ }
     ensures { λ r. ⌜ r ≡ Ieee.round binary32 minus (m * 2 ^ field) (2 ^ 149) ⌝ }
 {
     if minus {

@@ -125,7 +125,7 @@ module _ (rule : Rule) (n E : ℕ) (p : Parts) (at : PartsAtEnd rule n E p) wher
   high-le = subst (λ (v : Whole). v .high ≤ 2 ^ n) w-is (high-most rule n E P F c ce)
 
   -- the low significand has n bits where it is not zero, and its places have a range
-  low-some : 0 < s → HasBits n s × (2 * n ≤ suc q) × (q < E + n)
+  pub low-some : 0 < s → HasBits n s × (2 * n ≤ suc q) × (q < E + n)
   low-some h = subst (λ (z : Parts). HasBits n (natAbs (z .low)) × (2 * n ≤ suc (z .places)) × (z .places < E + n)) (sym kept) (go (decLe (natAbs z) 0))
     where
       z : ℤ
@@ -142,7 +142,7 @@ module _ (rule : Rule) (n E : ℕ) (p : Parts) (at : PartsAtEnd rule n E p) wher
       go (yes h) = low-some h .0 .most
       go (no h) = omega (arith, pow-pos n)
 
-  low-value : s * 2 ^ E ≡ w .low * 2 ^ q
+  pub low-value : s * 2 ^ E ≡ w .low * 2 ^ q
   low-value = subst (λ (v : Whole). s * 2 ^ E ≡ v .low * 2 ^ q) w-is (subst (λ (z : Parts). natAbs (z .low) * 2 ^ E ≡ whole rule n E c .low * 2 ^ z .places) (sym kept) (low-kept rule n E P F c ce))
 
   module _ (X : ℕ) (xb : HasBits n X) where

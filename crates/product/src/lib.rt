@@ -47,13 +47,13 @@ fn first_units(n: u32, parts: Parts, x: u64) -> u64
     near.taken << (dropped + Precision::SCALE - parts.places)
 }
 
-// Ch * x + u1, the sum and the product exact.
-fn fused_units(p: Precision, parts: Parts, x: u64) -> Wide
-    requires { ⌜ Kept (p .bits) × PartsAtEnd toEven (p .bits) 62 parts × HasBits (p .bits) x ⌝ }
+// Ch * x + u1, the sum and the product exact; u1 is given, by its size in that unit.
+fn fused_units(p: Precision, parts: Parts, x: u64, u1: u64) -> Wide
+    requires { ⌜ Kept (p .bits) × PartsAtEnd toEven (p .bits) 62 parts × HasBits (p .bits) x × (u1 ≡ firstUnits toEven (p .bits) (wholeOf 62 parts) x) ⌝ }
     ensures { λ r. ⌜ valueOf r ≡ fusedUnits toEven (p .bits) 62 (wholeOf 62 parts) x ⌝ }
 {
     let high = wide::shifted_left(wide::from_word(parts.high * x), p.step());
-    let first = wide::from_word(first_units(p.bits, parts, x));
+    let first = wide::from_word(u1);
     if parts.low < 0 {
         return wide::difference(high, first);
     }
@@ -72,14 +72,24 @@ fn rounded_units(y: Wide, n: u32) -> Product
     }
 }
 
-// The product u2 = RN(Ch * x + u1) of a factor that was accepted and a significand in range.
-pub fn product_of(f: Factor, x: u64) -> Product
-    requires { ⌜ Sound f × HasBits (f .precision .bits) x ⌝ }
+// The second step, u2 = RN(Ch * x + u1), of a factor that was accepted, a significand in range and its u1.
+pub fn second_step(f: Factor, x: u64, u1: u64) -> Product
+    requires { ⌜ Sound f × HasBits (f .precision .bits) x × (u1 ≡ firstUnits toEven (f .precision .bits) (wholeOf 62 (f .parts)) x) ⌝ }
     ensures { λ r. ⌜ r ≡ productBy f x ⌝ }
 {
     let p = f.precision;
     let parts = f.parts;
-    rounded_units(fused_units(p, parts, x), p.bits)
+    rounded_units(fused_units(p, parts, x, u1), p.bits)
+}
+
+// The product of a factor that was accepted and a significand in range.
+pub fn product_of(f: Factor, x: u64) -> Product
+    requires { ⌜ Sound f × HasBits (f .precision .bits) x ⌝ }
+    ensures { λ r. ⌜ r ≡ productBy f x ⌝ }
+{
+    let n = f.precision.bits;
+    let parts = f.parts;
+    second_step(f, x, first_units(n, parts, x))
 }
 
 // A product as a whole number of 2 ^ (1 - n), the step of binade 0: so products are compared.

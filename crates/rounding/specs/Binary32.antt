@@ -31,8 +31,8 @@ pub fields-number : (b x : ℕ) → b % 2147483648 / 8388608 ≡ x → x < 255 �
 unfolding nanBits
 fields-number b x q h = rw (q, ne-eqb x 255 (λ e. omega arith)) tt
 
--- ---- m * 2 ^ k / 2 ^ 149, for an m of 24 bits, or 2 ^ 24: its pattern is k * 2 ^ 23 + m below the sign
-module _ (s : Bool) (k m : ℕ) (lo : 8388608 ≤ m) (hi : m ≤ 16777216) (few : k < 253) where
+-- ---- m * 2 ^ k / 2 ^ 149, for an m of 24 bits, or 2 ^ 24: its pattern is k * 2 ^ 23 + m below the sign. The field 255 is not reached
+module _ (s : Bool) (k m : ℕ) (lo : 8388608 ≤ m) (hi : m ≤ 16777216) (few : k * 8388608 + m < 2139095040) where
   abbrev b : ℕ
   b = signAbove s (k * 8388608 + m)
 
@@ -82,11 +82,18 @@ module _ (s : Bool) (k m : ℕ) (lo : 8388608 ≤ m) (hi : m ≤ 16777216) (few 
       go (inl e) = fields-number b (suc (suc k)) (field-top e) (omega arith)
       go (inr l) = fields-number b (suc k) (field-low l) (omega arith)
 
+  under : m * 2 ^ k < 2 ^ 277
+  under = go (eq-or-lt-of-le hi)
+    where
+      go : (m ≡ 16777216) ⊎ (m < 16777216) → m * 2 ^ k < 2 ^ 277
+      go (inl e) = lt-of-le-of-lt (mul-le-mul hi (pow-mono {i = k} {j = 252} (omega arith))) (lit< tt)
+      go (inr l) = let n : m ≤ 16777215 = omega arith in lt-of-le-of-lt (mul-le-mul n (pow-mono {i = k} {j = 253} (omega arith))) (lit< tt)
+
   -- it is the number that rounding gives for this value
   pub pattern-is : ofBits binary32 b ≡ Ieee.round binary32 s (m * 2 ^ k) (2 ^ 149)
   pattern-is =
       value-unique binary32 (ofBits binary32 b) (Ieee.round binary32 s (m * 2 ^ k) (2 ^ 149)) s (m * 2 ^ k) (2 ^ 149) (pow-pos 149) (ofBits-fits binary32 b) (round-fits binary32 s (m * 2 ^ k) (2 ^ 149)) pattern-value
-      (round-itself binary32 s (m * 2 ^ k) (2 ^ 149) m k (pow-pos 149) hi refl (lt-of-le-of-lt (mul-le-mul hi (pow-mono {i = k} {j = 252} (omega arith))) (lit< tt)))
+      (round-itself binary32 s (m * 2 ^ k) (2 ^ 149) m k (pow-pos 149) hi refl under)
 
 -- ---- what is not a number
 pub no-nan : (x : Float) → ne x x ≡ false → T (not (isNan x))

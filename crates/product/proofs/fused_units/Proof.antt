@@ -47,9 +47,6 @@ shifted-left-requires c κs =
     let w = c .before in
     rw (w .from-word .ensures) (shifted-room (w .before .before .args .parts .high * w .before .before .args .x) (c .step .result) (w .before .before .args .p .bits) (high-word (w .before)) (c .step .ensures))
 
-first-units-requires : tie.Need-first-units-requires
-first-units-requires c κs = search needs
-
 from-word-requires-2 : tie.Need-from-word-requires-2
 from-word-requires-2 c κs = search needs
 
@@ -57,8 +54,8 @@ from-word-requires-2 c κs = search needs
 shifted : (c : tie.After-shifted-left) → let a = c .before .before .before .before in valueOf (c .shifted-left .result) ≡ a .args .parts .high * a .args .x * step (a .args .p .bits) 62
 shifted c = c .shifted-left .ensures ∙ ap₂ (λ (m k : ℕ). m * 2 ^ k) (c .before .before .from-word .ensures) (c .before .step .ensures)
 
-first : (c : tie.After-from-word2) → let a = c .before .before .before .before .before .before in valueOf (c .from-word2 .result) ≡ firstUnits toEven (a .args .p .bits) (wholeOf 62 (a .args .parts)) (a .args .x)
-first c = c .from-word2 .ensures ∙ c .before .first-units .ensures
+first : (c : tie.After-from-word2) → let a = c .before .before .before .before .before in valueOf (c .from-word2 .result) ≡ firstUnits toEven (a .args .p .bits) (wholeOf 62 (a .args .parts)) (a .args .x)
+first c = c .from-word2 .ensures ∙ c .before .before .before .before .before .pre .3
 
 high : (c : tie.After-shifted-left) → let a = c .before .before .before .before in valueOf (c .shifted-left .result) ≡ a .args .parts .high * step (a .args .p .bits) 62 * a .args .x
 high c = let a = c .before .before .before .before in shifted c ∙ mul-right-comm (a .args .parts .high) (a .args .x) (step (a .args .p .bits) 62)
@@ -66,7 +63,7 @@ high c = let a = c .before .before .before .before in shifted c ∙ mul-right-co
 difference-requires : tie.Need-difference-requires
 difference-requires c κs =
     let d = c .before .before .before in
-    let l = d .before .before in
+    let l = d .before in
     let a = l .before .before .before .before in
     rw (high l, first d) (first-le toEven (a .args .p .bits) 62 (a .args .parts) (a .pre .1) (a .args .x) (a .pre .2))
 
@@ -75,11 +72,11 @@ low-same : (c : tie.After-struct-known) → toZ w64 (ofZ w64 (c .before .args .p
 low-same c = search needs
 
 -- whichever sign was tested
-joined : (c : tie.After-from-word2) → let l = c .before .before in let a = l .before .before .before .before in (b : Bool) → ltZ (toZ w64 (ofZ w64 (a .args .parts .low))) (pos 0) ≡ b
+joined : (c : tie.After-from-word2) → let l = c .before in let a = l .before .before .before .before in (b : Bool) → ltZ (toZ w64 (ofZ w64 (a .args .parts .low))) (pos 0) ≡ b
     → plusOrMinus b (valueOf (l .shifted-left .result)) (valueOf (c .from-word2 .result)) ≡ fusedUnits toEven (a .args .p .bits) 62 (wholeOf 62 (a .args .parts)) (a .args .x)
 unfolding fusedUnits
 joined c b e =
-    let l = c .before .before in
+    let l = c .before in
     let z = l .before .before .before .before .args .parts .low in
     let sign : negative z ≡ b = sym (negative-is z) ∙ ap (λ (y : ℤ). ltZ y (pos 0)) (sym (low-same (l .before .before .before))) ∙ e in
     rw (high l, first c, sign)
@@ -102,7 +99,7 @@ carry-room a b h l = omega arith
 sum-requires : tie.Need-sum-requires
 sum-requires c κs =
     let d = c .before .before .before in
-    let l = d .before .before in
+    let l = d .before in
     let a = l .before .before .before .before in
     let n = a .args .p .bits in
     let word : valueOf (d .from-word2 .result) < 2 ^ 62 = rw (first d) (first-lt toEven n 62 (a .args .parts) (a .pre .1) (a .args .x) (a .pre .2)) in
@@ -120,7 +117,6 @@ fused-units-spec =
     from-word-requires
     step-requires
     shifted-left-requires
-    first-units-requires
     from-word-requires-2
     difference-requires
     returns

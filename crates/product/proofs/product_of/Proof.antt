@@ -1,33 +1,20 @@
 -- `product::product_of` meets its contract: a sound factor's parts are those of its lower end. Assumes nothing.
-use mathlib.Core.Path.{ap, _∙_}
-use native.Mathlib.Omega.{arith}
-use Rattle.rounding.specs.Grid.{toEven}
-use Rattle.product.specs.Units.{roundedUnits}
-use Rattle.product.specs.StepLaws.{fused-from, product-rounds}
+use borrow.Author.Needs.{needs}
 use Rattle.product.specs.SoundLaws.{sound-precision, sound-parts}
 use Rattle.product.proofs.product_of.Statement.{statement}
 use Rattle.product.proofs.product_of.Tie as tie
 
-fused-units-requires : tie.Need-fused-units-requires
-fused-units-requires c κs =
-    let a = c .before .before in
+first-units-requires : tie.Need-first-units-requires
+first-units-requires c κs =
+    let a = c .before in
     let f = a .args .f in
     (sound-precision f (a .pre .0), sound-parts f (a .pre .0), a .pre .1)
 
-rounded-units-requires : tie.Need-rounded-units-requires
-rounded-units-requires c κs =
-    let a = c .before .before .before in
-    let f = a .args .f in
-    let s = a .pre .0 in
-    (omega (arith, s .fewest), omega (arith, s .most), rw (c .fused-units .ensures) (fused-from toEven (f .precision .bits) 62 (f .parts) (sound-parts f s) (a .args .x) (a .pre .1)))
+second-step-requires : tie.Need-second-step-requires
+second-step-requires c κs = search needs
 
 returns : tie.Need-returns
-returns c =
-    let a = c .before .before .before .before in
-    let f = a .args .f in
-    c .rounded-units .ensures
-    ∙ ap (roundedUnits toEven (f .precision .bits) 62) (c .before .fused-units .ensures)
-    ∙ product-rounds toEven (f .precision .bits) 62 (f .parts) (sound-parts f (a .pre .0)) (a .args .x) (a .pre .1)
+returns c = search needs
 
 pub product-of-spec : {M : Type 1} → statement M
-product-of-spec = tie.close (tie.spec fused-units-requires rounded-units-requires returns)
+product-of-spec = tie.close (tie.spec first-units-requires second-step-requires returns)

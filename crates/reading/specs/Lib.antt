@@ -1,0 +1,10 @@
+pub mod Reading
+pub mod Units
+pub mod Exponents
+pub mod FirstLaws
+pub mod ReadingLaws
+pub mod AnswerLaws
+pub mod Classes
+pub mod Standard
+pub mod FromProduct
+pub mod Examples
