@@ -1,0 +1,32 @@
+-- `cases::next` is safe: what is prepared of a sound factor can be searched. Assumes nothing.
+use mathlib.Core.Path.{sym, subst}
+use Rattle.suspects.specs.declared.Halves.{Halves}
+use Rattle.suspects.specs.Next.{Askable}
+use Rattle.suspects.specs.Asked.{low-askable, high-askable}
+use borrow.Author.Needs.{needs}
+use Rattle.cases.proofs.next.Statement.{statement}
+use Rattle.cases.proofs.next.Tie as tie
+
+prepare-requires : tie.Need-prepare-requires
+prepare-requires c κs = search needs
+
+next-requires : tie.Need-next-requires
+next-requires c κs =
+    let p = c .before .before .before in
+    let a = p .before in
+    (subst (λ (h : Halves). Askable (h .high)) (sym (p .prepare .ensures)) (high-askable (a .args .f) (a .pre .0)), a .pre .1)
+
+returns : tie.Need-returns
+returns c = search needs
+
+next-requires-2 : tie.Need-next-requires-2
+next-requires-2 c κs =
+    let p = c .before .before .before in
+    let a = p .before in
+    (subst (λ (h : Halves). Askable (h .low)) (sym (p .prepare .ensures)) (low-askable (a .args .f) (a .pre .0)), a .pre .1)
+
+returns-2 : tie.Need-returns-2
+returns-2 c = search needs
+
+pub next-spec : {M : Type 1} → statement M
+next-spec = tie.close (tie.spec prepare-requires next-requires returns next-requires-2 returns-2)

@@ -1,0 +1,558 @@
+// Answers lines of calls of the engine: each line comes back, then one blank and the result. Fields are upper-case hexadecimal digits, one blank apart.
+//
+//   01 n (8) k (8) L (16) U (16)    set-up; an accepted factor becomes the factor
+//   02 F (2) V (16)                 field F of the state becomes V
+//   03 X (16)                       multiplies the significand X
+//   04 R (8)                        multiplies the reading with these bits
+//   05 H (2) X (16)                 the next suspect at or after X, in the low half (00) or the high half (01)
+//   08 V (8)                        every word of the list becomes V
+//
+// A refusal is two decimal digits, and so is a mark: 01 right, 02 open, 03 wrong. Any other line is answered with 24.
+use factor::Applied;
+use factor::Factor;
+use factor::Parts;
+use factor::Precision;
+use factor::SetUp;
+use frame::Field;
+use product::Product;
+use product::ProductAnswer;
+use reading::ReadingAnswer;
+use search::Found;
+use search::Place;
+ghost use Prim.Native.Nat.{_<_, _≤_, _^_};
+ghost use Rattle.factor.specs.SetUp.{Sound};
+
+// The state that lines act on.
+struct State {
+    factor: Factor,
+    first: u64,
+    last: u64,
+    next: u64,
+    finished: bool,
+}
+
+// A line of the input: from its first byte up to its line feed.
+struct Line {
+    from: usize,
+    to: usize,
+}
+
+const BLANK: u8 = 32;
+
+const LINE_FEED: u8 = 10;
+
+const WORD: u64 = 4294967296;
+
+// ---- writing
+fn put_byte(b: u8) {
+    let text = [b];
+    io::write_all(1, &text);
+}
+
+// A number of `width` digits in a base.
+fn put_number(width: usize, base: u64, v: u64)
+    requires { ⌜ (width ≤ 16) × (0 < base) × (base ≤ 16) ⌝ }
+{
+    let mut text = [0u8; 16];
+    frame::put_digits(&mut text, 0, width, base, v);
+    io::write_all(1, &text[..width]);
+}
+
+// A field behind a blank.
+fn put_field(width: usize, v: u64)
+    requires { ⌜ width ≤ 16 ⌝ }
+{
+    put_byte(BLANK);
+    put_number(width, 16, v);
+}
+
+// A mark, a refusal, or 0 for accepted.
+fn put_outcome(number: u32) {
+    put_byte(BLANK);
+    put_number(2, 10, number as u64);
+}
+
+fn put_line(input: &[u8], line: Line) {
+    let mut i = line.from;
+    while i < line.to {
+        if i < input.len() {
+            put_byte(input[i]);
+        }
+        i += 1;
+    }
+}
+
+// ---- reading
+// Whether a line has just so many bytes, with blanks at three places.
+fn is_shaped(input: &[u8], line: Line, length: usize, a: usize, b: usize, c: usize) -> bool {
+    if line.to < line.from {
+        return false;
+    }
+    if line.to - line.from != length {
+        return false;
+    }
+    if has_blank(input, line, a) {
+        if has_blank(input, line, b) {
+            return has_blank(input, line, c);
+        }
+    }
+    false
+}
+
+fn has_blank(input: &[u8], line: Line, at: usize) -> bool {
+    if input.len() < line.from {
+        return false;
+    }
+    if input.len() - line.from <= at {
+        return false;
+    }
+    input[line.from + at] == BLANK
+}
+
+// The field from a place of a line on.
+fn field(input: &[u8], line: Line, at: usize, width: usize) -> Field
+    requires { ⌜ width ≤ 16 ⌝ }
+{
+    if input.len() < line.from {
+        return Field::Malformed;
+    }
+    if input.len() - line.from < at {
+        return Field::Malformed;
+    }
+    frame::read_field(input, line.from + at, width)
+}
+
+// The low 32 bits.
+fn low_word(v: u64) -> u32 {
+    (v % WORD) as u32
+}
+
+// Words in two's complement.
+fn signed_word(w: u32) -> i32 {
+    if w < 2147483648 {
+        return w as i32;
+    }
+    -1 - (4294967295 - w) as i32
+}
+
+fn signed_long(v: u64) -> i64 {
+    if v < 9223372036854775808 {
+        return v as i64;
+    }
+    -1 - (18446744073709551615 - v) as i64
+}
+
+fn unsigned_long(z: i64) -> u64 {
+    let size = round::magnitude(z);
+    if z < 0 {
+        if size == 0 {
+            return 0;
+        }
+        return 18446744073709551615 - (size - 1);
+    }
+    size
+}
+
+// A float by its bits, and the bits of a float. All NaNs are one.
+fn float_of(bits: u32) -> f32 {
+    let zero = f32::from_bits(0);
+    if 2139095040 < bits % 2147483648 {
+        return zero / zero;
+    }
+    f32::from_bits(bits)
+}
+
+fn bits_of(x: f32) -> u32 {
+    if x != x {
+        return 2143289344;
+    }
+    f32::to_bits(x)
+}
+
+// ---- kinds of lines
+fn set_up(s: State, n: u64, k: u64, lower: u64, upper: u64) -> State {
+    match factor::set_up(low_word(n), signed_word(low_word(k)), lower, upper) {
+        SetUp::Accepted(f) => {
+            put_outcome(0);
+            put_factor(f);
+            State {
+                factor: f,
+                first: s.first,
+                last: s.last,
+                next: s.next,
+                finished: s.finished,
+            }
+        }
+        SetUp::Refused(number) => {
+            put_outcome(number);
+            s
+        }
+    }
+}
+
+fn put_factor(f: Factor) {
+    put_field(16, f.parts.high);
+    put_field(16, unsigned_long(f.parts.low));
+    put_field(8, f.parts.places as u64);
+    put_field(8, bits_of(f.applied.high) as u64);
+    put_field(8, bits_of(f.applied.low) as u64);
+}
+
+// A factor with one field of its own changed: 0 bits, 1 lower, 2 upper.
+fn with_end(f: Factor, number: u64, v: u64) -> Factor {
+    let mut g = f;
+    let precision = Precision { bits: low_word(v) };
+    if number == 0 {
+        g.precision = precision;
+    }
+    if number == 1 {
+        g.lower = v;
+    }
+    if number == 2 {
+        g.upper = v;
+    }
+    g
+}
+
+// Parts with one field changed: 3 high, 4 low, 5 places.
+fn with_part(p: Parts, number: u64, v: u64) -> Parts {
+    let mut q = p;
+    if number == 3 {
+        q.high = v;
+    }
+    if number == 4 {
+        q.low = signed_long(v);
+    }
+    if number == 5 {
+        q.places = low_word(v);
+    }
+    q
+}
+
+// What is applied, with one field changed: 6 high, 7 low, 8 scale.
+fn with_applied(a: Applied, number: u64, v: u64) -> Applied {
+    let mut b = a;
+    if number == 6 {
+        b.high = float_of(low_word(v));
+    }
+    if number == 7 {
+        b.low = float_of(low_word(v));
+    }
+    if number == 8 {
+        b.scale = signed_word(low_word(v));
+    }
+    b
+}
+
+// The state with the field of that number changed.
+fn with_field(s: State, number: u64, v: u64) -> State {
+    let given = s.factor;
+    let mut f = with_end(given, number, v);
+    let parts = f.parts;
+    let applied = f.applied;
+    let new_parts = with_part(parts, number, v);
+    let new_applied = with_applied(applied, number, v);
+    f.parts = new_parts;
+    f.applied = new_applied;
+    let mut t = s;
+    t.factor = f;
+    if number == 9 {
+        t.first = v;
+    }
+    if number == 10 {
+        t.last = v;
+    }
+    if number == 11 {
+        t.next = v;
+    }
+    if number == 12 {
+        t.finished = v != 0;
+    }
+    t
+}
+
+fn put_product(mark: u32, v: Product) {
+    put_outcome(mark);
+    put_field(16, v.significand);
+    put_field(2, v.binade as u64);
+}
+
+fn multiply(f: Factor, x: u64) {
+    match product::multiply(f, x) {
+        ProductAnswer::Right(v) => put_product(1, v),
+        ProductAnswer::Open(v) => put_product(2, v),
+        ProductAnswer::Wrong(v) => put_product(3, v),
+        ProductAnswer::Refused(number) => put_outcome(number),
+    }
+}
+
+fn put_reading(mark: u32, y: f32) {
+    put_outcome(mark);
+    put_field(8, bits_of(y) as u64);
+}
+
+fn read(f: Factor, bits: u64) {
+    match reading::read(f, float_of(low_word(bits))) {
+        ReadingAnswer::Right(y) => put_reading(1, y),
+        ReadingAnswer::Open(y) => put_reading(2, y),
+        ReadingAnswer::Wrong(y) => put_reading(3, y),
+        ReadingAnswer::Refused(number) => put_outcome(number),
+    }
+}
+
+// The next suspect of a factor that was accepted.
+fn next(f: Factor, high: bool, x: u64) -> Found
+    requires { ⌜ Sound f × (x ≤ 2 ^ 63) ⌝ }
+{
+    let halves = suspects::prepare(f);
+    let low_half = halves.low;
+    let high_half = halves.high;
+    if high {
+        return suspects::next(high_half, x);
+    }
+    suspects::next(low_half, x)
+}
+
+fn put_found(found: Found) {
+    let place = found.place;
+    match place {
+        Place::At(k) => {
+            put_outcome(1);
+            put_field(16, k);
+        }
+        Place::Nowhere => put_outcome(0),
+    }
+    put_field(16, found.rounds);
+}
+
+fn search(f: Factor, high: bool, x: u64) {
+    if factor::is_intact(f) {
+        if 9223372036854775808 < x {
+            put_outcome(17);
+            return;
+        }
+        put_found(next(f, high, x));
+        return;
+    }
+    put_outcome(31);
+}
+
+fn fill(list: &mut [u32; 64], v: u32) {
+    let mut i: usize = 0;
+    while i < 64 {
+        list[i] = v;
+        i += 1;
+    }
+}
+
+// ---- lines
+fn not_a_line() {
+    put_outcome(24);
+}
+
+fn set_up_line(s: State, input: &[u8], line: Line) -> State {
+    if is_shaped(input, line, 54, 11, 20, 37) {
+        let Field::Value(n) = field(input, line, 3, 8) else {
+            not_a_line();
+            return s;
+        };
+        let Field::Value(k) = field(input, line, 12, 8) else {
+            not_a_line();
+            return s;
+        };
+        let Field::Value(l) = field(input, line, 21, 16) else {
+            not_a_line();
+            return s;
+        };
+        let Field::Value(u) = field(input, line, 38, 16) else {
+            not_a_line();
+            return s;
+        };
+        return set_up(s, n, k, l, u);
+    }
+    not_a_line();
+    s
+}
+
+fn field_line(s: State, input: &[u8], line: Line) -> State {
+    if is_shaped(input, line, 22, 5, 5, 5) {
+        let Field::Value(number) = field(input, line, 3, 2) else {
+            not_a_line();
+            return s;
+        };
+        let Field::Value(v) = field(input, line, 6, 16) else {
+            not_a_line();
+            return s;
+        };
+        if number <= 12 {
+            put_outcome(0);
+            return with_field(s, number, v);
+        }
+    }
+    not_a_line();
+    s
+}
+
+fn product_line(f: Factor, input: &[u8], line: Line) {
+    if is_shaped(input, line, 19, 2, 2, 2) {
+        let Field::Value(x) = field(input, line, 3, 16) else {
+            not_a_line();
+            return;
+        };
+        multiply(f, x);
+        return;
+    }
+    not_a_line();
+}
+
+fn reading_line(f: Factor, input: &[u8], line: Line) {
+    if is_shaped(input, line, 11, 2, 2, 2) {
+        let Field::Value(bits) = field(input, line, 3, 8) else {
+            not_a_line();
+            return;
+        };
+        read(f, bits);
+        return;
+    }
+    not_a_line();
+}
+
+fn search_line(f: Factor, input: &[u8], line: Line) {
+    if is_shaped(input, line, 22, 5, 5, 5) {
+        let Field::Value(half) = field(input, line, 3, 2) else {
+            not_a_line();
+            return;
+        };
+        let Field::Value(x) = field(input, line, 6, 16) else {
+            not_a_line();
+            return;
+        };
+        if half <= 1 {
+            search(f, half == 1, x);
+            return;
+        }
+    }
+    not_a_line();
+}
+
+fn fill_line(list: &mut [u32; 64], input: &[u8], line: Line) {
+    if is_shaped(input, line, 11, 2, 2, 2) {
+        let Field::Value(v) = field(input, line, 3, 8) else {
+            not_a_line();
+            return;
+        };
+        fill(list, low_word(v));
+        put_outcome(0);
+        return;
+    }
+    not_a_line();
+}
+
+// The answer to a line by its kind, 0 standing for none; the state after it.
+fn answer(s: State, list: &mut [u32; 64], input: &[u8], line: Line, kind: u64) -> State {
+    let f = s.factor;
+    if kind == 1 {
+        return set_up_line(s, input, line);
+    }
+    if kind == 2 {
+        return field_line(s, input, line);
+    }
+    if kind == 3 {
+        product_line(f, input, line);
+        return s;
+    }
+    if kind == 4 {
+        reading_line(f, input, line);
+        return s;
+    }
+    if kind == 5 {
+        search_line(f, input, line);
+        return s;
+    }
+    if kind == 8 {
+        fill_line(list, input, line);
+        return s;
+    }
+    not_a_line();
+    s
+}
+
+// The kind of a line, 0 where it has none.
+fn kind_of(input: &[u8], line: Line) -> u64 {
+    if has_blank(input, line, 2) {
+        let Field::Value(kind) = field(input, line, 0, 2) else {
+            return 0;
+        };
+        return kind;
+    }
+    0
+}
+
+fn answer_line(s: State, list: &mut [u32; 64], input: &[u8], line: Line) -> State {
+    put_line(input, line);
+    let t = answer(s, list, input, line, kind_of(input, line));
+    put_byte(LINE_FEED);
+    t
+}
+
+// At first all is zero.
+fn nothing() -> State {
+    let zero = f32::from_bits(0);
+    State {
+        factor: Factor {
+            precision: Precision { bits: 0 },
+            lower: 0,
+            upper: 0,
+            parts: Parts {
+                high: 0,
+                low: 0,
+                places: 0,
+            },
+            applied: Applied {
+                high: zero,
+                low: zero,
+                scale: 0,
+            },
+        },
+        first: 0,
+        last: 0,
+        next: 0,
+        finished: false,
+    }
+}
+
+// A last line without its line feed is none.
+fn last_line(input: &[u8], from: usize) {
+    put_line(
+        input,
+        Line {
+            from,
+            to: input.len(),
+        },
+    );
+    not_a_line();
+    put_byte(LINE_FEED);
+}
+
+fn run(input: &[u8]) {
+    let mut s = nothing();
+    let mut list = [4294967295u32; 64];
+    let mut from: usize = 0;
+    let mut i: usize = 0;
+    while i < input.len() {
+        if input[i] == LINE_FEED {
+            s = answer_line(s, &mut list, input, Line { from, to: i });
+            from = i + 1;
+        }
+        i += 1;
+    }
+    if from < input.len() {
+        last_line(input, from);
+    }
+}
+
+fn main() {
+    let mut input = io::large_buffer();
+    let n = io::read_full(0, &mut input);
+    run(&input[..n]);
+}
