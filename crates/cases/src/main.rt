@@ -5,6 +5,8 @@
 //   03 X (16)                       multiplies the significand X
 //   04 R (8)                        multiplies the reading with these bits
 //   05 H (2) X (16)                 the next suspect at or after X, in the low half (00) or the high half (01)
+//   06 A (16) B (16)                a new state over A to B; if accepted it is the state
+//   07 C (16) Z (2) P (16)          a sweep call: cap C, the list's first Z words, first free place P
 //   08 V (8)                        every word of the list becomes V
 //
 // A refusal is two decimal digits, and so is a mark: 01 right, 02 open, 03 wrong. Any other line is answered with 24.
@@ -19,17 +21,12 @@ use product::ProductAnswer;
 use reading::ReadingAnswer;
 use search::Found;
 use search::Place;
+use sweep::NewSweep;
+use sweep::SweepAnswer;
+use sweep::SweepState;
 ghost use Prim.Native.Nat.{_<_, _≤_, _^_};
+ghost use lib.ListN.{length};
 ghost use Rattle.factor.specs.SetUp.{Sound};
-
-// The state that lines act on.
-struct State {
-    factor: Factor,
-    first: u64,
-    last: u64,
-    next: u64,
-    finished: bool,
-}
 
 // A line of the input: from its first byte up to its line feed.
 struct Line {
@@ -170,12 +167,12 @@ fn bits_of(x: f32) -> u32 {
 }
 
 // ---- kinds of lines
-fn set_up(s: State, n: u64, k: u64, lower: u64, upper: u64) -> State {
+fn set_up(s: SweepState, n: u64, k: u64, lower: u64, upper: u64) -> SweepState {
     match factor::set_up(low_word(n), signed_word(low_word(k)), lower, upper) {
         SetUp::Accepted(f) => {
             put_outcome(0);
             put_factor(f);
-            State {
+            SweepState {
                 factor: f,
                 first: s.first,
                 last: s.last,
@@ -245,7 +242,7 @@ fn with_applied(a: Applied, number: u64, v: u64) -> Applied {
 }
 
 // The state with the field of that number changed.
-fn with_field(s: State, number: u64, v: u64) -> State {
+fn with_field(s: SweepState, number: u64, v: u64) -> SweepState {
     let given = s.factor;
     let mut f = with_end(given, number, v);
     let parts = f.parts;
@@ -337,6 +334,77 @@ fn search(f: Factor, high: bool, x: u64) {
     put_outcome(31);
 }
 
+fn new_state(s: SweepState, first: u64, last: u64) -> SweepState {
+    let f = s.factor;
+    match sweep::new_state(f, first, last) {
+        NewSweep::Accepted(t) => {
+            put_outcome(0);
+            t
+        }
+        NewSweep::Refused(number) => {
+            put_outcome(number);
+            s
+        }
+    }
+}
+
+fn put_state(s: SweepState) {
+    put_field(16, s.first);
+    put_field(16, s.last);
+    put_field(16, s.next);
+    if s.finished {
+        put_field(2, 1);
+    } else {
+        put_field(2, 0);
+    }
+}
+
+fn wide(w: u32) -> u64 {
+    w as u64
+}
+
+fn put_words(list: &[u32]) {
+    let mut i: usize = 0;
+    while i < list.len() {
+        put_field(8, wide(list[i]));
+        i += 1;
+    }
+}
+
+// A sweep call with what it answers.
+fn swept(s: SweepState, cap: u64, list: &mut [u32], free: usize) -> SweepState {
+    match sweep::sweep_call(s, cap, list, free) {
+        SweepAnswer::Accepted(r) => {
+            put_outcome(0);
+            put_field(16, r.trials);
+            put_field(16, r.rounds);
+            put_field(16, r.place as u64);
+            let t = r.state;
+            t
+        }
+        SweepAnswer::Refused(r) => {
+            put_outcome(r.number);
+            let t = r.state;
+            t
+        }
+    }
+}
+
+// The same, then the state and the list.
+fn call(s: SweepState, cap: u64, list: &mut [u32], free: usize) -> SweepState {
+    let t = swept(s, cap, list, free);
+    put_state(t);
+    put_words(list);
+    t
+}
+
+// The same on the list's first words.
+fn call_on(s: SweepState, cap: u64, list: &mut [u32], n: usize, free: usize) -> SweepState
+    requires { ⌜ n ≤ length (now list) ⌝ }
+{
+    call(s, cap, &mut list[..n], free)
+}
+
 fn fill(list: &mut [u32; 64], v: u32) {
     let mut i: usize = 0;
     while i < 64 {
@@ -350,7 +418,7 @@ fn not_a_line() {
     put_outcome(24);
 }
 
-fn set_up_line(s: State, input: &[u8], line: Line) -> State {
+fn set_up_line(s: SweepState, input: &[u8], line: Line) -> SweepState {
     if is_shaped(input, line, 54, 11, 20, 37) {
         let Field::Value(n) = field(input, line, 3, 8) else {
             not_a_line();
@@ -374,7 +442,7 @@ fn set_up_line(s: State, input: &[u8], line: Line) -> State {
     s
 }
 
-fn field_line(s: State, input: &[u8], line: Line) -> State {
+fn field_line(s: SweepState, input: &[u8], line: Line) -> SweepState {
     if is_shaped(input, line, 22, 5, 5, 5) {
         let Field::Value(number) = field(input, line, 3, 2) else {
             not_a_line();
@@ -435,6 +503,45 @@ fn search_line(f: Factor, input: &[u8], line: Line) {
     not_a_line();
 }
 
+fn new_line(s: SweepState, input: &[u8], line: Line) -> SweepState {
+    if is_shaped(input, line, 36, 19, 19, 19) {
+        let Field::Value(first) = field(input, line, 3, 16) else {
+            not_a_line();
+            return s;
+        };
+        let Field::Value(last) = field(input, line, 20, 16) else {
+            not_a_line();
+            return s;
+        };
+        return new_state(s, first, last);
+    }
+    not_a_line();
+    s
+}
+
+fn call_line(s: SweepState, list: &mut [u32; 64], input: &[u8], line: Line) -> SweepState {
+    if is_shaped(input, line, 39, 19, 22, 22) {
+        let Field::Value(cap) = field(input, line, 3, 16) else {
+            not_a_line();
+            return s;
+        };
+        let Field::Value(words) = field(input, line, 20, 2) else {
+            not_a_line();
+            return s;
+        };
+        let Field::Value(free) = field(input, line, 23, 16) else {
+            not_a_line();
+            return s;
+        };
+        let n = words as usize;
+        if n <= 64 {
+            return call_on(s, cap, list, n, free as usize);
+        }
+    }
+    not_a_line();
+    s
+}
+
 fn fill_line(list: &mut [u32; 64], input: &[u8], line: Line) {
     if is_shaped(input, line, 11, 2, 2, 2) {
         let Field::Value(v) = field(input, line, 3, 8) else {
@@ -449,7 +556,7 @@ fn fill_line(list: &mut [u32; 64], input: &[u8], line: Line) {
 }
 
 // The answer to a line by its kind, 0 standing for none; the state after it.
-fn answer(s: State, list: &mut [u32; 64], input: &[u8], line: Line, kind: u64) -> State {
+fn answer(s: SweepState, list: &mut [u32; 64], input: &[u8], line: Line, kind: u64) -> SweepState {
     let f = s.factor;
     if kind == 1 {
         return set_up_line(s, input, line);
@@ -468,6 +575,12 @@ fn answer(s: State, list: &mut [u32; 64], input: &[u8], line: Line, kind: u64) -
     if kind == 5 {
         search_line(f, input, line);
         return s;
+    }
+    if kind == 6 {
+        return new_line(s, input, line);
+    }
+    if kind == 7 {
+        return call_line(s, list, input, line);
     }
     if kind == 8 {
         fill_line(list, input, line);
@@ -488,7 +601,7 @@ fn kind_of(input: &[u8], line: Line) -> u64 {
     0
 }
 
-fn answer_line(s: State, list: &mut [u32; 64], input: &[u8], line: Line) -> State {
+fn answer_line(s: SweepState, list: &mut [u32; 64], input: &[u8], line: Line) -> SweepState {
     put_line(input, line);
     let t = answer(s, list, input, line, kind_of(input, line));
     put_byte(LINE_FEED);
@@ -496,9 +609,9 @@ fn answer_line(s: State, list: &mut [u32; 64], input: &[u8], line: Line) -> Stat
 }
 
 // At first all is zero.
-fn nothing() -> State {
+fn nothing() -> SweepState {
     let zero = f32::from_bits(0);
-    State {
+    SweepState {
         factor: Factor {
             precision: Precision { bits: 0 },
             lower: 0,
