@@ -46,7 +46,7 @@ pub on-sound : (s : SweepState) (cap : ℕ) (tail : List ℕ) → Taken s cap (l
 unfolding judgedBy
 on-sound s cap tail q = sound-of (s .factor) (ready engine (viewOf s) (callOf cap tail 0) q .sound)
 
--- A call stops exactly if the cap is reached or no place is free.
+-- Where a call stops, the cap is reached or no place is free; where it goes on, neither.
 must-stop : (t c p n : ℕ) → mustStop t c p n ≡ true → (t ≡ c) ⊎ (p ≡ n)
 must-stop t c p n = go (eqb t c) refl
   where
@@ -73,7 +73,7 @@ module _ {s : SweepState} {cap : ℕ} {tail₀ : List ℕ} {a trials rounds plac
   is-ready : Ready engine view call
   is-ready = ready engine view call (l .accepts)
 
-  -- The tail keeps its length, and the place stays in it.
+  -- The tail keeps its length.
   pub on-long : length tail ≡ length tail₀
   on-long = l .long
 
