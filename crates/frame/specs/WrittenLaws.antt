@@ -1,11 +1,11 @@
--- Bytes written one part after another, and from the back; and what stands in front of the place after them. Assumes nothing.
+-- Bytes written one part after another, and from the back. Assumes nothing.
 use mathlib.Core.Path.{_≡_, refl, sym, ap, subst, _∙_}
 use mathlib.Core.List.{List, [], _∷_, _++_}
 use Prim.Native.Nat.{ℕ, suc, _+_, _≤_, _<_}
 use native.Mathlib.Nat.{add-zero}
 use native.Mathlib.Omega.{arith}
-use lib.ListN.{length, set, take, drop, length-append}
-use lib.Seq.{sets, sets-eq, set-comm, length-sets, length-take-le, take-at, append-snoc}
+use lib.ListN.{length, set, length-append}
+use lib.Seq.{sets, set-comm, length-sets, append-snoc}
 use Rattle.frame.specs.Digits.{digits}
 use Rattle.frame.specs.DigitLaws.{length-digits}
 use Rattle.frame.specs.Written.{Written}
@@ -32,12 +32,6 @@ written-then {l₁} {l₂} {l₃} {xs} {ys} {i} {j} {k} a b =
 -- The buffer is as long as it was.
 pub written-length : {l₁ l₂ xs : List ℕ} {i j : ℕ} → Written l₁ i xs l₂ j → length l₂ ≡ length l₁
 written-length {l₁} {l₂} {xs} {i} {j} a = ap length (a .list) ∙ length-sets l₁ i xs
-
--- What stands in front of the place after the bytes: what stood in front of them, and the bytes.
-pub written-front : {l₁ l₂ xs : List ℕ} {i j : ℕ} → i + length xs ≤ length l₁ → Written l₁ i xs l₂ j → take j l₂ ≡ take i l₁ ++ xs
-written-front {l₁} {l₂} {xs} {i} {j} h a =
-    let n : length (take i l₁) ≡ i = length-take-le i l₁ (omega arith) in
-    ap (take j) (a .list ∙ sets-eq xs l₁ i h) ∙ take-at (take i l₁ ++ xs) (drop (i + length xs) l₁) j (omega (arith, length-append (take i l₁) xs, a .place))
 
 -- Nothing.
 pub written-none : (l : List ℕ) (i : ℕ) → Written l i [] l i

@@ -1,3 +1,4 @@
+-- The two-step product, its marks and answers, with their laws.
 pub mod Product
 pub mod Marks
 pub mod Answer

@@ -1,3 +1,4 @@
+-- A reading times a factor, with its laws and examples.
 pub mod Reading
 pub mod Units
 pub mod Exponents
