@@ -38,8 +38,6 @@ const BLANK: u8 = 32;
 
 const LINE_FEED: u8 = 10;
 
-const WORD: u64 = 4294967296;
-
 // ---- writing
 fn put_byte(b: u8) {
     let text = [b];
@@ -119,56 +117,14 @@ fn field(input: &[u8], line: Line, at: usize, width: usize) -> Field
     frame::read_field(input, line.from + at, width)
 }
 
-// The low 32 bits.
-fn low_word(v: u64) -> u32 {
-    (v % WORD) as u32
-}
-
-// Words in two's complement.
-fn signed_word(w: u32) -> i32 {
-    if w < 2147483648 {
-        return w as i32;
-    }
-    -1 - (4294967295 - w) as i32
-}
-
-fn signed_long(v: u64) -> i64 {
-    if v < 9223372036854775808 {
-        return v as i64;
-    }
-    -1 - (18446744073709551615 - v) as i64
-}
-
-fn unsigned_long(z: i64) -> u64 {
-    let size = round::magnitude(z);
-    if z < 0 {
-        if size == 0 {
-            return 0;
-        }
-        return 18446744073709551615 - (size - 1);
-    }
-    size
-}
-
-// A float by its bits, and the bits of a float. All NaNs are one.
-fn float_of(bits: u32) -> f32 {
-    let zero = f32::from_bits(0);
-    if 2139095040 < bits % 2147483648 {
-        return zero / zero;
-    }
-    f32::from_bits(bits)
-}
-
-fn bits_of(x: f32) -> u32 {
-    if x != x {
-        return 2143289344;
-    }
-    f32::to_bits(x)
-}
-
 // ---- kinds of lines
 fn set_up(s: SweepState, n: u64, k: u64, lower: u64, upper: u64) -> SweepState {
-    match factor::set_up(low_word(n), signed_word(low_word(k)), lower, upper) {
+    match factor::set_up(
+        words::low_half(n),
+        words::signed_half(words::low_half(k)),
+        lower,
+        upper,
+    ) {
         SetUp::Accepted(f) => {
             put_outcome(0);
             put_factor(f);
@@ -189,16 +145,18 @@ fn set_up(s: SweepState, n: u64, k: u64, lower: u64, upper: u64) -> SweepState {
 
 fn put_factor(f: Factor) {
     put_field(16, f.parts.high);
-    put_field(16, unsigned_long(f.parts.low));
+    put_field(16, words::unsigned_word(f.parts.low));
     put_field(8, f.parts.places as u64);
-    put_field(8, bits_of(f.applied.high) as u64);
-    put_field(8, bits_of(f.applied.low) as u64);
+    put_field(8, words::bits_of(f.applied.high) as u64);
+    put_field(8, words::bits_of(f.applied.low) as u64);
 }
 
 // A factor with one field of its own changed: 0 bits, 1 lower, 2 upper.
 fn with_end(f: Factor, number: u64, v: u64) -> Factor {
     let mut g = f;
-    let precision = Precision { bits: low_word(v) };
+    let precision = Precision {
+        bits: words::low_half(v),
+    };
     if number == 0 {
         g.precision = precision;
     }
@@ -218,10 +176,10 @@ fn with_part(p: Parts, number: u64, v: u64) -> Parts {
         q.high = v;
     }
     if number == 4 {
-        q.low = signed_long(v);
+        q.low = words::signed_word(v);
     }
     if number == 5 {
-        q.places = low_word(v);
+        q.places = words::low_half(v);
     }
     q
 }
@@ -230,13 +188,13 @@ fn with_part(p: Parts, number: u64, v: u64) -> Parts {
 fn with_applied(a: Applied, number: u64, v: u64) -> Applied {
     let mut b = a;
     if number == 6 {
-        b.high = float_of(low_word(v));
+        b.high = words::float_from(words::low_half(v));
     }
     if number == 7 {
-        b.low = float_of(low_word(v));
+        b.low = words::float_from(words::low_half(v));
     }
     if number == 8 {
-        b.scale = signed_word(low_word(v));
+        b.scale = words::signed_half(words::low_half(v));
     }
     b
 }
@@ -285,11 +243,11 @@ fn multiply(f: Factor, x: u64) {
 
 fn put_reading(mark: u32, y: f32) {
     put_outcome(mark);
-    put_field(8, bits_of(y) as u64);
+    put_field(8, words::bits_of(y) as u64);
 }
 
 fn read(f: Factor, bits: u64) {
-    match reading::read(f, float_of(low_word(bits))) {
+    match reading::read(f, words::float_from(words::low_half(bits))) {
         ReadingAnswer::Right(y) => put_reading(1, y),
         ReadingAnswer::Open(y) => put_reading(2, y),
         ReadingAnswer::Wrong(y) => put_reading(3, y),
@@ -548,7 +506,7 @@ fn fill_line(list: &mut [u32; 64], input: &[u8], line: Line) {
             not_a_line();
             return;
         };
-        fill(list, low_word(v));
+        fill(list, words::low_half(v));
         put_outcome(0);
         return;
     }

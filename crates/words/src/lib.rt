@@ -1,0 +1,74 @@
+// Numbers and floats as words: two's complement, and the bit patterns of binary32 numbers. For programs that store factors or hand them to others.
+ghost use mathlib.Core.Path.{_≡_};
+ghost use lib.Ieee.{binary32, ofBits, toBits};
+ghost use Rattle.words.specs.Words.{unsigned, signed, low32};
+
+// A word's low 32 bits.
+pub fn low_half(v: u64) -> u32
+    ensures { λ r. ⌜ r ≡ low32 v ⌝ }
+{
+    (v % 4294967296) as u32
+}
+
+// A word of 64 bits in two's complement.
+pub fn signed_word(v: u64) -> i64
+    ensures { λ r. ⌜ r ≡ signed 64 v ⌝ }
+{
+    if v < 9223372036854775808 {
+        return v as i64;
+    }
+    round::with_sign(true, 18446744073709551615 - v) - 1
+}
+
+// A word of 32 bits in two's complement.
+pub fn signed_half(v: u32) -> i32
+    ensures { λ r. ⌜ r ≡ signed 32 v ⌝ }
+{
+    if v < 2147483648 {
+        return v as i32;
+    }
+    (v as i64 - 4294967296) as i32
+}
+
+// The word of a signed number in two's complement of 64 bits.
+pub fn unsigned_word(z: i64) -> u64
+    ensures { λ r. ⌜ r ≡ unsigned 64 z ⌝ }
+{
+    let m = round::magnitude(z);
+    if z < 0 {
+        return 18446744073709551615 - m + 1;
+    }
+    m
+}
+
+// The word of a signed number in two's complement of 32 bits.
+pub fn unsigned_half(z: i32) -> u64
+    ensures { λ r. ⌜ r ≡ unsigned 32 z ⌝ }
+{
+    let m = round::magnitude(z as i64);
+    if z < 0 {
+        return 4294967296 - m;
+    }
+    m
+}
+
+// The binary32 number of a pattern, whose NaN patterns are one NaN.
+pub fn float_from(bits: u32) -> f32
+    ensures { λ r. ⌜ r ≡ ofBits binary32 bits ⌝ }
+{
+    if 2139095040 < bits % 2147483648 {
+        let zero = f32::from_bits(0);
+        return zero / zero;
+    }
+    f32::from_bits(bits)
+}
+
+// The pattern of a binary32 number, a NaN's too.
+pub fn bits_of(x: f32) -> u32
+    ensures { λ r. ⌜ r ≡ toBits binary32 x ⌝ }
+{
+    if x != x {
+        return 2143289344;
+    }
+    f32::to_bits(x)
+}
