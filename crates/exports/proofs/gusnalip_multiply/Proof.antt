@@ -1,0 +1,117 @@
+-- `exports::gusnalip_multiply` meets its contract: the engine's answer as a number and words. Assumes nothing.
+use mathlib.Core.Path.{_≡_, sym, ap, _∙_}
+use borrow.Author.Needs.{needs}
+use Rattle.factor.specs.declared.Factor.{Factor}
+use Rattle.product.specs.Answer.{multiplied}
+use Rattle.exports.specs.Answers.{multiplyTo, productAnswer}
+use Rattle.exports.specs.AnswerLaws.{gives, short-first, short-second, long-enough, multiply-short, multiply-is}
+use Rattle.exports.proofs.gusnalip_multiply.Statement.{statement}
+use Rattle.exports.proofs.gusnalip_multiply.Tie as tie
+
+returns : tie.Need-returns
+returns c =
+    let a = c .before .before .before .args in
+    gives _ _ (a .out .now) (multiply-short (a .factor .now) (a .x) (a .out .now) (short-first 9 (a .factor .now) 2 (a .out .now) (c .if1 .taken)))
+
+returns-2 : tie.Need-returns-2
+returns-2 c =
+    let a = c .before .before .before .before .args in
+    gives _ _ (a .out .now) (multiply-short (a .factor .now) (a .x) (a .out .now) (short-second 9 (a .factor .now) 2 (a .out .now) (c .if2 .taken)))
+
+factor-from-requires : tie.Need-factor-from-requires
+factor-from-requires c κs = search needs
+
+multiply-requires : tie.Need-multiply-requires
+multiply-requires c κs = search needs
+
+-- what the engine answers, and so what is answered
+answer : (c : tie.After-multiply) → let a = c .before .before .before .before .before .before .args in multiplyTo (a .factor .now) (a .x) (a .out .now) ≡ productAnswer (c .multiply .result)
+answer c =
+    let room = c .before .before in
+    let long = room .before in
+    let a = long .before .before .before .args in
+    multiply-is (a .factor .now) (a .x) (a .out .now) (c .multiply .result) (long-enough 9 (a .factor .now) 2 (a .out .now) (long .if1 .left) (room .if2 .left))
+    (sym (c .multiply .ensures ∙ ap (λ (f : Factor). multiplied f (a .x)) (c .before .factor-from .ensures)))
+
+enum-known-v : tie.Need-enum-known-v
+enum-known-v c = search needs
+
+put-product-requires : tie.Need-put-product-requires
+put-product-requires c κs = search needs
+
+enum-known-v-2 : tie.Need-enum-known-v-2
+enum-known-v-2 c = search needs
+
+put-product-requires-2 : tie.Need-put-product-requires-2
+put-product-requires-2 c κs = search needs
+
+enum-known-v-3 : tie.Need-enum-known-v-3
+enum-known-v-3 c = search needs
+
+put-product-requires-3 : tie.Need-put-product-requires-3
+put-product-requires-3 c κs = search needs
+
+enum-known-k : tie.Need-enum-known-k
+enum-known-k c = search needs
+
+same-length : tie.Need-same-length
+same-length c = search needs
+
+returns-3 : tie.Need-returns-3
+returns-3 c =
+    let put = c .before .before in
+    let told = put .before .before .before in
+    let s = told .before .before in
+    let both = gives _ _ (s .before .before .before .before .before .before .args .out .now) (answer s ∙ ap productAnswer (told .v .given .1)) in
+    (both .0, put .put-product .ensures ∙ both .1)
+
+same-length-2 : tie.Need-same-length-2
+same-length-2 c = search needs
+
+returns-4 : tie.Need-returns-4
+returns-4 c =
+    let put = c .before .before in
+    let told = put .before .before .before in
+    let s = told .before .before in
+    let both = gives _ _ (s .before .before .before .before .before .before .args .out .now) (answer s ∙ ap productAnswer (told .v2 .given .1)) in
+    (both .0, put .put-product2 .ensures ∙ both .1)
+
+same-length-3 : tie.Need-same-length-3
+same-length-3 c = search needs
+
+returns-5 : tie.Need-returns-5
+returns-5 c =
+    let put = c .before .before in
+    let told = put .before .before .before in
+    let s = told .before .before in
+    let both = gives _ _ (s .before .before .before .before .before .before .args .out .now) (answer s ∙ ap productAnswer (told .v3 .given .1)) in
+    (both .0, put .put-product3 .ensures ∙ both .1)
+
+returns-6 : tie.Need-returns-6
+returns-6 c =
+    let told = c .before in
+    let s = told .before .before in
+    gives _ _ (s .before .before .before .before .before .before .args .out .now) (answer s ∙ ap productAnswer (told .k .given .1))
+
+pub gusnalip-multiply-spec : {M : Type 1} → statement M
+gusnalip-multiply-spec =
+    tie.close
+    (tie.spec
+    returns
+    returns-2
+    factor-from-requires
+    multiply-requires
+    enum-known-v
+    put-product-requires
+    enum-known-v-2
+    put-product-requires-2
+    enum-known-v-3
+    put-product-requires-3
+    enum-known-k
+    same-length
+    returns-3
+    same-length-2
+    returns-4
+    same-length-3
+    returns-5
+    returns-6)

@@ -1,0 +1,81 @@
+-- `exports::gusnalip_new_sweep` meets its contract: the engine's answer as a number and words. Assumes nothing.
+use mathlib.Core.Path.{_≡_, sym, ap, _∙_}
+use Rattle.factor.specs.declared.Factor.{Factor}
+use Rattle.calls.specs.State.{newState}
+use Rattle.sweep.specs.declared.NewSweep.{NewSweep}
+use Rattle.sweep.specs.Engine.{engine}
+use Rattle.sweep.specs.Answers.{newOf}
+use Rattle.exports.specs.Answers.{Answer, newSweepTo, newSweepAnswer}
+use Rattle.exports.specs.AnswerLaws.{gives, short-first, short-second, long-enough, new-sweep-short, new-sweep-is}
+use borrow.Author.Needs.{needs}
+use Rattle.exports.proofs.gusnalip_new_sweep.Statement.{statement}
+use Rattle.exports.proofs.gusnalip_new_sweep.Tie as tie
+
+returns : tie.Need-returns
+returns c =
+    let a = c .before .before .before .args in
+    gives _ _ (a .out .now) (new-sweep-short (a .factor .now) (a .first) (a .last) (a .out .now) (short-first 9 (a .factor .now) 13 (a .out .now) (c .if1 .taken)))
+
+returns-2 : tie.Need-returns-2
+returns-2 c =
+    let a = c .before .before .before .before .args in
+    gives _ _ (a .out .now) (new-sweep-short (a .factor .now) (a .first) (a .last) (a .out .now) (short-second 9 (a .factor .now) 13 (a .out .now) (c .if2 .taken)))
+
+factor-from-requires : tie.Need-factor-from-requires
+factor-from-requires c κs = search needs
+
+new-state-requires : tie.Need-new-state-requires
+new-state-requires c κs = search needs
+
+-- what the engine answers, and so what is answered
+abbrev newAnswer : NewSweep → Answer
+newAnswer r = newSweepAnswer (newOf r)
+
+answer : (c : tie.After-new-state) → let a = c .before .before .before .before .before .before .args in newSweepTo (a .factor .now) (a .first) (a .last) (a .out .now) ≡ newAnswer (c .new-state .result)
+answer c =
+    let room = c .before .before in
+    let long = room .before in
+    let a = long .before .before .before .args in
+    new-sweep-is (a .factor .now) (a .first) (a .last) (a .out .now) (newOf (c .new-state .result)) (long-enough 9 (a .factor .now) 13 (a .out .now) (long .if1 .left) (room .if2 .left))
+    (sym (c .new-state .ensures ∙ ap (λ (f : Factor). newState engine f (a .first) (a .last)) (c .before .factor-from .ensures)))
+
+enum-known-s : tie.Need-enum-known-s
+enum-known-s c = search needs
+
+put-state-requires : tie.Need-put-state-requires
+put-state-requires c κs = search needs
+
+enum-known-k : tie.Need-enum-known-k
+enum-known-k c = search needs
+
+same-length : tie.Need-same-length
+same-length c = search needs
+
+returns-3 : tie.Need-returns-3
+returns-3 c =
+    let put = c .before .before in
+    let told = put .before .before .before in
+    let s = told .before .before in
+    let both = gives _ _ (s .before .before .before .before .before .before .args .out .now) (answer s ∙ ap newAnswer (told .s .given .1)) in
+    (both .0, put .put-state .ensures ∙ both .1)
+
+returns-4 : tie.Need-returns-4
+returns-4 c =
+    let told = c .before in
+    let s = told .before .before in
+    gives _ _ (s .before .before .before .before .before .before .args .out .now) (answer s ∙ ap newAnswer (told .k .given .1))
+
+pub gusnalip-new-sweep-spec : {M : Type 1} → statement M
+gusnalip-new-sweep-spec =
+    tie.close
+    (tie.spec
+    returns
+    returns-2
+    factor-from-requires
+    new-state-requires
+    enum-known-s
+    put-state-requires
+    enum-known-k
+    same-length
+    returns-3
+    returns-4)

@@ -1,0 +1,132 @@
+-- `exports::gusnalip_read` meets its contract: the engine's answer as a number and a word. Assumes nothing.
+use mathlib.Core.Path.{_≡_, sym, ap, _∙_}
+use Rattle.exports.specs.Answers.{readTo, readingAnswer}
+use Rattle.exports.specs.AnswerLaws.{gives, short-first, short-second, long-enough, read-short, read-is}
+use borrow.Author.Needs.{needs}
+use Rattle.exports.proofs.gusnalip_read.Statement.{statement}
+use Rattle.exports.proofs.gusnalip_read.Tie as tie
+
+returns : tie.Need-returns
+returns c =
+    let a = c .before .before .before .args in
+    gives _ _ (a .out .now) (read-short (a .factor .now) (a .reading) (a .out .now) (short-first 9 (a .factor .now) 1 (a .out .now) (c .if1 .taken)))
+
+returns-2 : tie.Need-returns-2
+returns-2 c =
+    let a = c .before .before .before .before .args in
+    gives _ _ (a .out .now) (read-short (a .factor .now) (a .reading) (a .out .now) (short-second 9 (a .factor .now) 1 (a .out .now) (c .if2 .taken)))
+
+factor-from-requires : tie.Need-factor-from-requires
+factor-from-requires c κs = search needs
+
+float-from-requires : tie.Need-float-from-requires
+float-from-requires c κs = search needs
+
+read-requires : tie.Need-read-requires
+read-requires c κs = search needs
+
+-- what the engine answers, and so what is answered
+answer : (c : tie.After-read) → let a = c .before .before .before .before .before .before .before .args in readTo (a .factor .now) (a .reading) (a .out .now) ≡ readingAnswer (c .read .result)
+answer c =
+    let room = c .before .before .before in
+    let long = room .before in
+    let a = long .before .before .before .args in
+    read-is (a .factor .now) (a .reading) (a .out .now) (c .read .result) (long-enough 9 (a .factor .now) 1 (a .out .now) (long .if1 .left) (room .if2 .left))
+    (sym (c .read .ensures ∙ rw (c .before .float-from .ensures, c .before .before .factor-from .ensures)))
+
+enum-known-y : tie.Need-enum-known-y
+enum-known-y c = search needs
+
+bits-of-requires : tie.Need-bits-of-requires
+bits-of-requires c κs = search needs
+
+slice-write-out : tie.Need-slice-write-out
+slice-write-out c = search needs
+
+enum-known-y-2 : tie.Need-enum-known-y-2
+enum-known-y-2 c = search needs
+
+bits-of-requires-2 : tie.Need-bits-of-requires-2
+bits-of-requires-2 c κs = search needs
+
+slice-write-out-2 : tie.Need-slice-write-out-2
+slice-write-out-2 c = search needs
+
+enum-known-y-3 : tie.Need-enum-known-y-3
+enum-known-y-3 c = search needs
+
+bits-of-requires-3 : tie.Need-bits-of-requires-3
+bits-of-requires-3 c κs = search needs
+
+slice-write-out-3 : tie.Need-slice-write-out-3
+slice-write-out-3 c = search needs
+
+enum-known-k : tie.Need-enum-known-k
+enum-known-k c = search needs
+
+same-length : tie.Need-same-length
+same-length c = search needs
+
+returns-3 : tie.Need-returns-3
+unfolding readingAnswer
+returns-3 c =
+    let told = c .before .before in
+    let s = told .before .before in
+    let both = gives _ _ (s .before .before .before .before .before .before .before .args .out .now) (answer s ∙ ap readingAnswer (told .y .given .1)) in
+    rw (c .bits-of .ensures) both
+
+same-length-2 : tie.Need-same-length-2
+same-length-2 c = search needs
+
+returns-4 : tie.Need-returns-4
+unfolding readingAnswer
+returns-4 c =
+    let told = c .before .before in
+    let s = told .before .before in
+    let both = gives _ _ (s .before .before .before .before .before .before .before .args .out .now) (answer s ∙ ap readingAnswer (told .y2 .given .1)) in
+    rw (c .bits-of2 .ensures) both
+
+same-length-3 : tie.Need-same-length-3
+same-length-3 c = search needs
+
+returns-5 : tie.Need-returns-5
+unfolding readingAnswer
+returns-5 c =
+    let told = c .before .before in
+    let s = told .before .before in
+    let both = gives _ _ (s .before .before .before .before .before .before .before .args .out .now) (answer s ∙ ap readingAnswer (told .y3 .given .1)) in
+    rw (c .bits-of3 .ensures) both
+
+returns-6 : tie.Need-returns-6
+unfolding readingAnswer
+returns-6 c =
+    let told = c .before in
+    let s = told .before .before in
+    gives _ _ (s .before .before .before .before .before .before .before .args .out .now) (answer s ∙ ap readingAnswer (told .k .given .1))
+
+pub gusnalip-read-spec : {M : Type 1} → statement M
+gusnalip-read-spec =
+    tie.close
+    (tie.spec
+    returns
+    returns-2
+    factor-from-requires
+    float-from-requires
+    read-requires
+    enum-known-y
+    bits-of-requires
+    slice-write-out
+    enum-known-y-2
+    bits-of-requires-2
+    slice-write-out-2
+    enum-known-y-3
+    bits-of-requires-3
+    slice-write-out-3
+    enum-known-k
+    same-length
+    returns-3
+    same-length-2
+    returns-4
+    same-length-3
+    returns-5
+    returns-6)

@@ -1,0 +1,60 @@
+-- `exports::gusnalip_set_up` meets its contract: the engine's answer as a number and words. Assumes nothing.
+use mathlib.Core.Path.{_≡_, sym, ap, _∙_}
+use lib.IntN.{ℤ}
+use mir.Syntax.{w32}
+use mir.Val.{toZ, ofZ}
+use borrow.Author.Needs.{needs}
+use Rattle.factor.specs.SetUp.{setUp}
+use Rattle.exports.specs.Answers.{setUpTo, setUpAnswer}
+use Rattle.exports.specs.AnswerLaws.{gives, set-up-short, set-up-is}
+use Rattle.exports.proofs.gusnalip_set_up.Statement.{statement}
+use Rattle.exports.proofs.gusnalip_set_up.Tie as tie
+
+returns : tie.Need-returns
+returns c =
+    let a = c .before .before .args in
+    gives _ _ (a .out .now) (set-up-short (a .precision) (a .scale) (a .lower) (a .upper) (a .out .now) (c .if1 .taken))
+
+set-up-requires : tie.Need-set-up-requires
+set-up-requires c κs = search needs
+
+-- what the engine answers, and so what is answered
+engine : (c : tie.After-set-up) → let a = c .before .before .before .args in setUp (a .precision) (a .scale) (a .lower) (a .upper) ≡ c .set-up .result
+engine c =
+    let a = c .before .before .before .args in
+    let same : toZ w32 (ofZ w32 (a .scale)) ≡ a .scale = search needs in
+    sym (c .set-up .ensures ∙ ap (λ (k : ℤ). setUp (a .precision) k (a .lower) (a .upper)) same)
+
+answer : (c : tie.After-set-up) → let a = c .before .before .before .args in setUpTo (a .precision) (a .scale) (a .lower) (a .upper) (a .out .now) ≡ setUpAnswer (c .set-up .result)
+answer c =
+    let a = c .before .before .before .args in
+    set-up-is (a .precision) (a .scale) (a .lower) (a .upper) (a .out .now) (c .set-up .result) (c .before .if1 .left) (engine c)
+
+enum-known-f : tie.Need-enum-known-f
+enum-known-f c = search needs
+
+put-factor-requires : tie.Need-put-factor-requires
+put-factor-requires c κs = search needs
+
+enum-known-k : tie.Need-enum-known-k
+enum-known-k c = search needs
+
+same-length : tie.Need-same-length
+same-length c = search needs
+
+returns-2 : tie.Need-returns-2
+returns-2 c =
+    let put = c .before .before in
+    let told = put .before .before .before in
+    let s = told .before .before in
+    let both = gives _ _ (s .before .before .before .args .out .now) (answer s ∙ ap setUpAnswer (told .f .given .1)) in
+    (both .0, put .put-factor .ensures ∙ both .1)
+
+returns-3 : tie.Need-returns-3
+returns-3 c =
+    let told = c .before in
+    let s = told .before .before in
+    gives _ _ (s .before .before .before .args .out .now) (answer s ∙ ap setUpAnswer (told .k .given .1))
+
+pub gusnalip-set-up-spec : {M : Type 1} → statement M
+gusnalip-set-up-spec = tie.close (tie.spec returns set-up-requires enum-known-f put-factor-requires enum-known-k same-length returns-2 returns-3)

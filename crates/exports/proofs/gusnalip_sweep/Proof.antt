@@ -1,0 +1,120 @@
+-- `exports::gusnalip_sweep` meets its contract: the engine's reply as a number and words. Assumes nothing.
+use mathlib.Core.Path.{_≡_, sym, ap, _∙_}
+use mathlib.Core.List.{List}
+use Prim.Native.Nat.{ℕ}
+use native.Mathlib.Omega.{arith}
+use lib.ListN.{length-set}
+use borrow.Author.Needs.{needs}
+use Rattle.factor.specs.declared.Factor.{Factor}
+use Rattle.calls.specs.State.{State}
+use Rattle.calls.specs.Call.{sweepCall}
+use Rattle.sweep.specs.declared.SweepAnswer.{SweepAnswer}
+use Rattle.sweep.specs.Engine.{engine}
+use Rattle.sweep.specs.Answers.{callOf, replyOf}
+use Rattle.exports.specs.Answers.{SweepWords, replyWords, sweepTo}
+use Rattle.exports.specs.AnswerLaws.{gives-sweep, short-first, short-second, long-enough, sweep-short, sweep-is}
+use Rattle.exports.proofs.gusnalip_sweep.Statement.{statement}
+use Rattle.exports.proofs.gusnalip_sweep.Tie as tie
+
+returns : tie.Need-returns
+returns c =
+    let a = c .before .before .before .before .args in
+    gives-sweep _ _ (a .state .now) (a .counts .now)
+    (sweep-short (a .state .now) (a .cap) (a .list .now) (a .free) (a .counts .now) (short-first 13 (a .state .now) 3 (a .counts .now) (c .if1 .taken)))
+
+returns-2 : tie.Need-returns-2
+returns-2 c =
+    let a = c .before .before .before .before .before .args in
+    gives-sweep _ _ (a .state .now) (a .counts .now)
+    (sweep-short (a .state .now) (a .cap) (a .list .now) (a .free) (a .counts .now) (short-second 13 (a .state .now) 3 (a .counts .now) (c .if2 .taken)))
+
+state-from-requires : tie.Need-state-from-requires
+state-from-requires c κs = search needs
+
+sweep-call-requires : tie.Need-sweep-call-requires
+sweep-call-requires c κs = search needs
+
+-- the answer of a call and the list it left, as words
+abbrev told : List ℕ → SweepAnswer → SweepWords
+told list r = replyWords (replyOf r list)
+
+-- what the engine answers, and so what is answered
+answer : (c : tie.After-sweep-call) → let a = c .before .before .before .before .before .before .before .before .before .args in
+    sweepTo (a .state .now) (a .cap) (a .list .now) (a .free) (a .counts .now) ≡ told (c .sweep-call .last .1 .1 .0) (c .sweep-call .result)
+answer c =
+    let room = c .before .before .before .before in
+    let long = room .before in
+    let a = long .before .before .before .before .args in
+    sweep-is (a .state .now) (a .cap) (a .list .now) (a .free) (a .counts .now) (replyOf (c .sweep-call .result) (c .sweep-call .last .1 .1 .0)) (long-enough 13 (a .state .now) 3 (a .counts .now) (long .if1 .left) (room .if2 .left))
+    (sym (c .sweep-call .ensures ∙ ap (λ (s : State Factor). sweepCall engine s (callOf (a .cap) (a .list .now) (a .free))) (c .before .before .state-from .ensures)))
+
+enum-known-r : tie.Need-enum-known-r
+enum-known-r c = search needs
+
+put-state-requires : tie.Need-put-state-requires
+put-state-requires c κs = search needs
+
+slice-write-counts : tie.Need-slice-write-counts
+slice-write-counts c = search needs
+
+slice-write-counts-2 : tie.Need-slice-write-counts-2
+slice-write-counts-2 c = simp length-set (omega arith)
+
+slice-write-counts-3 : tie.Need-slice-write-counts-3
+slice-write-counts-3 c = search needs
+
+enum-known-r-2 : tie.Need-enum-known-r-2
+enum-known-r-2 c = search needs
+
+same-length : tie.Need-same-length
+same-length c = search needs
+
+same-length-2 : tie.Need-same-length-2
+same-length-2 c = search needs
+
+same-length-3 : tie.Need-same-length-3
+same-length-3 c = search needs
+
+returns-3 : tie.Need-returns-3
+returns-3 c =
+    let put = c .before .before in
+    let r = put .before .before .before .before in
+    let s = r .before .before .before .before in
+    let a = s .before .before .before .before .before .before .before .before .before .args in
+    let all = gives-sweep _ _ (a .state .now) (a .counts .now) (answer s ∙ ap (told (s .sweep-call .last .1 .1 .0)) (r .r .given .1)) in
+    (all .0, (put .put-state .ensures ∙ all .1 .0, all .1 .1))
+
+same-length-4 : tie.Need-same-length-4
+same-length-4 c = search needs
+
+same-length-5 : tie.Need-same-length-5
+same-length-5 c = search needs
+
+returns-4 : tie.Need-returns-4
+returns-4 c =
+    let r = c .before in
+    let s = r .before .before .before .before in
+    let a = s .before .before .before .before .before .before .before .before .before .args in
+    gives-sweep _ _ (a .state .now) (a .counts .now) (answer s ∙ ap (told (s .sweep-call .last .1 .1 .0)) (r .r2 .given .1))
+
+pub gusnalip-sweep-spec : {M : Type 1} → statement M
+gusnalip-sweep-spec =
+    tie.close
+    (tie.spec
+    returns
+    returns-2
+    state-from-requires
+    sweep-call-requires
+    enum-known-r
+    put-state-requires
+    slice-write-counts
+    slice-write-counts-2
+    slice-write-counts-3
+    enum-known-r-2
+    same-length
+    same-length-2
+    same-length-3
+    returns-3
+    same-length-4
+    same-length-5
+    returns-4)

@@ -1,0 +1,45 @@
+/* The engine's exported functions: link target/staticlib/libexports.a, which `rt staticlib exports` makes (x86-64 Linux).
+ *
+ * A list is a pointer and the number of its words. Lists given to one call must not overlap. A list that is too short is answered
+ * with GUSNALIP_TOO_SHORT, and nothing is written. Every other answer and every word written is fixed by the function's contract
+ * (crates/exports), for any input.
+ *
+ * A factor is GUSNALIP_FACTOR_WORDS words: precision, lower end, upper end, high significand, low significand (two's complement),
+ * its places, high and low part as bits of binary32 numbers, scale (two's complement of 32 bits). Of a word for precision, places,
+ * floats and scale the low 32 bits count. A sweep's state is GUSNALIP_STATE_WORDS words: a factor, then the first, last and next
+ * significand, and 0 or another word for not finished or finished. Further words of either are not looked at. */
+#ifndef GUSNALIP_H
+#define GUSNALIP_H
+
+#include <stddef.h>
+#include <stdint.h>
+
+#define GUSNALIP_FACTOR_WORDS 9
+#define GUSNALIP_PRODUCT_WORDS 2
+#define GUSNALIP_STATE_WORDS 13
+#define GUSNALIP_COUNT_WORDS 3
+
+#define GUSNALIP_ACCEPTED 0
+#define GUSNALIP_RIGHT 1
+#define GUSNALIP_OPEN 2
+#define GUSNALIP_WRONG 3
+#define GUSNALIP_TOO_SHORT 255
+
+/* Sets a factor up: 0 and the factor's words, or a refusal 11 to 16. */
+uint32_t gusnalip_set_up(uint32_t precision, int32_t scale, uint64_t lower, uint64_t upper, uint64_t *out, size_t out_length);
+
+/* Multiplies a significand: a mark, with significand and binade of the product, or the refusal 31 or 17. */
+uint32_t gusnalip_multiply(const uint64_t *factor, size_t factor_length, uint64_t x, uint64_t *out, size_t out_length);
+
+/* Multiplies a reading given by its bits: a mark, with the bits of the product in out[0], or a refusal 31, 20 to 23. */
+uint32_t gusnalip_read(const uint64_t *factor, size_t factor_length, uint32_t reading, uint32_t *out, size_t out_length);
+
+/* Begins a sweep: 0 and the state's words, or the refusal 31 or 17. */
+uint32_t gusnalip_new_sweep(const uint64_t *factor, size_t factor_length, uint64_t first, uint64_t last, uint64_t *out, size_t out_length);
+
+/* Goes on with a sweep: 0, with the state handed back in the state's words, the listed words in the list from its first free place on,
+ * and trials, rounds and the next first free place in counts; or a refusal 31, 32, 33, 18 or 19, and nothing is written. */
+uint32_t gusnalip_sweep(uint64_t *state, size_t state_length, uint64_t cap, uint32_t *list, size_t list_length, size_t free, uint64_t *counts,
+                        size_t counts_length);
+
+#endif
