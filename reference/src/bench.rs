@@ -1,0 +1,199 @@
+//! The benchmark: engine and reference side by side in one run, with ratios.
+
+use crate::engine::{self, words};
+use crate::factor::{greatest, least, set_up, Factor};
+use crate::product::{multiply, product, Mark};
+use crate::random::{given, Given, Random, KINDS, KNOWN};
+use crate::sweep::{call, new_state};
+use crate::{frame, reading, suspects};
+use std::hint::black_box;
+use std::io::{self, Write};
+use std::process::{Command, Stdio};
+use std::time::Instant;
+
+const FRAMES: usize = 1000;
+const PROGRAM: &str = "target/bin/plotconst";
+
+/// The least seconds that one of several runs took.
+fn seconds(runs: u32, mut run: impl FnMut()) -> f64 {
+    let time = |run: &mut dyn FnMut()| {
+        let begun = Instant::now();
+        run();
+        begun.elapsed().as_secs_f64()
+    };
+    (0..runs).map(|_| time(&mut run)).fold(f64::INFINITY, f64::min)
+}
+
+/// A time in a unit that reads well.
+fn shown(seconds: f64) -> String {
+    match seconds {
+        s if s < 1e-6 => format!("{:.1} ns", s * 1e9),
+        s if s < 1e-3 => format!("{:.2} us", s * 1e6),
+        s if s < 1.0 => format!("{:.2} ms", s * 1e3),
+        s => format!("{s:.2} s"),
+    }
+}
+
+fn line(output: &mut dyn Write, what: &str, engine: f64, reference: f64) -> io::Result<()> {
+    let ratio = reference / engine;
+    let says = if ratio >= 1.0 {
+        format!("engine {ratio:.1} times faster")
+    } else {
+        format!("engine {:.2} times the reference's time", 1.0 / ratio)
+    };
+    writeln!(output, "{what:<58} {:>10} {:>12}   {says}", shown(engine), shown(reference))
+}
+
+pub fn bench(output: &mut dyn Write) -> io::Result<()> {
+    writeln!(output, "{:<58} {:>10} {:>12}", "", "engine", "reference")?;
+    sweeps(output)?;
+    single(output)?;
+    per_suspect(output)?;
+    frames(output)
+}
+
+fn known(index: usize) -> (&'static str, Factor) {
+    let (name, scale, lower, upper) = KNOWN[index];
+    (name, set_up(24, scale, lower, upper).expect("an accepted factor"))
+}
+
+/// Trying every significand with the machine's own operations, which is the quicker way of the two.
+fn every_significand(factor: &Factor) -> u64 {
+    (0..1u32 << 23).filter(|&fraction| reading::product(factor, fraction).0 != Mark::Right).count() as u64
+}
+
+fn engine_sweep(factor: &Factor, list: &mut [u32]) -> u64 {
+    let mut state = engine::new_sweep(&words(factor), least(24), greatest(24)).expect("a good range");
+    engine::sweep(&mut state, u64::MAX, list, 0).expect("an accepted call").trials
+}
+
+fn sweeps(output: &mut dyn Write) -> io::Result<()> {
+    for index in 0..4 {
+        let (name, factor) = known(index);
+        let mut list = [0; 64];
+        let many = 1000;
+        let ours = seconds(5, || {
+            for _ in 0..many {
+                black_box(engine_sweep(black_box(&factor), &mut list));
+            }
+        }) / many as f64;
+        let every = seconds(2, || {
+            black_box(every_significand(black_box(&factor)));
+        });
+        line(output, &format!("full sweep at 24 bits, {name}, against every significand"), ours, every)?;
+        let row = seconds(2, || {
+            black_box(suspects::row(black_box(&factor), least(24), greatest(24)));
+        });
+        line(output, "the same, against testing every one for a suspect", ours, row)?;
+    }
+    Ok(())
+}
+
+fn single(output: &mut dyn Write) -> io::Result<()> {
+    let mut random = Random::new(1);
+    let count = 200_000;
+    let all: Vec<Given> = (0..count).map(|i| given(&mut random, 4 + (i % 21) as u32, i % (KINDS - 1))).collect();
+    let ours = seconds(5, || {
+        for g in &all {
+            black_box(engine::set_up(g.bits, g.scale, g.lower, g.upper).is_ok());
+        }
+    });
+    let theirs = seconds(5, || {
+        for g in &all {
+            black_box(set_up(g.bits, g.scale, g.lower, g.upper).is_ok());
+        }
+    });
+    line(output, "set-up, factors of many kinds", ours / count as f64, theirs / count as f64)?;
+
+    let accepted: Vec<(Factor, u64)> = all
+        .iter()
+        .filter_map(|g| set_up(g.bits, g.scale, g.lower, g.upper).ok())
+        .map(|factor| (factor, random.from_to(least(factor.bits), greatest(factor.bits))))
+        .collect();
+    let as_words: Vec<_> = accepted.iter().map(|(factor, x)| (words(factor), *x)).collect();
+    let ours = seconds(5, || {
+        for (words, x) in &as_words {
+            black_box(engine::multiply(words, *x).is_ok());
+        }
+    });
+    let theirs = seconds(5, || {
+        for (factor, x) in &accepted {
+            black_box(multiply(factor, *x).is_ok());
+        }
+    });
+    let count = accepted.len() as f64;
+    line(output, "product of a significand, the factor checked", ours / count, theirs / count)?;
+
+    let readings: Vec<(Factor, u32)> = (0..count as usize)
+        .map(|i| known(i % 6).1)
+        .map(|factor| (factor, (random.word() as u32 & 0x7FFF_FFFF) % 0x7F00_0000))
+        .collect();
+    let as_words: Vec<_> = readings.iter().map(|(factor, bits)| (words(factor), *bits)).collect();
+    let ours = seconds(5, || {
+        for (words, bits) in &as_words {
+            black_box(engine::read(words, *bits).is_ok());
+        }
+    });
+    let theirs = seconds(5, || {
+        for (factor, bits) in &readings {
+            black_box(reading::read(factor, *bits).is_ok());
+        }
+    });
+    line(output, "product of a reading, the factor checked", ours / count, theirs / count)
+}
+
+fn per_suspect(output: &mut dyn Write) -> io::Result<()> {
+    let short = set_up(24, 0, 3 << 61, 3 << 61).expect("an accepted factor");
+    for (name, factor) in [known(4), ("3/2", short)] {
+        let mut list = vec![0; 70_000];
+        let mut trials = 0;
+        let ours = seconds(3, || trials = black_box(engine_sweep(&factor, &mut list)));
+        let theirs = seconds(3, || {
+            let mut state = new_state(&factor, least(24), greatest(24)).expect("a good range");
+            black_box(call(&mut state, u64::MAX, &mut list, 0).is_ok());
+        });
+        let plain = seconds(2, || {
+            let row = suspects::row(&factor, least(24), greatest(24));
+            black_box(row.iter().filter(|&&x| product(&factor, x).mark != Mark::Right).count());
+        });
+        let each = trials as f64;
+        line(output, &format!("one of {trials} suspects of {name}, by searches"), ours / each, theirs / each)?;
+        line(output, "the same, against the row of all suspects", ours / each, plain / each)?;
+    }
+    Ok(())
+}
+
+/// Frames at precision 24 with ends one apart, from a state that each frame moves on.
+fn load() -> String {
+    let mut state = 1u64;
+    let mut text = String::new();
+    for _ in 0..FRAMES {
+        state = state.wrapping_mul(6364136223846793005).wrapping_add(1442695040888963407);
+        let lower = (1 << 62) + state / 4;
+        text += &format!("18 00 {:016X} {:016X}\n", lower, lower + 1);
+    }
+    text
+}
+
+fn frames(output: &mut dyn Write) -> io::Result<()> {
+    let load = load();
+    // The reference takes long: a part of the frames tells its time for one.
+    let part: String = load.lines().take(FRAMES / 25).map(|line| format!("{line}\n")).collect();
+    let theirs = seconds(1, || {
+        frame::plotconst(&mut part.as_bytes(), &mut io::sink()).expect("written nowhere");
+    }) * 25.0;
+    if !std::path::Path::new(PROGRAM).exists() {
+        return writeln!(
+            output,
+            "plotconst over {FRAMES} frames: {PROGRAM} is not built; the reference {}",
+            shown(theirs)
+        );
+    }
+    let ours = seconds(3, || {
+        let mut program =
+            Command::new(PROGRAM).stdin(Stdio::piped()).stdout(Stdio::null()).spawn().expect("the program starts");
+        program.stdin.take().expect("its input").write_all(load.as_bytes()).expect("it reads");
+        assert!(program.wait().expect("it ends").success());
+    });
+    line(output, &format!("plotconst over {FRAMES} frames (the reference: from {})", FRAMES / 25), ours, theirs)
+}

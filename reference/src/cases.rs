@@ -1,0 +1,139 @@
+//! The program `cases`: lines of calls, each answered behind the line itself.
+
+use crate::factor::set_up;
+use crate::frame::{fields, for_lines};
+use crate::product::multiply;
+use crate::reading::read;
+use crate::search;
+use crate::sweep::{call, new_state, State, NOTHING};
+use std::io::{self, BufRead, Write};
+
+struct Cases {
+    state: State,
+    list: [u32; 64],
+}
+
+pub fn cases(input: &mut dyn BufRead, output: &mut dyn Write) -> io::Result<()> {
+    let mut cases = Cases { state: NOTHING, list: [u32::MAX; 64] };
+    for_lines(input, u64::MAX, |_, line, ended| {
+        let answer = if ended { cases.answer(line) } else { None };
+        output.write_all(line)?;
+        writeln!(output, " {}", answer.unwrap_or("24".to_string()))
+    })
+}
+
+impl Cases {
+    /// The result of a line, or none for a line that is none of the table's.
+    fn answer(&mut self, line: &[u8]) -> Option<String> {
+        let widths: &[usize] = match line.get(..2)? {
+            b"01" => &[2, 8, 8, 16, 16],
+            b"02" => &[2, 2, 16],
+            b"03" => &[2, 16],
+            b"04" => &[2, 8],
+            b"05" => &[2, 2, 16],
+            b"06" => &[2, 16, 16],
+            b"07" => &[2, 16, 2, 16],
+            b"08" => &[2, 8],
+            _ => return None,
+        };
+        let f = fields(line, widths)?;
+        let refused = |refusal: u32| format!("{refusal:02}");
+        let answer = match f[0] {
+            1 => match set_up(f[1] as u32, f[2] as u32 as i32, f[3], f[4]) {
+                Err(refusal) => refused(refusal),
+                Ok(factor) => {
+                    self.state.factor = factor;
+                    format!(
+                        "00 {:016X} {:016X} {:08X} {:08X} {:08X}",
+                        factor.high, factor.low as u64, factor.places, factor.high_float, factor.low_float
+                    )
+                }
+            },
+            2 => {
+                self.set_field(f[1], f[2])?;
+                "00".to_string()
+            }
+            3 => match multiply(&self.state.factor, f[1]) {
+                Err(refusal) => refused(refusal),
+                Ok(product) => {
+                    format!("{:02} {:016X} {:02X}", product.mark.number(), product.significand, product.binade)
+                }
+            },
+            4 => match read(&self.state.factor, f[1] as u32) {
+                Err(refusal) => refused(refusal),
+                Ok((mark, product)) => format!("{:02} {:08X}", mark.number(), product),
+            },
+            5 => {
+                if f[1] > 1 {
+                    return None;
+                }
+                if !self.state.factor.intact() {
+                    refused(31)
+                } else if f[2] > 1 << 63 {
+                    refused(17)
+                } else {
+                    let found = search::next(&self.state.factor, f[1] == 0, f[2]);
+                    match found.place {
+                        Some(place) => format!("01 {:016X} {:016X}", place, found.rounds),
+                        None => format!("00 {:016X}", found.rounds),
+                    }
+                }
+            }
+            6 => match new_state(&self.state.factor, f[1], f[2]) {
+                Err(refusal) => refused(refusal),
+                Ok(state) => {
+                    self.state = state;
+                    "00".to_string()
+                }
+            },
+            7 => {
+                if f[2] > 64 {
+                    return None;
+                }
+                let list = &mut self.list[..f[2] as usize];
+                let mut answer = match call(&mut self.state, f[1], list, f[3]) {
+                    Err(refusal) => refused(refusal),
+                    Ok(counts) => {
+                        format!("00 {:016X} {:016X} {:016X}", counts.trials, counts.rounds, counts.place)
+                    }
+                };
+                let state = &self.state;
+                answer += &format!(
+                    " {:016X} {:016X} {:016X} {:02X}",
+                    state.first, state.last, state.next, state.finished as u32
+                );
+                for word in list {
+                    answer += &format!(" {word:08X}");
+                }
+                answer
+            }
+            _ => {
+                self.list = [f[1] as u32; 64];
+                "00".to_string()
+            }
+        };
+        Some(answer)
+    }
+
+    fn set_field(&mut self, field: u64, value: u64) -> Option<()> {
+        let state = &mut self.state;
+        let factor = &mut state.factor;
+        match field {
+            0x0 => factor.bits = value as u32,
+            0x1 => factor.lower = value,
+            0x2 => factor.upper = value,
+            0x3 => factor.high = value,
+            0x4 => factor.low = value as i64,
+            0x5 => factor.places = value as u32,
+            0x6 => factor.high_float = value as u32,
+            0x7 => factor.low_float = value as u32,
+            0x8 => factor.scale = value as u32 as i32,
+            0x9 => state.first = value,
+            0xA => state.last = value,
+            0xB => state.next = value,
+            0xC => state.finished = value != 0,
+            _ => return None,
+        }
+        Some(())
+    }
+}

@@ -1,0 +1,507 @@
+//! The engine against the reference: every answer, word, state, list and count must be the same.
+
+use crate::engine::{self, words, COUNT_WORDS, FACTOR_WORDS, PRODUCT_WORDS, STATE_WORDS, TOO_SHORT, UNTOUCHED};
+use crate::factor::{greatest, least, set_up, Factor};
+use crate::product::{multiply, product, Mark};
+use crate::random::{given, Given, Random, KINDS, KNOWN};
+use crate::reading::read;
+use crate::sweep::{call, new_state, word, Plain, State};
+use crate::{reading, search, suspects};
+use std::io::{self, Write};
+use std::sync::atomic::{AtomicUsize, Ordering};
+use std::sync::Mutex;
+use std::time::Instant;
+
+/// Stops with what was asked where the engine's answer is not the reference's.
+macro_rules! agree {
+    ($engine:expr, $reference:expr, $($what:tt)*) => {{
+        let (engine, reference) = ($engine, $reference);
+        if engine != reference {
+            panic!("{}: the engine says {engine:X?}, the reference {reference:X?}", format!($($what)*));
+        }
+    }};
+}
+
+/// A part of the comparison, and how many answers it compared.
+pub struct Part {
+    pub name: String,
+    pub run: Box<dyn Fn(&mut Random) -> u64 + Send + Sync>,
+}
+
+pub fn part(name: impl Into<String>, run: impl Fn(&mut Random) -> u64 + Send + Sync + 'static) -> Part {
+    Part { name: name.into(), run: Box::new(run) }
+}
+
+/// Runs all parts on as many threads as there are cores; a part that does not agree ends the program.
+pub fn compare(output: &mut dyn Write) -> io::Result<()> {
+    let parts = parts();
+    let begun = Instant::now();
+    let next = AtomicUsize::new(0);
+    let lines = Mutex::new(Vec::new());
+    let threads = std::thread::available_parallelism().map_or(1, |n| n.get());
+    std::thread::scope(|scope| {
+        for _ in 0..threads {
+            scope.spawn(|| loop {
+                let i = next.fetch_add(1, Ordering::Relaxed);
+                let Some(part) = parts.get(i) else { break };
+                let begun = Instant::now();
+                let answers = (part.run)(&mut Random::new(i as u64 + 1));
+                let seconds = begun.elapsed().as_secs_f64();
+                lines.lock().expect("no part failed").push((i, answers, seconds));
+            });
+        }
+    });
+    let mut lines = lines.into_inner().expect("no part failed");
+    lines.sort_by_key(|line| line.0);
+    for &(i, answers, seconds) in &lines {
+        writeln!(output, "{:>12} agree in {seconds:6.1} s: {}", answers, parts[i].name)?;
+    }
+    let all: u64 = lines.iter().map(|line| line.1).sum();
+    writeln!(output, "compare: all {all} answers agree, in {:.0} s", begun.elapsed().as_secs_f64())
+}
+
+fn parts() -> Vec<Part> {
+    let mut parts = Vec::new();
+    for (name, scale, lower, upper) in KNOWN {
+        parts.push(part(format!("every significand of {name} at 24 bits"), move |random| {
+            every_significand(random, &set_up(24, scale, lower, upper).expect("an accepted factor"))
+        }));
+    }
+    for bits in 4..=8 {
+        parts.push(part(format!("all significands of many factors of {bits} bits"), move |random| small(random, bits)));
+    }
+    parts.push(part("random factors of every precision, their suspects among the significands", large));
+    parts.push(part("set-up, with every refusal", set_ups));
+    parts.push(part("damaged factors", damaged));
+    parts.push(part("lists that are too short", short_lists));
+    parts.push(part("readings, random and extreme, with every refusal", readings));
+    for (name, scale, lower, upper) in KNOWN.into_iter().chain([("3/2", 0, 3 << 61, 3 << 61)]) {
+        parts.push(part(format!("the whole sweep of {name} at 24 bits, in one call and in many"), move |random| {
+            whole_sweep(random, &set_up(24, scale, lower, upper).expect("an accepted factor"))
+        }));
+    }
+    parts.push(part("lists of sweep calls from a new state, against the plain sweep too", lists_of_calls));
+    parts.push(part("calls on states that nobody reached, and damaged ones", any_states));
+    parts.push(part("the remaining figures of document 01", figures));
+    parts
+}
+
+/// Set-up by both; the factor if it was accepted.
+fn both_set_up(given: Given) -> Option<Factor> {
+    let Given { bits, scale, lower, upper } = given;
+    let answer = set_up(bits, scale, lower, upper);
+    agree!(engine::set_up(bits, scale, lower, upper), answer, "set-up of {given:X?}");
+    answer.ok()
+}
+
+fn both_multiply(factor: &Factor, words: &[u64], x: u64) {
+    agree!(engine::multiply(words, x), multiply(factor, x), "{factor:X?} times {x:X}");
+}
+
+fn every_significand(random: &mut Random, factor: &Factor) -> u64 {
+    let words = words(factor);
+    for x in least(24)..=greatest(24) {
+        let answer = engine::multiply(&words, x);
+        agree!(answer, Ok(product(factor, x)), "{factor:X?} times {x:X}");
+        // The machine's own operations: a third account of the same product.
+        let (mark, value) = reading::product(factor, (x - least(24)) as u32);
+        let whole = answer.expect("a product");
+        let expected = whole.significand as f32 * 2f32.powi(whole.binade as i32 - 23);
+        agree!((whole.mark, expected.to_bits()), (mark, value.to_bits()), "{factor:X?} times {x:X}, by the machine");
+        // As a reading, with any sign and exponent.
+        let bits = random.word() as u32 & 0xFF80_0000 | (x - least(24)) as u32;
+        both_read(factor, &words, bits);
+    }
+    3 << 23
+}
+
+fn small(random: &mut Random, bits: u32) -> u64 {
+    let mut answers = 0;
+    let factors = 48_000_000 >> bits;
+    for i in 0..factors {
+        answers += 1;
+        // Any words at all may have set up a larger precision.
+        if let Some(factor) = both_set_up(given(random, bits, i % KINDS)).filter(|factor| factor.bits == bits) {
+            let words = words(&factor);
+            for x in least(factor.bits) - 1..=greatest(factor.bits) + 1 {
+                both_multiply(&factor, &words, x);
+                answers += 1;
+            }
+        }
+    }
+    answers
+}
+
+fn large(random: &mut Random) -> u64 {
+    let mut answers = 0;
+    for i in 0..2_000_000 {
+        let bits = 4 + (i / KINDS % 21) as u32;
+        answers += 1;
+        let Some(factor) = both_set_up(given(random, bits, i % KINDS)) else { continue };
+        let words = words(&factor);
+        let (first, last) = (least(factor.bits), greatest(factor.bits));
+        for _ in 0..4 {
+            both_multiply(&factor, &words, random.from_to(first, last));
+        }
+        // The next suspect after some place in each half, where products fail.
+        for low in [true, false] {
+            let place = search::next(&factor, low, random.from_to(first, last)).place.unwrap_or(0);
+            both_multiply(&factor, &words, place as u64);
+        }
+        let outside = random.one_of(&[0, first - 1, last + 1, u64::MAX, 1 << 32 | first]);
+        for x in [first, last, outside] {
+            both_multiply(&factor, &words, x);
+        }
+        answers += 9;
+    }
+    answers
+}
+
+fn set_ups(random: &mut Random) -> u64 {
+    let count = 10_000_000;
+    for i in 0..count {
+        let bits = 4 + (i / KINDS % 21) as u32;
+        both_set_up(given(random, bits, i % KINDS));
+    }
+    count
+}
+
+/// An accepted factor with some fields altered, as words: any bits at all may stand in them.
+pub fn damage(random: &mut Random, words: &mut [u64; FACTOR_WORDS]) {
+    for _ in 0..random.from_to(1, 2) {
+        let field = random.below(FACTOR_WORDS as u64) as usize;
+        words[field] = match random.below(5) {
+            0 => words[field] ^ 1 << random.below(64),
+            1 => words[field].wrapping_add(1),
+            2 => words[field].wrapping_sub(1),
+            3 => random.one_of(&[0, u64::MAX, 0x7FC0_0000, 0x7F80_0000, 0xFFC0_0001, 0x8000_0000, 24, 4]),
+            _ => random.any_size(),
+        };
+    }
+}
+
+/// A factor that set-up accepts.
+pub fn accepted(random: &mut Random, bits: u32) -> Factor {
+    loop {
+        let kind = random.below(KINDS);
+        let Given { bits, scale, lower, upper } = given(random, bits, kind);
+        if let Ok(factor) = set_up(bits, scale, lower, upper) {
+            return factor;
+        }
+    }
+}
+
+fn damaged(random: &mut Random) -> u64 {
+    let count = 2_000_000;
+    for i in 0..count {
+        let factor = accepted(random, 4 + (i % 21) as u32);
+        let mut words = words(&factor);
+        damage(random, &mut words);
+        let x = match random.below(4) {
+            0 => random.any_size(),
+            _ => random.from_to(least(factor.bits), greatest(factor.bits)),
+        };
+        both_multiply(&engine::from_words(&words), &words, x);
+    }
+    count
+}
+
+fn short_lists(random: &mut Random) -> u64 {
+    let mut answers = 0;
+    for _ in 0..1000 {
+        let bits = random.from_to(4, 24) as u32;
+        let factor = accepted(random, bits);
+        let words = words(&factor);
+        for length in 0..FACTOR_WORDS + 2 {
+            let mut out = vec![UNTOUCHED; length];
+            let answer = engine::set_up_to(factor.bits, factor.scale, factor.lower, factor.upper, &mut out);
+            let mut expected = vec![UNTOUCHED; length];
+            let number = if length < FACTOR_WORDS {
+                TOO_SHORT
+            } else {
+                expected[..FACTOR_WORDS].copy_from_slice(&words);
+                0
+            };
+            agree!((answer, out), (number, expected), "set-up into {length} words");
+            answers += 1;
+        }
+        for factor_length in 0..=FACTOR_WORDS {
+            for length in 0..=PRODUCT_WORDS {
+                let x = least(factor.bits);
+                let mut out = vec![UNTOUCHED; length];
+                let answer = engine::multiply_to(&words[..factor_length], x, &mut out);
+                let mut expected = vec![UNTOUCHED; length];
+                let number = if factor_length < FACTOR_WORDS || length < PRODUCT_WORDS {
+                    TOO_SHORT
+                } else {
+                    let product = multiply(&factor, x).expect("a product");
+                    expected.copy_from_slice(&[product.significand, product.binade as u64]);
+                    product.mark.number()
+                };
+                agree!((answer, out), (number, expected), "a product of {factor_length} words into {length}");
+                answers += 1;
+            }
+            let enough = factor_length == FACTOR_WORDS;
+            for length in 0..2 {
+                let mut out = vec![5; length];
+                let answer = engine::read_to(&words[..factor_length], 0, &mut out);
+                let refused = if factor.bits == 24 { 1 } else { 20 };
+                let number = if enough && length > 0 { refused } else { TOO_SHORT };
+                let left = if number == 1 { 0 } else { 5 };
+                agree!((answer, out), (number, vec![left; length]), "a reading of zero into {length} words");
+                answers += 1;
+            }
+            for length in STATE_WORDS - 2..=STATE_WORDS {
+                let mut out = vec![UNTOUCHED; length];
+                let x = least(factor.bits);
+                let answer = engine::new_sweep_to(&words[..factor_length], x, x, &mut out);
+                let number = if enough && length == STATE_WORDS { 0 } else { TOO_SHORT };
+                agree!(answer, number, "a new sweep into {length} words");
+                if number == TOO_SHORT && out.iter().any(|&word| word != UNTOUCHED) {
+                    panic!("a new sweep wrote into {length} words");
+                }
+                answers += 1;
+            }
+        }
+        let x = least(factor.bits);
+        let begun = engine::new_sweep(&words, x, x).expect("a good range");
+        for length in 0..=STATE_WORDS {
+            for count_length in 0..=COUNT_WORDS {
+                let mut state = begun[..length].to_vec();
+                let mut counts = vec![UNTOUCHED; count_length];
+                let mut list = [3];
+                let answer = engine::sweep_to(&mut state, 1, &mut list, 0, &mut counts);
+                if length == STATE_WORDS && count_length == COUNT_WORDS {
+                    agree!(answer, 0, "a call on {length} words");
+                } else {
+                    let nothing = (TOO_SHORT, begun[..length].to_vec(), vec![UNTOUCHED; count_length], [3]);
+                    agree!(
+                        (answer, state, counts, list),
+                        nothing,
+                        "a call on {length} words with {count_length} counts"
+                    );
+                }
+                answers += 1;
+            }
+        }
+    }
+    answers
+}
+
+fn both_read(factor: &Factor, words: &[u64], bits: u32) {
+    agree!(engine::read(words, bits), read(factor, bits), "{factor:X?} applied to the reading {bits:X}");
+}
+
+/// Bits of a reading: of every class, and such that the product's exponent lies at a limit.
+fn reading_bits(random: &mut Random, scale: i32) -> u32 {
+    let scale = scale.clamp(-200, 200);
+    let sign = (random.below(2) as u32) << 31;
+    let fraction =
+        random.one_of(&[0, 1, 0x7F_FFFF, 0x40_0000]) ^ (random.word() as u32 & random.one_of(&[0, 0x7F_FFFF]));
+    let field = match random.below(6) {
+        0 => random.one_of(&[0, 1, 2, 253, 254, 255]),
+        // The exponent of the product next to -126 or 127.
+        1 => (1 - scale - 1 + random.below(4) as i32 - 1).clamp(0, 255) as u32,
+        2 => (254 - scale - 1 + random.below(4) as i32 - 1).clamp(0, 255) as u32,
+        _ => random.below(256) as u32,
+    };
+    sign | field << 23 | fraction
+}
+
+fn readings(random: &mut Random) -> u64 {
+    let count = 1_500_000;
+    for i in 0..count {
+        let bits = if i % 16 == 0 { random.from_to(4, 24) as u32 } else { 24 };
+        let factor = accepted(random, bits);
+        let mut words = words(&factor);
+        if i % 32 == 1 {
+            damage(random, &mut words);
+        }
+        let factor = engine::from_words(&words);
+        for _ in 0..8 {
+            both_read(&factor, &words, reading_bits(random, factor.scale));
+        }
+        // A reading at a suspect, where products fail.
+        if factor.intact() && factor.bits == 24 {
+            for low in [true, false] {
+                let start = random.from_to(least(24), greatest(24));
+                let place = search::next(&factor, low, start).place.unwrap_or(0) as u32 & 0x7F_FFFF;
+                both_read(&factor, &words, reading_bits(random, factor.scale) & 0xFF80_0000 | place);
+            }
+        }
+    }
+    10 * count
+}
+
+/// One call by both, on the same words: answer, counts, state and whole list.
+fn both_call(state: &mut [u64; STATE_WORDS], cap: u64, list: &mut [u32], free: u64) -> Result<(), u32> {
+    let before = *state;
+    let mut ours = engine::state_from(state);
+    let mut our_list = list.to_vec();
+    let answer = call(&mut ours, cap, &mut our_list, free);
+    let theirs = engine::sweep(state, cap, list, free as usize);
+    agree!(theirs, answer, "a call with cap {cap:X} and {} words from {free:X} on {before:X?}", list.len());
+    let handed = if answer.is_ok() { engine::state_words(&ours) } else { before };
+    agree!(*state, handed, "the state after a call with cap {cap:X} on {before:X?}");
+    if list != our_list {
+        panic!("the list after a call with cap {cap:X} and {} words from {free:X} on {before:X?}", list.len());
+    }
+    answer.map(|_| ())
+}
+
+fn whole_sweep(random: &mut Random, factor: &Factor) -> u64 {
+    let (first, last) = (least(24), greatest(24));
+    let row = suspects::row(factor, first, last);
+    let expected: Vec<u32> = row.iter().filter_map(|&x| word(x, product(factor, x).mark)).collect();
+    let begun = new_state(factor, first, last).expect("a good range");
+    let begun_words = engine::new_sweep(&words(factor), first, last).expect("a good range");
+    agree!(begun_words, engine::state_words(&begun), "a new sweep of {factor:X?}");
+    // In one call, by the row alone.
+    let mut state = begun_words;
+    let mut list = vec![7; expected.len() + 1];
+    let counts = engine::sweep(&mut state, u64::MAX, &mut list, 0).expect("an accepted call");
+    agree!((counts.trials, counts.place), (row.len() as u64, expected.len() as u64), "trials and place of {factor:X?}");
+    if list[..expected.len()] != expected || list[expected.len()] != 7 {
+        panic!("the list of the whole sweep of {factor:X?}");
+    }
+    let finished = State { next: last, finished: true, ..begun };
+    agree!(state, engine::state_words(&finished), "the state after the whole sweep of {factor:X?}");
+    // In many calls, beside the reference's calls.
+    let mut state = begun_words;
+    let mut calls = 0;
+    let mut place = 0;
+    let mut list = vec![0; 1000];
+    loop {
+        let cap = random.one_of(&[1, 2, 10, 1000, 100_000, u64::MAX]);
+        let length = random.one_of(&[1, 2, 50, 1000]);
+        let free = if random.below(3) == 0 { place } else { random.below(length) };
+        calls += 1;
+        match both_call(&mut state, cap, &mut list[..length as usize], free) {
+            Err(33) => break,
+            _ => place = random.below(4),
+        }
+    }
+    row.len() as u64 + calls
+}
+
+/// A cap, a list's length and a first free place, now and then such that the call is refused.
+fn call_of(random: &mut Random) -> (u64, usize, u64) {
+    let cap = match random.below(8) {
+        0 => 0,
+        1 => u64::MAX,
+        2 => random.any_size(),
+        _ => random.from_to(1, 6),
+    };
+    let length = random.one_of(&[0, 1, 1, 1, 2, 3, 5, 8, 64]) as usize;
+    let free = match random.below(6) {
+        0 => random.below(10),
+        1 => random.any_size(),
+        _ => random.below(length.max(1) as u64),
+    };
+    (cap, length, free)
+}
+
+/// Words that a list has before a call.
+fn words_before(random: &mut Random, length: usize) -> Vec<u32> {
+    (0..length).map(|_| random.word() as u32).collect()
+}
+
+/// A range of the factor's significands, of any length and now and then one that is refused.
+fn range_of(random: &mut Random, factor: &Factor) -> (u64, u64) {
+    let (least, greatest) = (least(factor.bits), greatest(factor.bits));
+    let first = random.from_to(least, greatest);
+    match random.below(8) {
+        0 => (random.any_size(), random.any_size()),
+        1 => (least, greatest),
+        2 => (first, first),
+        3 => (least - 1 + random.below(2), greatest + random.below(2)),
+        4 => (first, random.from_to(least, greatest)),
+        _ => (first, (first + random.below(3000)).min(greatest)),
+    }
+}
+
+fn lists_of_calls(random: &mut Random) -> u64 {
+    let mut answers = 0;
+    for i in 0..300_000 {
+        let factor = accepted(random, 4 + (i % 21) as u32);
+        let (first, last) = range_of(random, &factor);
+        let begun = engine::new_sweep(&words(&factor), first, last);
+        let expected = new_state(&factor, first, last).map(|state| engine::state_words(&state));
+        agree!(begun, expected, "a new sweep of {factor:X?} from {first:X} to {last:X}");
+        answers += 1;
+        let Ok(mut state) = begun else { continue };
+        // The plain sweep by its row, where the range is not too long for it.
+        let mut plain = (last - first < 10_000).then(|| Plain::new(&factor, first, last));
+        let mut list = Vec::new();
+        for _ in 0..40 {
+            let (cap, length, free) = call_of(random);
+            // The same list again, or another.
+            if random.below(2) == 0 || list.len() != length {
+                list = words_before(random, length);
+            }
+            let before = list.clone();
+            let answer = both_call(&mut state, cap, &mut list, free);
+            answers += 1;
+            if let Some(plain) = &mut plain {
+                let expected = plain.call(cap, length as u64, free);
+                agree!(answer, expected.as_ref().map(|_| ()).map_err(|&refusal| refusal), "a plain call");
+                agree!(state, engine::state_words(&plain.state()), "the plain sweep's state");
+                if let Ok(expected) = expected {
+                    let mut whole = before;
+                    whole[free as usize..expected.place as usize].copy_from_slice(&expected.words);
+                    if list != whole {
+                        panic!("the plain sweep's words of {factor:X?}");
+                    }
+                }
+            }
+            if answer == Err(33) && random.below(2) == 0 {
+                break;
+            }
+        }
+    }
+    answers
+}
+
+fn any_states(random: &mut Random) -> u64 {
+    let count = 3_000_000;
+    for i in 0..count {
+        let factor = accepted(random, 4 + (i % 21) as u32);
+        let (first, last) = range_of(random, &factor);
+        let next = match random.below(8) {
+            0 => random.any_size(),
+            1 => first.wrapping_sub(1).wrapping_add(random.below(3)),
+            2 => last.wrapping_sub(1).wrapping_add(random.below(3)),
+            _ if first < last => random.from_to(first, last),
+            _ => first,
+        };
+        let finished = random.below(8) == 0;
+        let mut state = engine::state_words(&State { factor, first, last, next, finished });
+        if finished {
+            state[12] = random.one_of(&[1, 2, 1 << 32, u64::MAX]);
+        }
+        if random.below(8) == 0 {
+            let mut factor = words(&factor);
+            damage(random, &mut factor);
+            state[..FACTOR_WORDS].copy_from_slice(&factor);
+        }
+        let (mut cap, length, free) = call_of(random);
+        // Short factors have many suspects: a call is not to take long.
+        cap = cap.min(2000);
+        let mut list = words_before(random, length);
+        let _ = both_call(&mut state, cap, &mut list, free);
+    }
+    count
+}
+
+/// Scale 100 with 3/2, and the square root of 2, of which nothing fails; P1 to P9 and the example by the engine too.
+fn figures(_: &mut Random) -> u64 {
+    let factor = engine::set_up(24, 100, 3 << 61, 3 << 61).expect("an accepted factor");
+    let bits = |exponent: u32| (127 + exponent) << 23;
+    agree!(engine::read(&words(&factor), bits(27)), Ok((Mark::Right, 0x7F40_0000)), "the reading 2^27 at scale 100");
+    agree!(engine::read(&words(&factor), bits(28)), Err(23), "the reading 2^28 at scale 100");
+    let root = engine::set_up(24, 0, 0x5A827999FCEF3242, 0x5A827999FCEF3243).expect("an accepted factor");
+    let mut state = engine::new_sweep(&words(&root), least(24), greatest(24)).expect("a good range");
+    let counts = engine::sweep(&mut state, u64::MAX, &mut [7], 0).expect("an accepted call");
+    agree!((counts.place, state[12]), (0, 1), "the sweep of the square root of 2");
+    4
+}

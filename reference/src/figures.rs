@@ -1,0 +1,177 @@
+//! Document 01's example and figures, and the reference's methods held against each other.
+
+use crate::factor::{greatest, least, set_up, Factor};
+use crate::product::{multiply, product, Mark};
+use crate::reading::read;
+use crate::sweep::{call, new_state, Plain};
+use crate::{frame, search, suspects};
+use std::io::{self, Write};
+
+pub const EXAMPLE: &str = "04 00 6000000000000000 6000000000000000
+04 00 4BFFFC0000000000 4BFFFC0000000000
+04 00 51C71C71C71C71C7 51C71C71C71C71C8
+";
+
+pub const EXAMPLE_REPORT: &str = "0001 00 00000002 00000000 00000000
+00000010
+0002 01 00000001 00000001 00000000
+00000013
+0003 02 00000001 00000000 00000001
+";
+
+pub fn selftest(output: &mut dyn Write) -> io::Result<()> {
+    example();
+    table();
+    scale_100();
+    square_root_of_2();
+    methods();
+    writeln!(output, "selftest: document 01's example and figures stand, and the methods agree")
+}
+
+fn accepted(bits: u32, lower: u64, upper: u64) -> Factor {
+    set_up(bits, 0, lower, upper).expect("an accepted factor")
+}
+
+fn all_suspects(factor: &Factor) -> Vec<u64> {
+    suspects::row(factor, least(factor.bits), greatest(factor.bits))
+}
+
+fn example() {
+    let mut report = Vec::new();
+    frame::plotconst(&mut EXAMPLE.as_bytes(), &mut report).expect("written to memory");
+    assert_eq!(String::from_utf8_lossy(&report), EXAMPLE_REPORT);
+}
+
+fn table() {
+    let answer = |factor: &Factor, x| {
+        let product = multiply(factor, x).expect("a product");
+        (product.significand, product.binade, product.mark)
+    };
+    // P1
+    let f = accepted(4, 3 << 61, 3 << 61);
+    assert_eq!((f.low, f.places, f.low_float), (0, 0, 0));
+    assert_eq!(all_suspects(&f), [9, 14]);
+    assert_eq!(answer(&f, 9), (14, 0, Mark::Right));
+    assert_eq!(answer(&f, 14), (10, 1, Mark::Right));
+    // P2: 19/16 - 2^-20
+    let end = (19u64 << 58) - (1 << 42);
+    let f = accepted(4, end, end);
+    assert_eq!((f.high, f.low, f.places), (9, 8, 7));
+    assert_eq!(all_suspects(&f), [8]);
+    assert_eq!(answer(&f, 8), (10, 0, Mark::Wrong));
+    // P3
+    let f = accepted(4, 0x51C71C71C71C71C7, 0x51C71C71C71C71C8);
+    assert_eq!((f.high, f.low, f.places), (10, 14, 9));
+    assert_eq!(answer(&f, 9), (12, 0, Mark::Open));
+    // P4
+    let f = accepted(4, 0x5555555555555555, 0x5555555555555556);
+    assert_eq!((f.high, f.low, f.places), (11, -11, 8));
+    // P5
+    let end = (1u64 << 63) - 1;
+    let f = accepted(4, end, end);
+    assert_eq!((f.high, f.low, f.places), (16, -8, 65));
+    let product = multiply(&f, 15).expect("a product");
+    assert_eq!((product.significand, product.binade), (15, 1));
+    // P6 to P9
+    assert_eq!(set_up(4, 0, (17 << 58) - 1, (17 << 58) + 1), Err(15));
+    assert_eq!(set_up(4, 0, 3 << 61, (3 << 61) + 1), Err(16));
+    assert!(set_up(4, 0, 1 << 62, 1 << 62).is_ok());
+    assert_eq!(set_up(4, 0, 1 << 62, 1 << 63), Err(12));
+    assert_eq!(set_up(3, 0, 1 << 62, 1 << 62), Err(11));
+    assert_eq!(set_up(25, 0, 1 << 62, 1 << 62), Err(11));
+}
+
+fn scale_100() {
+    let factor = set_up(24, 100, 3 << 61, 3 << 61).expect("an accepted factor");
+    assert_eq!(read(&factor, (127 + 27) << 23), Ok((Mark::Right, 1.5f32.to_bits() + (127 << 23))));
+    assert_eq!(read(&factor, (127 + 28) << 23), Err(23));
+}
+
+fn square_root_of_2() {
+    let factor = accepted(24, 0x5A827999FCEF3242, 0x5A827999FCEF3243);
+    for x in least(24)..=greatest(24) {
+        assert_eq!(product(&factor, x).mark, Mark::Right);
+    }
+}
+
+/// For many factors of small precision: what is not right is a suspect, both rows are one, the search finds the row, the
+/// sweep by searches is the plain one.
+fn methods() {
+    let mut state = 1u64;
+    let mut next = || {
+        state = state.wrapping_mul(6364136223846793005).wrapping_add(1442695040888963407);
+        state >> 2
+    };
+    let mut tried = 0;
+    while tried < 3000 {
+        let bits = 4 + (tried % 9) as u32;
+        let lower = match next() % 4 {
+            0 => (1 << 62) + (next() % (1 << bits) << (62 - bits)),
+            1 => (1 << 62) + (next() % (1 << (2 * bits + 1)) << (61 - 2 * bits)) - next() % 2,
+            _ => (1 << 62) + next(),
+        };
+        let upper = lower
+            + match next() % 3 {
+                0 => 0,
+                1 => next() % 4,
+                _ => next() >> (2 * bits),
+            };
+        let factor = match set_up(bits, 0, lower, upper) {
+            Ok(factor) => factor,
+            Err(_) => continue,
+        };
+        tried += 1;
+        check_methods(&factor, &mut next);
+    }
+}
+
+fn check_methods(factor: &Factor, next: &mut dyn FnMut() -> u64) {
+    let (first, last) = (least(factor.bits), greatest(factor.bits));
+    let row = suspects::row(factor, first, last);
+    assert_eq!(row, suspects::row_by_midpoints(factor, first, last));
+    for x in first..=last {
+        let suspect = row.binary_search(&x).is_ok();
+        assert!(suspect || product(factor, x).mark == Mark::Right);
+        // The half's search finds the least suspect of its own half at or after x.
+        let low = factor.is_low(x);
+        let there = search::next(factor, low, x).place;
+        let expected = row.iter().copied().find(|&y| y >= x && factor.is_low(y) == low);
+        let in_half = |y: u128| y <= last as u128 && factor.is_low(y as u64) == low;
+        assert_eq!(there.filter(|&y| in_half(y)), expected.map(|y| y as u128));
+    }
+    let (a, b) = (first + next() % (last - first + 1), first + next() % (last - first + 1));
+    let (a, b) = if next() % 2 == 0 { (first, last) } else { (a.min(b), a.max(b)) };
+    let mut state = new_state(factor, a, b).expect("a good range");
+    let mut plain = Plain::new(factor, a, b);
+    loop {
+        let cap = next() % 5;
+        let mut list = vec![7u32; (next() % 4) as usize];
+        let place = next() % 4;
+        let answer = call(&mut state, cap, &mut list, place);
+        match plain.call(cap, list.len() as u64, place) {
+            Err(refusal) => {
+                assert_eq!(answer, Err(refusal));
+                if refusal == 33 {
+                    break;
+                }
+            }
+            Ok(expected) => {
+                let counts = answer.expect("an accepted call");
+                assert_eq!((counts.trials, counts.place), (expected.trials, expected.place));
+                assert!(counts.rounds <= 64 * (counts.trials + 2));
+                let mut whole = vec![7u32; list.len()];
+                whole[place as usize..counts.place as usize].copy_from_slice(&expected.words);
+                assert_eq!(list, whole);
+            }
+        }
+        assert_eq!(state, plain.state());
+    }
+}
+
+#[cfg(test)]
+mod tests {
+    #[test]
+    fn selftest() {
+        super::selftest(&mut Vec::new()).expect("written to memory");
+    }
+}

@@ -1,0 +1,134 @@
+//! Pseudo-random numbers, the same in every run, and factors of many kinds.
+
+pub struct Random {
+    state: u64,
+}
+
+impl Random {
+    pub fn new(seed: u64) -> Random {
+        Random { state: seed }
+    }
+
+    pub fn word(&mut self) -> u64 {
+        self.state = self.state.wrapping_add(0x9E37_79B9_7F4A_7C15);
+        let mut z = self.state;
+        z = (z ^ (z >> 30)).wrapping_mul(0xBF58_476D_1CE4_E5B9);
+        z = (z ^ (z >> 27)).wrapping_mul(0x94D0_49BB_1331_11EB);
+        z ^ (z >> 31)
+    }
+
+    /// A number below `end`.
+    pub fn below(&mut self, end: u64) -> u64 {
+        self.word() % end
+    }
+
+    /// A number from `first` to `last`.
+    pub fn from_to(&mut self, first: u64, last: u64) -> u64 {
+        first + self.below(last - first + 1)
+    }
+
+    /// A number of any size: few bits are as likely as many.
+    pub fn any_size(&mut self) -> u64 {
+        let shift = self.below(64);
+        self.word() >> shift
+    }
+
+    pub fn one_of<T: Copy>(&mut self, list: &[T]) -> T {
+        list[self.below(list.len() as u64) as usize]
+    }
+}
+
+const ONE: u64 = 1 << 62;
+const LAST: u64 = (1 << 63) - 1;
+
+/// What a factor is set up from.
+#[derive(Clone, Copy, Debug)]
+pub struct Given {
+    pub bits: u32,
+    pub scale: i32,
+    pub lower: u64,
+    pub upper: u64,
+}
+
+pub const KINDS: u64 = 10;
+
+/// Ends of a kind: random, short, near ties of either part, extreme, ratios, products near midpoints, and any words at all.
+pub fn given(random: &mut Random, bits: u32, kind: u64) -> Given {
+    let mut scale = random.from_to(0, 200) as i32 - 100;
+    let near = |random: &mut Random, end: u64| (end + random.below(3)).saturating_sub(1).clamp(ONE, LAST);
+    let lower = match kind {
+        // A significand of few bits: the low part is zero, or all products are short.
+        0 => {
+            let short = random.from_to(1, bits as u64 - 1);
+            ONE + (random.below(1 << short) << (62 - short))
+        }
+        // At and near the middle between two high parts.
+        1 => {
+            let middle = ONE + ((2 * random.below(1 << (bits - 1)) + 1) << (62 - bits));
+            near(random, middle)
+        }
+        // At and near the middle between two low parts.
+        2 => {
+            let places = (2 * bits + random.below(4) as u32).min(60);
+            let middle = ONE + (random.below(1 << places) << (62 - places));
+            near(random, middle)
+        }
+        // Next to the ends of the range.
+        3 => {
+            let size = random.below(62);
+            let off = random.word() >> (2 + size);
+            if random.below(2) == 0 {
+                ONE + off
+            } else {
+                LAST - off
+            }
+        }
+        // A ratio, most often between two ends.
+        4 => {
+            let q = random.from_to(1, 200);
+            let p = random.from_to(q, 2 * q - 1);
+            (((p as u128) << 62) / q as u128) as u64
+        }
+        // The product of some significand lies next to a midpoint.
+        5 | 6 => {
+            let x = random.from_to(1 << (bits - 1), (1 << bits) - 1);
+            let about = (ONE + random.below(ONE)) as u128 * x as u128;
+            let half = if about < 1u128 << (62 + bits) { 1u128 << 61 } else { 1u128 << 62 };
+            let midpoint = about / (2 * half) * (2 * half) + half;
+            let end = (midpoint / x as u128).clamp(ONE as u128, LAST as u128) as u64;
+            near(random, end)
+        }
+        _ => ONE + random.below(ONE),
+    };
+    let width = match random.below(5) {
+        0 | 1 => 0,
+        2 => 1,
+        3 => random.below(5),
+        _ => random.below(1 << (63 - 2 * bits)),
+    };
+    let upper = (lower + width).min(LAST);
+    if kind == 9 {
+        scale = random.any_size() as i32 - random.below(200) as i32;
+        let any = |random: &mut Random| match random.below(4) {
+            0 => random.any_size(),
+            1 => ONE - 1 + random.below(3),
+            2 => LAST - 1 + random.below(3),
+            _ => ONE + random.below(ONE),
+        };
+        let lower = any(random);
+        let upper = if random.below(3) == 0 { lower } else { any(random) };
+        let bits = random.one_of(&[bits, bits, bits, 0, 3, 4, 24, 25, 32, 53, 1 << 31, u32::MAX]);
+        return Given { bits, scale, lower, upper };
+    }
+    Given { bits, scale, lower, upper }
+}
+
+/// The factors that document 01's readers know: 1/pi, pi, ln 2, the square root of 2, 2.54 and 4/3, each between two ends.
+pub const KNOWN: [(&str, i32, u64, u64); 6] = [
+    ("1/pi", -2, 0x517CC1B727220A94, 0x517CC1B727220A95),
+    ("pi", 1, 0x6487ED5110B4611A, 0x6487ED5110B4611B),
+    ("ln 2", -1, 0x58B90BFBE8E7BCD5, 0x58B90BFBE8E7BCD6),
+    ("sqrt 2", 0, 0x5A827999FCEF3242, 0x5A827999FCEF3243),
+    ("2.54", 1, 0x5147AE147AE147AE, 0x5147AE147AE147AF),
+    ("4/3", 0, 0x5555555555555555, 0x5555555555555556),
+];

@@ -1,0 +1,83 @@
+//! A binary32 reading times a factor, with the machine's own binary32 operations.
+
+use crate::factor::{Factor, Refusal};
+use crate::product::Mark;
+
+pub fn read(factor: &Factor, reading: u32) -> Result<(Mark, u32), Refusal> {
+    if !factor.intact() {
+        return Err(31);
+    }
+    if factor.bits != 24 {
+        return Err(20);
+    }
+    let given = f32::from_bits(reading);
+    if given.is_infinite() || given.is_nan() {
+        return Err(21);
+    }
+    if given == 0.0 {
+        return Ok((Mark::Right, 0));
+    }
+    if given.is_subnormal() {
+        return Err(22);
+    }
+    let (mark, product) = product(factor, reading & 0x7F_FFFF);
+    let binade = if product >= 2.0 { 1 } else { 0 };
+    let exponent = ((reading >> 23) & 0xFF) as i32 - 127 + factor.scale + binade;
+    if !(-126..=127).contains(&exponent) {
+        return Err(23);
+    }
+    let sign = reading & 0x8000_0000;
+    let fraction = product.to_bits() & 0x7F_FFFF;
+    Ok((mark, sign | ((exponent + 127) as u32) << 23 | fraction))
+}
+
+/// Mark and product of the significand whose fraction bits are given, in [1, 4), by one multiplication and one fused step.
+pub fn product(factor: &Factor, fraction: u32) -> (Mark, f32) {
+    let x = f32::from_bits(0x3F80_0000 | fraction);
+    let u1 = f32::from_bits(factor.low_float) * x;
+    let u2 = f32::from_bits(factor.high_float).mul_add(x, u1);
+    // RN of the ends times x, by the machine's conversion of whole numbers: all are over 2^85.
+    let significand = (0x80_0000 | fraction) as u128;
+    let first = (factor.lower as u128 * significand) as f32;
+    let second = (factor.upper as u128 * significand) as f32;
+    let ours = u2 * 2f32.powi(85);
+    let mark = if ours == first && ours == second {
+        Mark::Right
+    } else if ours < first || second < ours {
+        Mark::Wrong
+    } else {
+        Mark::Open
+    };
+    (mark, u2)
+}
+
+#[cfg(test)]
+mod tests {
+    use crate::factor::set_up;
+    use crate::product;
+
+    /// The machine's two operations and the whole-number product give one answer.
+    #[test]
+    fn agrees_with_whole_numbers() {
+        let mut state = 11u64;
+        let mut next = || {
+            state = state.wrapping_mul(6364136223846793005).wrapping_add(1442695040888963407);
+            state >> 2
+        };
+        for round in 0..20_000u64 {
+            let end = (1u64 << 62) | next() >> (round % 7);
+            let factor = match set_up(24, 0, end, (end + round % 3).min((1 << 63) - 1)) {
+                Ok(factor) => factor,
+                Err(_) => continue,
+            };
+            for _ in 0..20 {
+                let fraction = (next() >> 30) as u32 & 0x7F_FFFF;
+                let (mark, value) = super::product(&factor, fraction);
+                let whole = product::product(&factor, (fraction | 0x80_0000) as u64);
+                assert_eq!(mark, whole.mark);
+                let expected = whole.significand as f64 * 2f64.powi(whole.binade as i32 - 23);
+                assert!(value as f64 == expected);
+            }
+        }
+    }
+}
