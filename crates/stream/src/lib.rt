@@ -1,21 +1,4 @@
-// The program `plotconst` as a function from bytes to bytes (document 01, "Frames and report").
-ghost use mathlib.Core.Path.{_≡_};
-ghost use Prim.Native.Nat.{_+_, _*_, _≤_};
-ghost use lib.ListN.{length, take, drop};
-ghost use Rattle.frame.specs.Written.{Written};
-ghost use lib.Dec.{ltb};
-ghost use Rattle.stream.specs.Output.{mostLines, wordLines};
-ghost use Rattle.stream.specs.SweepLaws.{odds};
-ghost use Rattle.stream.specs.Keep.{keep, kept, upToFeed};
-ghost use Rattle.stream.specs.Judged.{judgedLine};
-ghost use Rattle.factor.specs.SetUp.{intact};
-ghost use mathlib.Core.List.{[]};
-ghost use Rattle.stream.specs.declared.Task;
-ghost use Rattle.stream.specs.Step.{begunWith, tallied, partLines, sweepingTask, readOf, atLine, judgedStep, taskStep, stepOf, endOf};
-ghost use Rattle.stream.specs.StepLaws.{Going, Counted, GoodTask, Fit};
-ghost use Rattle.stream.specs.Moves.{Turned, Moved};
-ghost use Rattle.stream.specs.PartLaws.{addedTo, Addable};
-ghost use mathlib.Core.Bool.{true};
+// The program `plotconst` in steps by value (document 01, "Frames and report"): from what was read so far and the next bytes to the bytes to write.
 use factor::Factor;
 use factor::SetUp;
 use frame::FrameAnswer;
@@ -23,6 +6,23 @@ use frame::Report;
 use sweep::SweepAnswer;
 use sweep::SweepState;
 use sweep::Swept;
+ghost use mathlib.Core.Path.{_≡_};
+ghost use mathlib.Core.Bool.{true};
+ghost use mathlib.Core.List.{[]};
+ghost use Prim.Native.Nat.{_+_, _*_, _≤_};
+ghost use lib.Dec.{ltb};
+ghost use lib.ListN.{length, take, drop};
+ghost use Rattle.factor.specs.SetUp.{intact};
+ghost use Rattle.frame.specs.Written.{Written};
+ghost use Rattle.stream.specs.declared.Task;
+ghost use Rattle.stream.specs.Output.{mostLines, wordLines};
+ghost use Rattle.stream.specs.SweepLaws.{odds};
+ghost use Rattle.stream.specs.Keep.{keep, kept, upToFeed};
+ghost use Rattle.stream.specs.Judged.{judgedLine};
+ghost use Rattle.stream.specs.Step.{begunWith, tallied, partLines, sweepingTask, readOf, atLine, judgedStep, taskStep, stepOf, endOf};
+ghost use Rattle.stream.specs.StepLaws.{Going, Counted, GoodTask, Fit};
+ghost use Rattle.stream.specs.PartLaws.{addedTo, Addable};
+ghost use Rattle.stream.specs.Moves.{Turned, Moved};
 
 // The byte that ends a line.
 const LINE_FEED: u8 = 10;
@@ -216,13 +216,6 @@ fn begin(f: Factor) -> Tally
     }
 }
 
-// At the beginning: line 1, nothing kept.
-pub fn new() -> Progress
-    ensures { λ r. ⌜ Fit r × (readOf r ≡ atLine 1) ⌝ }
-{
-    at_line(1, [0; 40])
-}
-
 // At the beginning of a line.
 fn at_line(number: u64, held: [u8; 40]) -> Progress
     requires { ⌜ (number ≤ 65536) × (length held ≡ 40) ⌝ }
@@ -234,6 +227,13 @@ fn at_line(number: u64, held: [u8; 40]) -> Progress
         length: 0,
         task: Task::Reading,
     }
+}
+
+// At the beginning: line 1, nothing kept.
+pub fn new() -> Progress
+    ensures { λ r. ⌜ Fit r × (readOf r ≡ atLine 1) ⌝ }
+{
+    at_line(1, [0; 40])
 }
 
 // Whether a sweep is on its way: then a step needs no input.
