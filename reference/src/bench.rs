@@ -5,7 +5,7 @@ use crate::factor::{greatest, least, set_up, Factor};
 use crate::product::{multiply, product, Mark};
 use crate::random::{given, Given, Random, KINDS, KNOWN};
 use crate::sweep::{call, new_state};
-use crate::{frame, reading, suspects};
+use crate::{frame, lean, reading, suspects};
 use std::hint::black_box;
 use std::io::{self, Write};
 use std::process::{Command, Stdio};
@@ -104,6 +104,19 @@ fn single(output: &mut dyn Write) -> io::Result<()> {
         }
     });
     line(output, "set-up, factors of many kinds", ours / count as f64, theirs / count as f64)?;
+    for g in &all {
+        assert_eq!(
+            lean::set_up(g.bits, g.scale, g.lower, g.upper),
+            set_up(g.bits, g.scale, g.lower, g.upper),
+            "lean set-up is the reference's"
+        );
+    }
+    let lean = seconds(5, || {
+        for g in &all {
+            black_box(lean::set_up(g.bits, g.scale, g.lower, g.upper).is_ok());
+        }
+    });
+    line(output, "the same, against lean 128-bit arithmetic", ours / count as f64, lean / count as f64)?;
 
     let accepted: Vec<(Factor, u64)> = all
         .iter()
@@ -123,6 +136,15 @@ fn single(output: &mut dyn Write) -> io::Result<()> {
     });
     let count = accepted.len() as f64;
     line(output, "product of a significand, the factor checked", ours / count, theirs / count)?;
+    for (factor, x) in &accepted {
+        assert_eq!(lean::multiply(factor, *x), multiply(factor, *x), "the lean product is the reference's");
+    }
+    let lean = seconds(5, || {
+        for (factor, x) in &accepted {
+            black_box(lean::multiply(factor, *x).is_ok());
+        }
+    });
+    line(output, "the same, against lean 128-bit arithmetic", ours / count, lean / count)?;
 
     let readings: Vec<(Factor, u32)> = (0..count as usize)
         .map(|i| known(i % 6).1)

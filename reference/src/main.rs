@@ -11,6 +11,8 @@ mod engine;
 mod factor;
 mod figures;
 mod frame;
+#[cfg(engine)]
+mod lean;
 mod lines;
 mod product;
 mod random;
