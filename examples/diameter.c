@@ -7,9 +7,12 @@
 int main(int argc, char **argv)
 {
     uint64_t factor[GUSNALIP_FACTOR_WORDS];
-    float girth = argc > 1 ? strtof(argv[1], NULL) : 1.57f, diameter;
+    char *end = "";
+    float girth = argc > 1 ? strtof(argv[1], &end) : 1.57f, diameter;
     uint32_t reading, product, answer;
 
+    if (*end || (argc > 1 && end == argv[1]))
+        return printf("%s is no number\n", argv[1]), 1;
     /* 1/pi, known between two ends (README: writing a frame). */
     answer = gusnalip_set_up(24, -2, 0x517CC1B727220A94, 0x517CC1B727220A95, factor, GUSNALIP_FACTOR_WORDS);
     if (answer != GUSNALIP_ACCEPTED)

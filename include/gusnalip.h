@@ -1,7 +1,7 @@
 /* The engine's exported functions: link target/staticlib/libexports.a, which `rt staticlib exports` makes (x86-64 Linux).
  *
  * A list is a pointer and the number of its words. Lists given to one call must not overlap. A list that is too short is answered
- * with GUSNALIP_TOO_SHORT, and nothing is written. Every other answer and every word written is fixed by the function's contract
+ * with GUSNALIP_TOO_SHORT, and nothing is written (the list of a sweep may have any length, 0 too: it is refused with 19). Every other answer and every word written is fixed by the function's contract
  * (crates/exports), for any input.
  *
  * A factor is GUSNALIP_FACTOR_WORDS words: precision, lower end, upper end, high significand, low significand (two's complement),

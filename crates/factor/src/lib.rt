@@ -302,7 +302,7 @@ fn same_applied(a: Applied, b: Applied) -> bool
     false
 }
 
-// Whether a factor is the one that was set up from its own precision, scale and ends.
+// Whether two factors of the same precision, scale and ends store the same parts, bit for bit.
 fn same_factor(f: Factor, g: Factor) -> bool
     requires { ⌜ T (not (isNan (g .applied .high))) × T (not (isNan (g .applied .low))) ⌝ }
     ensures { λ r. ⌜ r ≡ sameFactor f g ⌝ }
