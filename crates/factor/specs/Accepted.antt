@@ -155,7 +155,7 @@ module _ (rule : Rule) (n E : ℕ) (P : 0 < n) (F : 2 * n ≤ E) (L U : ℕ) (le
     abbrev rest-C : Fraction
     rest-C = less C (RN rule n C)
 
-    rest-counts-C : Counts (2 ^ E * D) m A rest-C
+    pub rest-counts-C : Counts (2 ^ E * D) m A rest-C
     rest-counts-C =
         subst (λ (b : Bool). Counts (2 ^ E * D) b A rest-C) (minus-between N D (k .some) (k .least) (k .most))
         (less-counts (2 ^ E * D) N (T * D) C (RN rule n C) C-counts (counts-finer (2 ^ E) D (k .some) false T (RN rule n C) high-counts-C))

@@ -7,7 +7,7 @@ ghost use mathlib.Core.Path.{_≡_};
 ghost use Prim.Native.Nat.{_+_, _≤_};
 ghost use lib.ListN.{length};
 ghost use Rattle.stream.specs.StepLaws.{Fit};
-ghost use Rattle.plotconst.specs.Held.{Held};
+ghost use Rattle.plotconst.specs.Held.{Held, Advanced, wanted};
 
 // Steps on a chunk of the input: the progress, where the chunk goes on, how much of the output is used, and whether it is still taken.
 struct Turn {
@@ -51,7 +51,7 @@ fn with_room(t: Turn, out: &[u8]) -> Turn
 // One step.
 fn advance(t: Turn, input: &[u8], out: &mut [u8]) -> Turn
     requires { ⌜ Held t (now input) (now out) ⌝ }
-    ensures { λ r. ⌜ Held r (now (input .entry)) (now (out .exit)) × (length (now (out .exit)) ≡ length (now (out .entry))) ⌝ }
+    ensures { λ r. ⌜ Held r (now (input .entry)) (now (out .exit)) × (length (now (out .exit)) ≡ length (now (out .entry))) × Advanced t (now (input .entry)) r ⌝ }
 {
     let roomy = with_room(t, out);
     let progress = roomy.progress;
@@ -66,7 +66,9 @@ fn advance(t: Turn, input: &[u8], out: &mut [u8]) -> Turn
 }
 
 // Whether there is a step to make: input is left, or a sweep is on its way.
-fn wants_step(t: Turn, size: usize) -> bool {
+fn wants_step(t: Turn, size: usize) -> bool
+    ensures { λ r. ⌜ r ≡ wanted t size ⌝ }
+{
     if !t.open {
         return false;
     }

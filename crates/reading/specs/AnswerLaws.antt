@@ -128,15 +128,15 @@ module _ (f : Factor) (i : intact f ≡ true) (n : f .precision .bits ≡ 24) (b
       let t = let-through (e f b +ℤ pos (v .binade)) h in
       record { value = number-value (signOf b) v (e f b) v-bits (t .0) (t .1) (t .2) (t .3); normal = number-normal (signOf b) v (e f b) v-bits (t .0) (t .1) (t .2) (t .3) }
 
--- what an answer's product is: of a zero plus zero, of a normal reading exact; a refusal has none
+-- what an answer's product is: of a zero plus zero, and right; of any other reading exact; a refusal has none
 abbrev pub ProductOf : Factor → ℕ → Outcome → Type 0
 ProductOf f b (refusal k) = Unit {0}
-ProductOf f b (marked m y) = (y ≡ plusZero) ⊎ Exactly f b y
+ProductOf f b (marked m y) = ((zeroBits b ≡ true) × (m ≡ Mark.Right) × (y ≡ plusZero)) ⊎ ((zeroBits b ≡ false) × Exactly f b y)
 
 module _ (f : Factor) (x : Float) where
-  normal-product : intact f ≡ true → f .precision .bits ≡ 24 → ProductOf f (toBits binary32 x) (outcomeOf (normalProduct f (toBits binary32 x)))
+  normal-product : intact f ≡ true → f .precision .bits ≡ 24 → zeroBits (toBits binary32 x) ≡ false → ProductOf f (toBits binary32 x) (outcomeOf (normalProduct f (toBits binary32 x)))
   unfolding normalSays
-  normal-product i n = subst (ProductOf f c) (sym (normal-says f c)) (go (exponentOut (e f c +ℤ pos (v .binade))) refl)
+  normal-product i n z = subst (ProductOf f c) (sym (normal-says f c)) (go (exponentOut (e f c +ℤ pos (v .binade))) refl)
     where
       c : ℕ
       c = toBits binary32 x
@@ -146,20 +146,20 @@ module _ (f : Factor) (x : Float) where
 
       go : (o : Bool) → exponentOut (e f c +ℤ pos (v .binade)) ≡ o → ProductOf f c (cond o (refusal 23) (marked (markBy f (significandOf c) v) (numberOf (signOf c) v (e f c))))
       go true h = tt
-      go false h = inr (number-exactly f i n c h)
+      go false h = inr (z, number-exactly f i n c h)
 
   pub applied-product : ProductOf f (toBits binary32 x) (outcomeOf (applied f x))
   unfolding applied
-  applied-product = go (intact f) (eqb (f .precision .bits) 24) (endless c) (zeroBits c) (subnormal c) refl refl
+  applied-product = go (intact f) (eqb (f .precision .bits) 24) (endless c) (zeroBits c) (subnormal c) refl refl refl
     where
       c : ℕ
       c = toBits binary32 x
 
-      go : (i n p q r : Bool) → intact f ≡ i → eqb (f .precision .bits) 24 ≡ n
+      go : (i n p q r : Bool) → intact f ≡ i → eqb (f .precision .bits) 24 ≡ n → zeroBits c ≡ q
           → ProductOf f c (outcomeOf (cond (not i) (ReadingAnswer.Refused 31) (cond (not n) (ReadingAnswer.Refused 20) (cond p (ReadingAnswer.Refused 21) (cond q (ReadingAnswer.Right plusZero) (cond r (ReadingAnswer.Refused 22) (normalProduct f c)))))))
-      go false n p q r x y = tt
-      go true false p q r x y = tt
-      go true true true q r x y = tt
-      go true true false true r x y = inl refl
-      go true true false false true x y = tt
-      go true true false false false x y = normal-product x (eqb-true (f .precision .bits) 24 y)
+      go false n p q r x y z = tt
+      go true false p q r x y z = tt
+      go true true true q r x y z = tt
+      go true true false true r x y z = inl (z, refl, refl)
+      go true true false false true x y z = tt
+      go true true false false false x y z = normal-product x (eqb-true (f .precision .bits) 24 y) z

@@ -102,6 +102,11 @@ abbrev pub sweepingTask : Task → Bool
 sweepingTask Task.Reading = false
 sweepingTask (Task.Sweeping t) = true
 
+-- whether a step is to be made: input is left in the chunk, or a sweep is on its way
+abbrev pub wantsStep : Task → List ℕ → Bool
+wantsStep task [] = sweepingTask task
+wantsStep task (b ∷ chunk) = true
+
 -- at the beginning of line i
 abbrev pub atLine : ℕ → Read
 atLine i = record { number = i; line = []; task = Task.Reading }

@@ -55,9 +55,9 @@ fn sought_in(f: Factor, dropped: u32) -> Sought
     requires { ⌜ Sound f × (62 ≤ dropped) × (dropped ≤ 63) ⌝ }
     ensures { λ r. ⌜ r ≡ soughtIn (f .precision .bits) 62 (f .lower) (f .upper) (2 ^ (dropped - 1)) ⌝ }
 {
-    let n = f.precision.bits;
-    let window = wide::power(Precision::SCALE - n);
-    let widening = (f.upper - f.lower) * wide::power(n);
+    let p = f.precision;
+    let window = wide::power(p.window());
+    let widening = (f.upper - f.lower) * wide::power(p.bits);
     sought_near(f.lower, wide::power(dropped - 1), window, widening)
 }
 

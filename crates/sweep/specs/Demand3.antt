@@ -1,7 +1,7 @@
 -- Demand 3 of sweeps of a factor: for every list of calls of any function that keeps the contract of `sweep_call`, from a state that one with the contract of
--- `new_state` gave. `Whole` (in `calls`) has each sentence of the demand as a field, in the demand's order. Assumes nothing.
-use mathlib.Core.Path.{_≡_, sym, ap, _∙_, subst}
-use mathlib.Core.List.{List}
+-- `new_state` gave; and of the calls that were made, at the states that occurred. What a suspect is, in document 01's words, is `suspect-is` of `EngineLaws.antt`. `Whole` (in `calls`) has each sentence of the demand as a field, in the demand's order. Assumes nothing.
+use mathlib.Core.Path.{_≡_, refl, sym, ap, ap₂, _∙_, subst}
+use mathlib.Core.List.{List, [], _∷_}
 use Prim.Native.Nat.{ℕ}
 use Rattle.factor.specs.declared.Factor.{Factor}
 use Rattle.calls.specs.State.{State, newState, Call}
@@ -52,3 +52,48 @@ pub demand-3 : (new : Factor → ℕ → ℕ → NewSweep) → Begins new → (c
 demand-3 new begins call sweeps f first last s q calls =
     subst (λ (by : State Factor → Call → Reply Factor). Whole suspect engine mostRounds by (viewOf s) calls) (λ i z c. sym (sweeps (held z) c) i)
     (whole-sweep lawful f first last (viewOf s) (sym (begins f first last) ∙ ap newOf q) calls)
+
+-- ---- the same of calls that were made
+
+-- a call that was made: what was asked, what was answered, and the list that it left
+pub record Made : Type 0 where
+  pub asked : Call
+  pub answer : SweepAnswer
+  pub left : List ℕ
+
+abbrev pub replyIn : Made → Reply Factor
+replyIn m = replyOf (m .answer) (m .left)
+
+-- each call kept the contract of `sweep_call`, at the state that the one before handed back; nothing is asked of states and calls that do not occur
+abbrev pub Kept : State Factor → List Made → Type 0
+Kept s [] = Unit {0}
+Kept s (m ∷ made) = (replyIn m ≡ sweepCall engine s (m .asked)) × Kept (replyIn m .state) made
+
+abbrev pub askedIn : List Made → List Call
+askedIn [] = []
+askedIn (m ∷ made) = m .asked ∷ askedIn made
+
+abbrev pub repliesIn : List Made → List (Reply Factor)
+repliesIn [] = []
+repliesIn (m ∷ made) = replyIn m ∷ repliesIn made
+
+-- the replies to a list of calls, each given the state that the one before returned
+abbrev pub repliesBy : (State Factor → Call → Reply Factor) → State Factor → List Call → List (Reply Factor)
+repliesBy call s [] = []
+repliesBy call s (c ∷ calls) = call s c ∷ repliesBy call (call s c .state) calls
+
+kept-replies : (s : State Factor) (made : List Made) → Kept s made → repliesIn made ≡ repliesBy (sweepCall engine) s (askedIn made)
+kept-replies s [] k = refl
+kept-replies s (m ∷ made) k =
+    ap₂ (λ (r : Reply Factor) (l : List (Reply Factor)). r ∷ l) (k .0)
+    (kept-replies (replyIn m .state) made (k .1) ∙ ap (λ (r : Reply Factor). repliesBy (sweepCall engine) (r .state) (askedIn made)) (k .0))
+
+-- The calls that were made from a state that was accepted: demand 3 holds of the calls asked, and the replies are the ones that it speaks of.
+pub record Demand3 (s : State Factor) (made : List Made) : Type 0 where
+  pub whole : Whole suspect engine mostRounds (sweepCall engine) s (askedIn made)
+  pub replies : repliesIn made ≡ repliesBy (sweepCall engine) s (askedIn made)
+
+pub demand-3-of-calls : (f : Factor) (first last : ℕ) (s : SweepState) → newOf (NewSweep.Accepted s) ≡ newState engine f first last
+    → (made : List Made) → Kept (viewOf s) made → Demand3 (viewOf s) made
+demand-3-of-calls f first last s q made k =
+    record { whole = whole-sweep lawful f first last (viewOf s) (sym q) (askedIn made); replies = kept-replies (viewOf s) made k }

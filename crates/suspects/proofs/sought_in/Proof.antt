@@ -5,6 +5,7 @@ use native.Mathlib.Omega.{arith}
 use lib.Pow.{pow-pos, pow-mono}
 use borrow.Author.Needs.{needs}
 use Rattle.factor.specs.declared.Factor.{Factor}
+use Rattle.factor.specs.Precision.{Kept}
 use Rattle.factor.specs.SetUp.{Sound}
 use Rattle.suspects.specs.Suspects.{windowW, widening}
 use Rattle.suspects.specs.Next.{soughtNear}
@@ -25,11 +26,18 @@ module _ (f : Factor) (sound : Sound f) {power : ℕ} (is : power ≡ 2 ^ f .pre
     omega (arith, pow-mono {i = d - 1} {j = 62} (omega arith)),
   )
 
-sub-power : tie.Need-sub-power
-sub-power c = search needs
+in-limits : (f : Factor) → Sound f → Kept (f .precision .bits)
+in-limits f sound = record { least = sound .fewest; most = sound .most }
+
+window-requires : tie.Need-window-requires
+window-requires c κs = in-limits _ (c .before .pre .0)
 
 power-requires : tie.Need-power-requires
-power-requires c κs = search needs
+power-requires c κs = omega (arith, c .window .ensures)
+
+-- W, as the calls ensure it
+window-is : (c : tie.After-power) → c .power .result ≡ windowW (c .before .before .before .args .f .precision .bits) 62
+window-is c = c .power .ensures ∙ ap (λ (k : ℕ). 2 ^ k) (c .before .window .ensures)
 
 sub-widening : tie.Need-sub-widening
 sub-widening c = search needs
@@ -39,11 +47,11 @@ power-requires-2 c κs = search needs
 
 mul-widening : tie.Need-mul-widening
 mul-widening c =
-    let start = c .before .before .before in
+    let start = c .before .before .before .before .before in
     omega (arith, fits (start .args .f) (start .pre .0), widened (start .args .f) (start .pre .0) (c .power2 .ensures))
 
-sub-power-2 : tie.Need-sub-power-2
-sub-power-2 c = search needs
+sub-power : tie.Need-sub-power
+sub-power c = search needs
 
 power-requires-3 : tie.Need-power-requires-3
 power-requires-3 c κs = search needs
@@ -51,15 +59,15 @@ power-requires-3 c κs = search needs
 sought-near-requires : tie.Need-sought-near-requires
 sought-near-requires c κs =
     let window = c .before .before .before in
-    let start = window .before in
-    window-fits (start .args .f) (start .pre .0) (c .before .power2 .ensures) (window .power .ensures) (c .power3 .ensures) (start .pre .1) (start .pre .2)
+    let start = window .before .before .before in
+    window-fits (start .args .f) (start .pre .0) (c .before .power2 .ensures) (window-is window) (c .power3 .ensures) (start .pre .1) (start .pre .2)
 
 returns : tie.Need-returns
 returns c =
     let half = c .before in
     let window = half .before .before .before in
-    let f = window .before .args .f in
-    let w = window .power .ensures in
+    let f = window .before .before .before .args .f in
+    let w = window-is window in
     let p = half .before .power2 .ensures in
     let h = half .power3 .ensures in
     c .sought-near .ensures ∙ λ i. soughtNear (f .lower) (h i) (w i) ((f .upper - f .lower) * p i)
@@ -68,12 +76,12 @@ pub sought-in-spec : {M : Type 1} → statement M
 sought-in-spec =
     tie.close
     (tie.spec
-    sub-power
+    window-requires
     power-requires
     sub-widening
     power-requires-2
     mul-widening
-    sub-power-2
+    sub-power
     power-requires-3
     sought-near-requires
     returns)
