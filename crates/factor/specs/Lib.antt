@@ -8,3 +8,4 @@ pub mod Accepted
 pub mod SetUp
 pub mod SetUpLaws
 pub mod Stored
+pub mod Answers

@@ -10,3 +10,4 @@ pub mod FieldLaws
 pub mod FrameLaws
 pub mod ReportLaws
 pub mod WrittenLaws
+pub mod Answers
