@@ -15,6 +15,7 @@ ghost use Rattle.factor.specs.Precision.{Kept, newPrecision, leastOf, mo
 ghost use Rattle.factor.specs.Whole.{End, partsFrom};
 ghost use Rattle.factor.specs.Parts.{partsAt};
 ghost use Rattle.factor.specs.SetUp.{endOut, scaleOut, sameLow, sameFloat, sameApplied, sameFactor, setUp, intact};
+ghost use Rattle.factor.specs.Answers.{precisionOutcome, precisionSaid, outcomeOf, said};
 ghost use Rattle.factor.specs.Stored.{LowStorable, Storable, appliedFrom};
 
 // A precision n: how many bits a significand has. What belongs to a precision is named here, once.
@@ -78,6 +79,7 @@ impl Precision {
     // A precision, or refusal 11.
     pub fn new(bits: u32) -> PrecisionAnswer
         ensures { λ r. ⌜ r ≡ newPrecision bits ⌝ }
+        ensures { λ r. ⌜ precisionOutcome r ≡ precisionSaid bits ⌝ }
     {
         if bits < Precision::LEAST {
             return PrecisionAnswer::Refused(11);
@@ -244,6 +246,7 @@ fn same_low(p: Parts, q: Parts) -> bool
 // Set-up from a precision, a scale and two ends: the factor, or the first refusal whose condition holds.
 pub fn set_up(precision: u32, scale: i32, lower: u64, upper: u64) -> SetUp
     ensures { λ r. ⌜ r ≡ setUp precision scale lower upper ⌝ }
+    ensures { λ r. ⌜ outcomeOf r ≡ said precision scale lower upper ⌝ }
 {
     let PrecisionAnswer::Accepted(p) = Precision::new(precision) else {
         return SetUp::Refused(11);

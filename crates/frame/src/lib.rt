@@ -5,6 +5,7 @@ ghost use Prim.Native.Nat.{_+_, _*_, _<_, _≤_};
 ghost use lib.ListN.{length};
 ghost use Rattle.frame.specs.Digits.{digitByte, digits, digitValue, fieldAt, Within};
 ghost use Rattle.frame.specs.Frame.{signedByte, spaced, framed, frameOf};
+ghost use Rattle.frame.specs.Answers.{outcomeOf, said};
 ghost use Rattle.frame.specs.Report.{verdictOf, wordLine, reportLine, refusalLine};
 ghost use Rattle.frame.specs.Written.{Written};
 
@@ -151,6 +152,7 @@ fn frame_from(precision: Field, scale: Field, lower: Field, upper: Field) -> Fra
 // What a line says: a frame, or refusal 24.
 pub fn read_frame(line: &[u8]) -> FrameAnswer
     ensures { λ r. ⌜ r ≡ frameOf (now (line .entry)) ⌝ }
+    ensures { λ r. ⌜ outcomeOf r ≡ said (now (line .entry)) ⌝ }
 {
     if !is_spaced(line, END_DIGITS) {
         return FrameAnswer::Refused(NOT_A_FRAME);

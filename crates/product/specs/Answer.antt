@@ -36,6 +36,14 @@ outcomeOf (ProductAnswer.Open v) = marked Mark.Open (v .significand) (v .binade)
 outcomeOf (ProductAnswer.Wrong v) = marked Mark.Wrong (v .significand) (v .binade)
 outcomeOf (ProductAnswer.Refused k) = refusal k
 
+-- what the answer says: 31 before 17, else the mark, S and b
+unfoldable pub said : Factor → ℕ → Outcome
+unfolding intact product mark
+said f X =
+    cond (not (intact f)) (refusal 31)
+    (cond (significandOut (f .precision .bits) X) (refusal 17)
+    (let v = productBy f X in marked (markBy f X v) (v .significand) (v .binade)))
+
 -- ---- demand 2 of an answer: what its mark says of every fraction between the factor's ends; a refusal says nothing of them
 abbrev pub Tells : Factor → ℕ → ProductAnswer → Type 0
 Tells f X (ProductAnswer.Right v) = SaysBy f X v Mark.Right

@@ -1,5 +1,5 @@
 -- Each answer of a multiplication under its condition, and what it says in document 01's terms. Assumes nothing.
-use mathlib.Core.Path.{_≡_, refl}
+use mathlib.Core.Path.{_≡_, refl, ap, _∙_}
 use mathlib.Core.Bool.{Bool, true, false, not, _||_, cond, true≢false}
 use Prim.Native.Nat.{ℕ, _-_, _^_}
 use lib.Dec.{ltb, leb}
@@ -13,7 +13,7 @@ use Rattle.product.specs.declared.Product.{Product}
 use Rattle.product.specs.declared.ProductAnswer.{ProductAnswer}
 use Rattle.product.specs.Product.{productBy}
 use Rattle.product.specs.Marks.{markBy}
-use Rattle.product.specs.Answer.{answered, multiplied, refusal, marked, outcomeOf}
+use Rattle.product.specs.Answer.{answered, multiplied, refusal, marked, outcomeOf, said}
 
 -- a significand that 17 does not refuse has n bits
 pub significand-in : (n X : ℕ) → significandOut n X ≡ false → HasBits n X
@@ -47,8 +47,8 @@ module _ (f : Factor) (X : ℕ) where
   answer-product a b = rw (a, b)
 
   -- the number of the refusal, or the mark, the significand and the binade
-  pub multiplied-says : outcomeOf (multiplied f X) ≡ cond (not (intact f)) (refusal 31) (cond (significandOut n X) (refusal 17) (marked m (v .significand) (v .binade)))
-  unfolding multiplied
+  pub multiplied-says : outcomeOf (multiplied f X) ≡ said f X
+  unfolding multiplied said
   multiplied-says = go (intact f) (significandOut n X)
     where
       of-mark : (k : Mark) → outcomeOf (answered k v) ≡ marked k (v .significand) (v .binade)
@@ -61,3 +61,7 @@ module _ (f : Factor) (X : ℕ) where
       go false b = refl
       go true true = refl
       go true false = of-mark m
+
+-- an answer, and what it says
+pub told : (f : Factor) (X : ℕ) (r : ProductAnswer) → r ≡ multiplied f X → (r ≡ multiplied f X) × (outcomeOf r ≡ said f X)
+told f X r e = (e, ap outcomeOf e ∙ multiplied-says f X)

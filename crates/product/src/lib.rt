@@ -17,7 +17,7 @@ ghost use Rattle.factor.specs.SetUp.{Sound};
 ghost use Rattle.product.specs.Product.{productBy};
 ghost use Rattle.product.specs.Marks.{markBy};
 ghost use Rattle.product.specs.Units.{firstUnits, fusedUnits, roundedUnits, markUnits, PartsAtEnd};
-ghost use Rattle.product.specs.Answer.{answered, multiplied};
+ghost use Rattle.product.specs.Answer.{answered, multiplied, outcomeOf, said};
 
 // A product from 1 to below 4: a significand of n bits, and its binade, 0 for [1, 2) and 1 for [2, 4).
 pub struct Product {
@@ -173,6 +173,7 @@ fn answer(m: Mark, v: Product) -> ProductAnswer
 // Multiplies a significand: the product with its mark, or refusal 31 for the factor, or 17 for the significand.
 pub fn multiply(f: Factor, x: u64) -> ProductAnswer
     ensures { λ r. ⌜ r ≡ multiplied f x ⌝ }
+    ensures { λ r. ⌜ outcomeOf r ≡ said f x ⌝ }
 {
     if factor::is_intact(f) {
         let p = f.precision;

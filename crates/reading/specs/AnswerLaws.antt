@@ -19,7 +19,7 @@ use Rattle.product.specs.Product.{productBy}
 use Rattle.product.specs.Marks.{markBy}
 use Rattle.product.specs.SoundLaws.{sound-product}
 use Rattle.reading.specs.declared.ReadingAnswer.{ReadingAnswer}
-use Rattle.reading.specs.Reading.{signOf, endless, zeroBits, subnormal, significandOf, exponentOf, exponentOut, numberOf, plusZero, answered, normalProduct, applied, refusal, marked, Outcome, outcomeOf}
+use Rattle.reading.specs.Reading.{signOf, endless, zeroBits, subnormal, significandOf, exponentOf, exponentOut, numberOf, plusZero, answered, normalProduct, applied, refusal, marked, Outcome, outcomeOf, normalSaid, said}
 use Rattle.reading.specs.Exponents.{let-through}
 use Rattle.reading.specs.ReadingLaws.{NormalFloat, number-value, number-normal}
 
@@ -91,14 +91,8 @@ says-mark Mark.Right y = refl
 says-mark Mark.Open y = refl
 says-mark Mark.Wrong y = refl
 
-normalSays : Factor → ℕ → Outcome
-normalSays f b =
-    let v = productBy f (significandOf b) in
-    let e = exponentOf b +ℤ f .applied .scale in
-    cond (exponentOut (e +ℤ pos (v .binade))) (refusal 23) (marked (markBy f (significandOf b) v) (numberOf (signOf b) v e))
-
-normal-says : (f : Factor) (b : ℕ) → outcomeOf (normalProduct f b) ≡ normalSays f b
-unfolding normalSays
+normal-says : (f : Factor) (b : ℕ) → outcomeOf (normalProduct f b) ≡ normalSaid f b
+unfolding normalSaid
 normal-says f b = go (exponentOut (e f b +ℤ pos (productBy f (significandOf b) .binade))) refl
   where
     v : Product
@@ -109,6 +103,27 @@ normal-says f b = go (exponentOut (e f b +ℤ pos (productBy f (significandOf b)
     go true h = ap outcomeOf (normal-23 f b v refl h) ∙ sym (ap (λ (o : Bool). cond o (refusal 23) (marked (markBy f (significandOf b) v) (numberOf (signOf b) v (e f b)))) h)
     go false h =
         ap outcomeOf (normal-number f b v refl h) ∙ says-mark (markBy f (significandOf b) v) (numberOf (signOf b) v (e f b)) ∙ sym (ap (λ (o : Bool). cond o (refusal 23) (marked (markBy f (significandOf b) v) (numberOf (signOf b) v (e f b)))) h)
+
+pub applied-says : (f : Factor) (x : Float) → outcomeOf (applied f x) ≡ said f x
+unfolding applied said
+applied-says f x = go (intact f) (eqb (f .precision .bits) 24) (endless c) (zeroBits c) (subnormal c)
+  where
+    c : ℕ
+    c = toBits binary32 x
+
+    go : (i n p q r : Bool)
+        → outcomeOf (cond (not i) (ReadingAnswer.Refused 31) (cond (not n) (ReadingAnswer.Refused 20) (cond p (ReadingAnswer.Refused 21) (cond q (ReadingAnswer.Right plusZero) (cond r (ReadingAnswer.Refused 22) (normalProduct f c))))))
+        ≡ cond (not i) (refusal 31) (cond (not n) (refusal 20) (cond p (refusal 21) (cond q (marked Mark.Right plusZero) (cond r (refusal 22) (normalSaid f c)))))
+    go false n p q r = refl
+    go true false p q r = refl
+    go true true true q r = refl
+    go true true false true r = refl
+    go true true false false true = refl
+    go true true false false false = normal-says f c
+
+-- an answer, and what it says
+pub told : (f : Factor) (x : Float) (r : ReadingAnswer) → r ≡ applied f x → (r ≡ applied f x) × (outcomeOf r ≡ said f x)
+told f x r e = (e, ap outcomeOf e ∙ applied-says f x)
 
 -- ---- the product of a normal reading b: exactly sign * u2 * 2 ^ (e + k), and a normal number
 pub record Exactly (f : Factor) (b : ℕ) (y : Float) : Type 0 where
@@ -135,7 +150,7 @@ ProductOf f b (marked m y) = ((zeroBits b ≡ true) × (m ≡ Mark.Right) × (y 
 
 module _ (f : Factor) (x : Float) where
   normal-product : intact f ≡ true → f .precision .bits ≡ 24 → zeroBits (toBits binary32 x) ≡ false → ProductOf f (toBits binary32 x) (outcomeOf (normalProduct f (toBits binary32 x)))
-  unfolding normalSays
+  unfolding normalSaid
   normal-product i n z = subst (ProductOf f c) (sym (normal-says f c)) (go (exponentOut (e f c +ℤ pos (v .binade))) refl)
     where
       c : ℕ

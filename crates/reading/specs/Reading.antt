@@ -93,3 +93,23 @@ outcomeOf (ReadingAnswer.Right y) = marked Mark.Right y
 outcomeOf (ReadingAnswer.Open y) = marked Mark.Open y
 outcomeOf (ReadingAnswer.Wrong y) = marked Mark.Wrong y
 outcomeOf (ReadingAnswer.Refused k) = refusal k
+
+-- what the answer to a normal reading says: 23, or the mark and the number
+unfoldable pub normalSaid : Factor → ℕ → Outcome
+unfolding product mark numberOf
+normalSaid f b =
+    let v = productBy f (significandOf b) in
+    let e = exponentOf b +ℤ f .applied .scale in
+    cond (exponentOut (e +ℤ pos (v .binade))) (refusal 23) (marked (markBy f (significandOf b) v) (numberOf (signOf b) v e))
+
+-- what the answer says: 31, 20, 21, 22 and 23 in this order; of a zero, plus zero, right; else the mark and the number
+unfoldable pub said : Factor → Float → Outcome
+unfolding intact normalSaid
+said f x =
+    let b = toBits binary32 x in
+    cond (not (intact f)) (refusal 31)
+    (cond (not (eqb (f .precision .bits) 24)) (refusal 20)
+    (cond (endless b) (refusal 21)
+    (cond (zeroBits b) (marked Mark.Right plusZero)
+    (cond (subnormal b) (refusal 22)
+    (normalSaid f b)))))

@@ -12,7 +12,7 @@ ghost use Rattle.rounding.specs.RoundLaws.{HasBits};
 ghost use Rattle.factor.specs.Whole.{wholeOf};
 ghost use Rattle.factor.specs.SetUp.{scaleOut, Sound};
 ghost use Rattle.product.specs.Units.{firstUnits};
-ghost use Rattle.reading.specs.Reading.{fieldOf, answered, normalProduct, applied};
+ghost use Rattle.reading.specs.Reading.{fieldOf, answered, normalProduct, applied, outcomeOf, said};
 ghost use Rattle.reading.specs.Units.{InUnits, unitsOf};
 
 // A binary32 number's bits: the weight of the sign, and that of the exponent's field, which the leading digit has too.
@@ -105,6 +105,7 @@ fn normal(f: Factor, bits: u32) -> ReadingAnswer
 // Multiplies a reading: the product with its mark, or the first of the refusals 31, 20, 21, 22 and 23 whose condition holds.
 pub fn read(f: Factor, reading: f32) -> ReadingAnswer
     ensures { λ r. ⌜ r ≡ applied f reading ⌝ }
+    ensures { λ r. ⌜ outcomeOf r ≡ said f reading ⌝ }
 {
     if factor::is_intact(f) {
         if f.precision.bits != BITS {

@@ -31,7 +31,7 @@ answer c =
     let long = room .before in
     let a = long .before .before .before .args in
     multiply-is (a .factor .now) (a .x) (a .out .now) (c .multiply .result) (long-enough 9 (a .factor .now) 2 (a .out .now) (long .if1 .left) (room .if2 .left))
-    (sym (c .multiply .ensures ∙ ap (λ (f : Factor). multiplied f (a .x)) (c .before .factor-from .ensures)))
+    (sym (c .multiply .ensures .0 ∙ ap (λ (f : Factor). multiplied f (a .x)) (c .before .factor-from .ensures)))
 
 enum-known-v : tie.Need-enum-known-v
 enum-known-v c = search needs

@@ -32,7 +32,7 @@ answer c =
     let long = room .before in
     let a = long .before .before .before .args in
     read-is (a .factor .now) (a .reading) (a .out .now) (c .read .result) (long-enough 9 (a .factor .now) 1 (a .out .now) (long .if1 .left) (room .if2 .left))
-    (sym (c .read .ensures ∙ rw (c .before .float-from .ensures, c .before .before .factor-from .ensures)))
+    (sym (c .read .ensures .0 ∙ rw (c .before .float-from .ensures, c .before .before .factor-from .ensures)))
 
 enum-known-y : tie.Need-enum-known-y
 enum-known-y c = search needs

@@ -23,7 +23,7 @@ engine : (c : tie.After-set-up) → let a = c .before .before .before .args in s
 engine c =
     let a = c .before .before .before .args in
     let same : toZ w32 (ofZ w32 (a .scale)) ≡ a .scale = search needs in
-    sym (c .set-up .ensures ∙ ap (λ (k : ℤ). setUp (a .precision) k (a .lower) (a .upper)) same)
+    sym (c .set-up .ensures .0 ∙ ap (λ (k : ℤ). setUp (a .precision) k (a .lower) (a .upper)) same)
 
 answer : (c : tie.After-set-up) → let a = c .before .before .before .args in setUpTo (a .precision) (a .scale) (a .lower) (a .upper) (a .out .now) ≡ setUpAnswer (c .set-up .result)
 answer c =

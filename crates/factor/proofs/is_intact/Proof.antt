@@ -20,7 +20,7 @@ set-up-is : (c : tie.After-set-up) → let f = c .before .before .before .before
 set-up-is c =
     let f = c .before .before .before .before .args .f in
     let same : toZ w32 (ofZ w32 (f .applied .scale)) ≡ f .applied .scale = search needs in
-    c .set-up .ensures ∙ ap (λ (k : ℤ). setUp (f .precision .bits) k (f .lower) (f .upper)) same
+    c .set-up .ensures .0 ∙ ap (λ (k : ℤ). setUp (f .precision .bits) k (f .lower) (f .upper)) same
 
 same-factor-requires : tie.Need-same-factor-requires
 same-factor-requires c κs =

@@ -15,6 +15,7 @@ use Rattle.factor.specs.Precision.{Kept, precisionOut}
 use Rattle.factor.specs.Parts.{partsAt}
 use Rattle.factor.specs.SetUp.{endOut, scaleOut, sameHigh, sameLow, partsOf, appliedOf}
 use Rattle.factor.specs.SetUpLaws.{precision-refused, precision-kept, kept-in, end-in, answer-11, answer-12, answer-13, answer-14, answer-15, answer-16, answer-factor}
+use Rattle.factor.specs.Answers.{told}
 use Rattle.factor.specs.Stored.{Storable, storable, appliedFrom, applied-from}
 use Rattle.factor.proofs.set_up.Statement.{statement}
 use Rattle.factor.proofs.set_up.Tie as tie
@@ -30,9 +31,10 @@ enum-told c = search needs
 
 returns : tie.Need-returns
 returns c =
-    let made = c .before .before in
+    told _ _ _ _ _
+    (let made = c .before .before in
     let a = made .before .args in
-    sym (answer-11 (a .precision) (a .scale) (a .lower) (a .upper) (precision-refused (a .precision) _ (sym (made .new .ensures) ∙ c .enum-told .given .1)))
+    sym (answer-11 (a .precision) (a .scale) (a .lower) (a .upper) (precision-refused (a .precision) _ (sym (made .new .ensures .0) ∙ c .enum-told .given .1))))
 
 end-out-requires : tie.Need-end-out-requires
 end-out-requires c κs = search needs
@@ -49,18 +51,19 @@ module _ (c : tie.After-known-told) where
   p = c .before .p .given .0 .0
 
   precision-in : (precisionOut n ≡ false) × (p .bits ≡ n)
-  precision-in = precision-kept n p (sym (c .before .before .before .new .ensures) ∙ c .before .p .given .1)
+  precision-in = precision-kept n p (sym (c .before .before .before .new .ensures .0) ∙ c .before .p .given .1)
 
   kept : Kept n
   kept = kept-in n (precision-in .0)
 
 returns-2 : tie.Need-returns-2
 returns-2 c =
-    let s = c .before in
+    told _ _ _ _ _
+    (let s = c .before in
     let k = s .before in
     let x = a k .args in
     let e : endOut 62 (x .lower) ≡ true = sym (s .end-out .ensures) ∙ c .if1 .taken in
-    sym (answer-12 (n k) (x .scale) (x .lower) (x .upper) (precision-in k .0) (ap (λ (b : Bool). b || endOut 62 (x .upper)) e))
+    sym (answer-12 (n k) (x .scale) (x .lower) (x .upper) (precision-in k .0) (ap (λ (b : Bool). b || endOut 62 (x .upper)) e)))
 
 end-out-requires-2 : tie.Need-end-out-requires-2
 end-out-requires-2 c κs = search needs
@@ -70,11 +73,12 @@ lower-in c = sym (c .before .end-out .ensures) ∙ c .if1 .left
 
 returns-3 : tie.Need-returns-3
 returns-3 c =
-    let s = c .before in
+    told _ _ _ _ _
+    (let s = c .before in
     let k = s .before .before .before in
     let x = a k .args in
     let e : endOut 62 (x .upper) ≡ true = sym (s .end-out2 .ensures) ∙ c .if2 .taken in
-    sym (answer-12 (n k) (x .scale) (x .lower) (x .upper) (precision-in k .0) (ap₂ (λ (b d : Bool). b || d) (lower-in (s .before)) e))
+    sym (answer-12 (n k) (x .scale) (x .lower) (x .upper) (precision-in k .0) (ap₂ (λ (b d : Bool). b || d) (lower-in (s .before)) e)))
 
 -- past the ends
 abbrev start : tie.Else2 → tie.After-known-told
@@ -88,9 +92,10 @@ ends-in c = ap₂ (λ (b d : Bool). b || d) (lower-in (c .before .before)) (uppe
 
 returns-4 : tie.Need-returns-4
 returns-4 c =
-    let s = c .before in
+    told _ _ _ _ _
+    (let s = c .before in
     let x = a (start s) .args in
-    sym (answer-13 (n (start s)) (x .scale) (x .lower) (x .upper) (precision-in (start s) .0) (ends-in s) (lt-ltb (x .upper) (x .lower) (c .if3 .taken)))
+    sym (answer-13 (n (start s)) (x .scale) (x .lower) (x .upper) (precision-in (start s) .0) (ends-in s) (lt-ltb (x .upper) (x .lower) (c .if3 .taken))))
 
 scale-out-requires : tie.Need-scale-out-requires
 scale-out-requires c κs = search needs
@@ -100,10 +105,11 @@ scale-is c = let k = a (start (c .before .before)) in c .scale-out .ensures ∙ 
 
 returns-5 : tie.Need-returns-5
 returns-5 c =
-    let s = c .before in
+    told _ _ _ _ _
+    (let s = c .before in
     let e = s .before .before in
     let x = a (start e) .args in
-    sym (answer-14 (n (start e)) (x .scale) (x .lower) (x .upper) (precision-in (start e) .0) (ends-in e) (le-ltb (x .upper) (x .lower) (s .before .if3 .left)) (sym (scale-is s) ∙ c .if4 .taken))
+    sym (answer-14 (n (start e)) (x .scale) (x .lower) (x .upper) (precision-in (start e) .0) (ends-in e) (le-ltb (x .upper) (x .lower) (s .before .if3 .left)) (sym (scale-is s) ∙ c .if4 .taken)))
 
 -- past the scale: the parts are worked out
 abbrev ends : tie.Else4 → tie.Else2
@@ -142,11 +148,12 @@ module _ (c : tie.After-parts-at2) where
 -- Ch is the same or not, Cl is the same or not: the parts that were compared are those of the definition
 returns-6 : tie.Need-returns-6
 returns-6 c =
-    let w = c .before .before .before in
+    told _ _ _ _ _
+    (let w = c .before .before .before in
     let x = a (k w) .args in
     let e : sameHigh (partsOf (n (k w)) (x .lower)) (partsOf (n (k w)) (x .upper)) ≡ false =
     ap₂ sameHigh (sym (lower-parts w)) (sym (upper-parts w)) ∙ ne-eqb (w .before .parts-at .result .high) (w .parts-at2 .result .high) (c .if5 .taken) in
-    sym (answer-15 (n (k w)) (x .scale) (x .lower) (x .upper) (precision-in (k w) .0) (ends-in (ends (past w))) (in-order w) (scale-in w) e)
+    sym (answer-15 (n (k w)) (x .scale) (x .lower) (x .upper) (precision-in (k w) .0) (ends-in (ends (past w))) (in-order w) (scale-in w) e))
 
 same-low-requires : tie.Need-same-low-requires
 same-low-requires c κs = search needs
@@ -171,7 +178,8 @@ stored-parts-requires c κs =
 
 returns-7 : tie.Need-returns-7
 returns-7 c =
-    let l = c .before .before in
+    told _ _ _ _ _
+    (let l = c .before .before in
     let w = l .before .before .before .before in
     let x = a (k w) in
     let m = n (k w) in
@@ -182,14 +190,15 @@ returns-7 c =
     ∙ ap (appliedFrom m (x .args .scale)) (lower-parts w)
     ∙ sym (applied-from m (kept (k w)) (x .args .lower) (end-in 62 (x .args .lower) (lower-in (ends (past w) .before .before))) (x .args .scale)) in
     ap Accepted (λ i. record { precision = record { bits = precision-in (k w) .1 i }; lower = x .args .lower; upper = x .args .upper; parts = lower-parts w i; applied = stored i })
-    ∙ sym (answer-factor m (x .args .scale) (x .args .lower) (x .args .upper) (precision-in (k w) .0) (ends-in (ends (past w))) (in-order w) (scale-in w) (high-same (l .before)) (sym (low-is l) ∙ c .before .if6 .taken))
+    ∙ sym (answer-factor m (x .args .scale) (x .args .lower) (x .args .upper) (precision-in (k w) .0) (ends-in (ends (past w))) (in-order w) (scale-in w) (high-same (l .before)) (sym (low-is l) ∙ c .before .if6 .taken)))
 
 returns-8 : tie.Need-returns-8
 returns-8 c =
-    let l = c .before in
+    told _ _ _ _ _
+    (let l = c .before in
     let w = l .before .before .before .before in
     let x = a (k w) .args in
-    sym (answer-16 (n (k w)) (x .scale) (x .lower) (x .upper) (precision-in (k w) .0) (ends-in (ends (past w))) (in-order w) (scale-in w) (high-same (l .before)) (sym (low-is l) ∙ c .if6 .left))
+    sym (answer-16 (n (k w)) (x .scale) (x .lower) (x .upper) (precision-in (k w) .0) (ends-in (ends (past w))) (in-order w) (scale-in w) (high-same (l .before)) (sym (low-is l) ∙ c .if6 .left)))
 
 pub set-up-spec : {M : Type 1} → statement M
 set-up-spec =

@@ -9,6 +9,7 @@ use Rattle.frame.specs.declared.Field.{Field}
 use Rattle.frame.specs.declared.FrameAnswer.the-variants.{Refused}
 use Rattle.frame.specs.Digits.{fieldAt, Within}
 use Rattle.frame.specs.Frame.{endDigits, spaced, framed, frameOf}
+use Rattle.frame.specs.Answers.{told}
 use Rattle.frame.specs.FieldLaws.{field-within}
 use Rattle.frame.proofs.read_frame.Statement.{statement}
 use Rattle.frame.proofs.read_frame.Tie as tie
@@ -33,7 +34,7 @@ is-spaced-requires : tie.Need-is-spaced-requires
 is-spaced-requires c κs = search needs
 
 returns : tie.Need-returns
-returns c = refused _ (sym (c .before .is-spaced .ensures) ∙ not-true _ (c .if1 .taken))
+returns c = told _ _ (refused _ (sym (c .before .is-spaced .ensures) ∙ not-true _ (c .if1 .taken)))
 
 read-field-requires : tie.Need-read-field-requires
 read-field-requires c κs = search needs
@@ -60,13 +61,14 @@ frame-from-requires c κs =
 
 returns-2 : tie.Need-returns-2
 returns-2 c =
-    let fourth = c .before in
+    told _ _
+    (let fourth = c .before in
     let third = fourth .before in
     let second = third .before in
     let first = second .before in
     let spaced-is = sym (first .before .before .is-spaced .ensures) ∙ not-false _ (first .before .if1 .left) in
     c .frame-from .ensures
-    ∙ read _ _ _ _ _ spaced-is (first .read-field .ensures) (second .read-field2 .ensures) (third .read-field3 .ensures) (fourth .read-field4 .ensures)
+    ∙ read _ _ _ _ _ spaced-is (first .read-field .ensures) (second .read-field2 .ensures) (third .read-field3 .ensures) (fourth .read-field4 .ensures))
 
 pub read-frame-spec : {M : Type 1} → statement M
 read-frame-spec =

@@ -9,7 +9,7 @@ use Rattle.factor.specs.SetUpLaws.{intact-sound}
 use Rattle.product.specs.Marks.{markBy}
 use Rattle.product.specs.SoundLaws.{sound-precision, sound-product}
 use Rattle.product.specs.Answer.{answered}
-use Rattle.product.specs.AnswerLaws.{significand-in, answer-31, answer-17, answer-product}
+use Rattle.product.specs.AnswerLaws.{told, significand-in, answer-31, answer-17, answer-product}
 use Rattle.product.proofs.multiply.Statement.{statement}
 use Rattle.product.proofs.multiply.Tie as tie
 
@@ -28,10 +28,11 @@ significand-out-requires c κs = sound-precision (c .before .before .before .arg
 
 returns : tie.Need-returns
 returns c =
-    let range = c .before in
+    told _ _ _
+    (let range = c .before in
     let through = range .before .before in
     let a = through .before .before .args in
-    sym (answer-17 (a .f) (a .x) (let-through through) (sym (range .significand-out .ensures) ∙ c .if2 .taken))
+    sym (answer-17 (a .f) (a .x) (let-through through) (sym (range .significand-out .ensures) ∙ c .if2 .taken)))
 
 -- 17 lets the significand through
 in-range : (c : tie.Else2) → let a = c .before .before .before .before .before .args in significandOut (a .f .precision .bits) (a .x) ≡ false
@@ -56,19 +57,21 @@ answer-requires c κs = search needs
 
 returns-2 : tie.Need-returns-2
 returns-2 c =
-    let product = c .before .before in
+    told _ _ _
+    (let product = c .before .before in
     let range = product .before in
     let through = range .before .before .before in
     let a = through .before .before .args in
     let v = product .product-of .ensures in
     c .answer .ensures
     ∙ ap₂ answered (c .before .mark-of .ensures ∙ ap (markBy (a .f) (a .x)) v) v
-    ∙ sym (answer-product (a .f) (a .x) (let-through through) (in-range range))
+    ∙ sym (answer-product (a .f) (a .x) (let-through through) (in-range range)))
 
 returns-3 : tie.Need-returns-3
 returns-3 c =
-    let a = c .before .before .args in
-    sym (answer-31 (a .f) (a .x) (sym (c .before .is-intact .ensures) ∙ c .if1 .left))
+    told _ _ _
+    (let a = c .before .before .args in
+    sym (answer-31 (a .f) (a .x) (sym (c .before .is-intact .ensures) ∙ c .if1 .left)))
 
 pub multiply-spec : {M : Type 1} → statement M
 multiply-spec =

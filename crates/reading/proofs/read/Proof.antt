@@ -13,7 +13,7 @@ use Rattle.factor.specs.SetUp.{intact}
 use Rattle.factor.specs.SetUpLaws.{intact-sound}
 use Rattle.reading.specs.declared.ReadingAnswer.{ReadingAnswer}
 use Rattle.reading.specs.Reading.{fieldOf, digitsOf, endless, zeroBits, subnormal, plusZero}
-use Rattle.reading.specs.AnswerLaws.{answer-31, answer-20, answer-21, answer-zero, answer-22, answer-normal, nan-endless}
+use Rattle.reading.specs.AnswerLaws.{told, answer-31, answer-20, answer-21, answer-zero, answer-22, answer-normal, nan-endless}
 use Rattle.reading.proofs.read.Statement.{statement}
 use Rattle.reading.proofs.read.Tie as tie
 
@@ -36,9 +36,10 @@ intact-is c = sym (c .before .is-intact .ensures) ∙ c .if1 .taken
 
 returns : tie.Need-returns
 returns c =
-    let t = c .before .before in
+    told _ _ _
+    (let t = c .before .before in
     let a = t .before .before .args in
-    sym (answer-20 (a .f) (a .reading) (intact-is t) (ne-eqb (a .f .precision .bits) 24 (c .if2 .taken)))
+    sym (answer-20 (a .f) (a .reading) (intact-is t) (ne-eqb (a .f .precision .bits) 24 (c .if2 .taken))))
 
 -- 20 lets it through
 bits-are : (c : tie.Else2) → eqb (c .before .before .before .before .args .f .precision .bits) 24 ≡ true
@@ -46,20 +47,22 @@ bits-are c = eq-eqb _ 24 (c .if2 .left)
 
 returns-2 : tie.Need-returns-2
 returns-2 c =
-    let e = c .before in
+    told _ _ _
+    (let e = c .before in
     let t = e .before .before in
     let a = t .before .before .args in
-    sym (answer-21 (a .f) (a .reading) (intact-is t) (bits-are e) (ap (λ (x : Float). endless (toBits binary32 x)) (is-nan (a .reading) (c .if3 .taken)) ∙ nan-endless))
+    sym (answer-21 (a .f) (a .reading) (intact-is t) (bits-are e) (ap (λ (x : Float). endless (toBits binary32 x)) (is-nan (a .reading) (c .if3 .taken)) ∙ nan-endless)))
 
 float-to-bits-bits : tie.Need-float-to-bits-bits
 float-to-bits-bits c = no-nan _ (c .if3 .left)
 
 returns-3 : tie.Need-returns-3
 returns-3 c =
-    let e = c .before .before in
+    told _ _ _
+    (let e = c .before .before in
     let t = e .before .before in
     let a = t .before .before .args in
-    sym (answer-21 (a .f) (a .reading) (intact-is t) (bits-are e) (eq-eqb _ 255 (c .if4 .taken)))
+    sym (answer-21 (a .f) (a .reading) (intact-is t) (bits-are e) (eq-eqb _ 255 (c .if4 .taken))))
 
 float-from-bits-t10 : tie.Need-float-from-bits-t10
 unfolding nanBits
@@ -72,23 +75,25 @@ zero-is = refl
 
 returns-4 : tie.Need-returns-4
 returns-4 c =
-    let z = c .before in
+    told _ _ _
+    (let z = c .before in
     let n = z .before in
     let e = n .before .before in
     let t = e .before .before in
     let a = t .before .before .args in
     ap ReadingAnswer.Right zero-is
-    ∙ sym (answer-zero (a .f) (a .reading) (intact-is t) (bits-are e) (ne-eqb _ 255 (n .if4 .left)) (zero-fields (toBits binary32 (a .reading)) (z .if5 .taken) (c .if6 .taken)))
+    ∙ sym (answer-zero (a .f) (a .reading) (intact-is t) (bits-are e) (ne-eqb _ 255 (n .if4 .left)) (zero-fields (toBits binary32 (a .reading)) (z .if5 .taken) (c .if6 .taken))))
 
 returns-5 : tie.Need-returns-5
 returns-5 c =
-    let z = c .before in
+    told _ _ _
+    (let z = c .before in
     let n = z .before in
     let e = n .before .before in
     let t = e .before .before in
     let a = t .before .before .args in
     let k = subnormal-fields (toBits binary32 (a .reading)) (z .if5 .taken) (c .if6 .left) in
-    sym (answer-22 (a .f) (a .reading) (intact-is t) (bits-are e) (ne-eqb _ 255 (n .if4 .left)) (k .0) (k .1))
+    sym (answer-22 (a .f) (a .reading) (intact-is t) (bits-are e) (ne-eqb _ 255 (n .if4 .left)) (k .0) (k .1)))
 
 -- a field below 256, neither 0 nor 255
 between : (b : ℕ) → ¬ (fieldOf b ≡ 0) → ¬ (fieldOf b ≡ 255) → (1 ≤ fieldOf b) × (fieldOf b < 255)
@@ -105,16 +110,17 @@ normal-requires c κs =
 
 returns-6 : tie.Need-returns-6
 returns-6 c =
-    let z = c .before in
+    told _ _ _
+    (let z = c .before in
     let n = z .before in
     let e = n .before .before in
     let t = e .before .before in
     let a = t .before .before .args in
     let k = normal-field (toBits binary32 (a .reading)) (z .if5 .left) in
-    c .normal .ensures ∙ sym (answer-normal (a .f) (a .reading) (intact-is t) (bits-are e) (ne-eqb _ 255 (n .if4 .left)) (k .0) (k .1))
+    c .normal .ensures ∙ sym (answer-normal (a .f) (a .reading) (intact-is t) (bits-are e) (ne-eqb _ 255 (n .if4 .left)) (k .0) (k .1)))
 
 returns-7 : tie.Need-returns-7
-returns-7 c = let a = c .before .before .args in sym (answer-31 (a .f) (a .reading) (sym (c .before .is-intact .ensures) ∙ c .if1 .left))
+returns-7 c = told _ _ _ (let a = c .before .before .args in sym (answer-31 (a .f) (a .reading) (sym (c .before .is-intact .ensures) ∙ c .if1 .left)))
 
 pub read-spec : {M : Type 1} → statement M
 read-spec =

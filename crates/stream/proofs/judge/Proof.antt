@@ -35,13 +35,13 @@ returns : tie.Need-returns
 returns c =
     let known = c .before .before .before in
     let same : toZ w32 (ofZ w32 (known .f .given .0 .0 .scale)) ≡ known .f .given .0 .0 .scale = search needs in
-    after-frame _ (known .f .given .0 .0) _ _ (c .set-up .ensures) same (sym (known .f .given .1) ∙ known .before .before .read-frame .ensures)
+    after-frame _ (known .f .given .0 .0) _ _ (c .set-up .ensures .0) same (sym (known .f .given .1) ∙ known .before .before .read-frame .ensures .0)
 
 returns-2 : tie.Need-returns-2
 unfolding judgedLine
 returns-2 c =
     let known = c .before in
-    ap judgedFrame (sym (known .j .given .1) ∙ known .before .before .read-frame .ensures)
+    ap judgedFrame (sym (known .j .given .1) ∙ known .before .before .read-frame .ensures .0)
 
 pub judge-spec : {M : Type 1} → statement M
 judge-spec =
