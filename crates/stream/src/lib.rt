@@ -229,7 +229,7 @@ fn at_line(number: u64, held: [u8; 40]) -> Progress
     }
 }
 
-// At the beginning: line 1, nothing kept.
+// At the beginning: line 1, nothing kept. What stands in `held` past what is kept is left free, here and after each step: nothing reads it.
 pub fn new() -> Progress
     ensures { λ r. ⌜ Fit r × (readOf r ≡ atLine 1) ⌝ }
 {
@@ -315,7 +315,7 @@ fn line_step(number: u64, held: [u8; 40], count: usize, out: &mut [u8], used: us
     }
 }
 
-// One step: from what was read so far, and the input from `at` on, to the bytes that it writes from `used` on.
+// One step: from what was read so far, and the input from `at` on, to the bytes that it writes from `used` on. Free is only what stands in `held` past what is kept.
 pub fn step(p: Progress, input: &[u8], at: usize, out: &mut [u8], used: usize) -> Move
     requires { ⌜ Fit p × (at ≤ length (now input)) × (used + 611 ≤ length (now out)) ⌝ }
     ensures { λ r. ⌜ Moved (stepOf (readOf p) (drop at (now (input .entry)))) (now (input .entry)) r (now (out .entry)) used (now (out .exit)) × (r .used ≤ used + 611) ⌝ }
