@@ -1,7 +1,7 @@
 -- Laws of how many suspects a plain call tries, and of the words that it has. Assumes nothing.
 use mathlib.Core.Path.{_≡_, refl, sym}
 use mathlib.Core.List.{List, [], _∷_, _++_, append-assoc}
-use Prim.Native.Nat.{ℕ, zero, suc, _+_, _-_, _≤_}
+use Prim.Native.Nat.{ℕ, zero, suc, _+_, _-_, _≤_, _<_}
 use native.Mathlib.Omega.{arith}
 use lib.ListN.{length, take, length-append}
 use Rattle.marks.specs.declared.Mark.{Mark}
@@ -67,6 +67,21 @@ words-fit mark (suc c) (suc f) (x ∷ l) =
   where
     go : (m : Mark) → length (wordsOf mark (take (tries mark c (suc f - notRight (mark x)) l) l)) ≤ suc f - notRight m
         → notRight m + length (wordsOf mark (take (tries mark c (suc f - notRight (mark x)) l) l)) ≤ suc f
+    go Right h = omega arith
+    go Open h = omega arith
+    go Wrong h = omega arith
+
+-- A call that leaves some of the row, though its cap is not reached, has filled its places.
+pub tries-full : (mark : ℕ → Mark) (c f : ℕ) (l : List ℕ) → tries mark c f l < c → tries mark c f l < length l → f ≤ length (wordsOf mark (take (tries mark c f l) l))
+unfolding tries wordsOf
+tries-full mark c f [] a b = absurd (omega arith)
+tries-full mark zero f (x ∷ l) a b = absurd (omega arith)
+tries-full mark (suc c) zero (x ∷ l) a b = omega arith
+tries-full mark (suc c) (suc f) (x ∷ l) a b =
+    rw (length-append (listed (mark x) x), listed-length (mark x) x) (go (mark x) (tries-full mark c (suc f - notRight (mark x)) l (omega arith) (omega arith)))
+  where
+    go : (m : Mark) → suc f - notRight m ≤ length (wordsOf mark (take (tries mark c (suc f - notRight (mark x)) l) l))
+        → suc f ≤ notRight m + length (wordsOf mark (take (tries mark c (suc f - notRight (mark x)) l) l))
     go Right h = omega arith
     go Open h = omega arith
     go Wrong h = omega arith

@@ -4,8 +4,8 @@ use mathlib.Core.List.{List, [], _∷_, _++_}
 use Prim.Native.Nat.{ℕ, suc, _+_, _≤_, _<_}
 use native.Mathlib.Nat.{add-zero}
 use native.Mathlib.Omega.{arith}
-use lib.ListN.{length, set, length-append}
-use lib.Seq.{sets, set-comm, length-sets, append-snoc}
+use lib.ListN.{length, take, drop, set, length-append}
+use lib.Seq.{sets, set-comm, length-sets, sets-eq, take-at, append-snoc}
 use Rattle.frame.specs.Digits.{digits}
 use Rattle.frame.specs.DigitLaws.{length-digits}
 use Rattle.frame.specs.Written.{Written}
@@ -32,6 +32,13 @@ written-then {l₁} {l₂} {l₃} {xs} {ys} {i} {j} {k} a b =
 -- The buffer is as long as it was.
 pub written-length : {l₁ l₂ xs : List ℕ} {i j : ℕ} → Written l₁ i xs l₂ j → length l₂ ≡ length l₁
 written-length {l₁} {l₂} {xs} {i} {j} a = ap length (a .list) ∙ length-sets l₁ i xs
+
+-- Bytes that are written from the beginning on, and fit, are the first ones.
+pub written-front : {l₁ l₂ xs : List ℕ} {j : ℕ} → Written l₁ 0 xs l₂ j → j ≤ length l₁ → take j l₂ ≡ xs
+written-front {l₁} {l₂} {xs} {j} a h =
+    let fits : 0 + length xs ≤ length l₁ = omega (arith, a .place) in
+    let size : length xs ≡ j = omega (arith, a .place) in
+    ap (take j) (a .list ∙ sets-eq xs l₁ 0 fits) ∙ take-at xs (drop (0 + length xs) l₁) j size
 
 -- Nothing.
 pub written-none : (l : List ℕ) (i : ℕ) → Written l i [] l i

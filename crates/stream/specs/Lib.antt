@@ -7,7 +7,10 @@ pub mod Keep
 pub mod Judged
 pub mod Step
 pub mod StepLaws
-pub mod Chunks
+pub mod Work
 pub mod PartLaws
 pub mod Moves
 pub mod MoveLaws
+pub mod WorkLaws
+pub mod LoopLaws
+pub mod Program

@@ -2,12 +2,14 @@
 use mathlib.Core.Path.{_≡_}
 use mathlib.Core.List.{List}
 use Prim.Native.Nat.{ℕ, _≤_}
-use lib.ListN.{length, drop}
+use lib.ListN.{length, take, drop}
 use Rattle.frame.specs.Written.{Written}
 use Rattle.stream.specs.declared.Turn.{Turn}
 use Rattle.stream.specs.declared.Move.{Move}
+use Rattle.stream.specs.declared.Worked.{Worked}
 use Rattle.stream.specs.Step.{readOf, Stepped}
 use Rattle.stream.specs.StepLaws.{Fit}
+use Rattle.stream.specs.Work.{Stretch}
 
 -- what was read then, and the bytes written from a place of the output on
 pub record Turned (s : Stepped) (r : Turn) (out : List ℕ) (used : ℕ) (after : List ℕ) : Type 0 where
@@ -22,3 +24,10 @@ pub record Moved (s : Stepped) (input : List ℕ) (r : Move) (out : List ℕ) (u
   pub inside : r .at ≤ length input
   pub left : drop (r .at) input ≡ s .left
   pub bytes : Written out used (s .bytes) after (r .used)
+
+-- and what comes after it; the bytes are the first of the output
+pub record WorkedOff (w : Stretch) (input : List ℕ) (r : Worked) (out after : List ℕ) : Type 0 where
+  pub moved : Moved (w .steps) input (r .moved) out 0 after
+  pub within : r .moved .used ≤ length out
+  pub front : take (r .moved .used) after ≡ w .steps .bytes
+  pub next : r .next ≡ w .next

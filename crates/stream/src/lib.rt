@@ -7,22 +7,23 @@ use sweep::SweepAnswer;
 use sweep::SweepState;
 use sweep::Swept;
 ghost use mathlib.Core.Path.{_≡_};
-ghost use mathlib.Core.Bool.{true};
+ghost use mathlib.Core.Bool.{true, _&&_};
 ghost use mathlib.Core.List.{[]};
-ghost use Prim.Native.Nat.{_+_, _*_, _≤_};
-ghost use lib.Dec.{ltb};
+ghost use Prim.Native.Nat.{_+_, _-_, _*_, _≤_};
+ghost use lib.Dec.{leb};
 ghost use lib.ListN.{length, take, drop};
 ghost use Rattle.factor.specs.SetUp.{intact};
 ghost use Rattle.frame.specs.Written.{Written};
 ghost use Rattle.stream.specs.declared.Task;
-ghost use Rattle.stream.specs.Output.{mostLines, wordLines};
+ghost use Rattle.stream.specs.Output.{wordLines};
 ghost use Rattle.stream.specs.SweepLaws.{odds};
 ghost use Rattle.stream.specs.Keep.{keep, kept, upToFeed};
 ghost use Rattle.stream.specs.Judged.{judgedLine};
-ghost use Rattle.stream.specs.Step.{begunWith, tallied, partLines, sweepingTask, readOf, atLine, judgedStep, taskStep, stepOf, endOf};
+ghost use Rattle.stream.specs.Step.{begunWith, tallied, partLines, sweepingTask, wantsStep, readOf, atLine, judgedStep, taskStep, stepOf, endOf};
+ghost use Rattle.stream.specs.Work.{mostWritten, allSteps, nextOf, workOf};
 ghost use Rattle.stream.specs.StepLaws.{Going, Counted, GoodTask, Fit};
 ghost use Rattle.stream.specs.PartLaws.{addedTo, Addable};
-ghost use Rattle.stream.specs.Moves.{Turned, Moved};
+ghost use Rattle.stream.specs.Moves.{Turned, Moved, WorkedOff};
 
 // The byte that ends a line.
 const LINE_FEED: u8 = 10;
@@ -40,7 +41,7 @@ const MOST_LINES: u64 = 65535;
 const NOT_A_FRAME: u32 = 24;
 
 // No step writes more bytes than this: 64 words and a report.
-pub const MOST_WRITTEN: usize = 611;
+const MOST_WRITTEN: usize = 611;
 
 // A sweep on its way: its state, and how many significands were tried, found wrong and found open.
 pub struct Tally {
@@ -64,11 +65,24 @@ pub struct Progress {
     pub task: Task,
 }
 
-// What a step comes to: the progress, where the input goes on, and where the output goes on.
+// What the program does next: it goes on with what it has, it reads, or it stops.
+pub enum Next {
+    Again,
+    Read,
+    Stop,
+}
+
+// What one step comes to, or several: the progress, where the input goes on, and where the output goes on.
 pub struct Move {
     pub progress: Progress,
     pub at: usize,
     pub used: usize,
+}
+
+// What is done between a read and a write, and what comes after it.
+pub struct Worked {
+    pub moved: Move,
+    pub next: Next,
 }
 
 // A sweep after one call, and where the output goes on.
@@ -229,7 +243,7 @@ fn at_line(number: u64, held: [u8; 40]) -> Progress
     }
 }
 
-// At the beginning: line 1, nothing kept. What stands in `held` past what is kept is left free, here and after each step: nothing reads it.
+// At the beginning: line 1, nothing kept. What stands in `held` past what is kept is left free, here and in what `work` hands back: nothing reads it.
 pub fn new() -> Progress
     ensures { λ r. ⌜ Fit r × (readOf r ≡ atLine 1) ⌝ }
 {
@@ -237,7 +251,7 @@ pub fn new() -> Progress
 }
 
 // Whether a sweep is on its way: then a step needs no input.
-pub fn is_sweeping(p: Progress) -> bool
+fn is_sweeping(p: Progress) -> bool
     ensures { λ r. ⌜ r ≡ sweepingTask (p .task) ⌝ }
 {
     let task = p.task;
@@ -245,13 +259,6 @@ pub fn is_sweeping(p: Progress) -> bool
         Task::Reading => false,
         Task::Sweeping(_) => true,
     }
-}
-
-// Whether the last line that counts is behind: then no input is read any more.
-pub fn is_over(p: Progress) -> bool
-    ensures { λ r. ⌜ r ≡ ltb mostLines (p .number) ⌝ }
-{
-    MOST_LINES < p.number
 }
 
 // A part of a sweep, and its report at the end.
@@ -315,8 +322,8 @@ fn line_step(number: u64, held: [u8; 40], count: usize, out: &mut [u8], used: us
     }
 }
 
-// One step: from what was read so far, and the input from `at` on, to the bytes that it writes from `used` on. Free is only what stands in `held` past what is kept.
-pub fn step(p: Progress, input: &[u8], at: usize, out: &mut [u8], used: usize) -> Move
+// One step: from what was read so far, and the input from `at` on, to the bytes that it writes from `used` on.
+fn step(p: Progress, input: &[u8], at: usize, out: &mut [u8], used: usize) -> Move
     requires { ⌜ Fit p × (at ≤ length (now input)) × (used + 611 ≤ length (now out)) ⌝ }
     ensures { λ r. ⌜ Moved (stepOf (readOf p) (drop at (now (input .entry)))) (now (input .entry)) r (now (out .entry)) used (now (out .exit)) × (r .used ≤ used + 611) ⌝ }
 {
@@ -365,7 +372,7 @@ pub fn step(p: Progress, input: &[u8], at: usize, out: &mut [u8], used: usize) -
 }
 
 // The end of the input: a last line without its line feed is refused.
-pub fn finish(p: Progress, out: &mut [u8], used: usize) -> usize
+fn finish(p: Progress, out: &mut [u8], used: usize) -> usize
     requires { ⌜ Fit p × (used + 611 ≤ length (now out)) ⌝ }
     ensures { λ r. ⌜ Written (now (out .entry)) used (endOf (readOf p)) (now (out .exit)) r × (r ≤ used + 611) ⌝ }
 {
@@ -382,4 +389,75 @@ pub fn finish(p: Progress, out: &mut [u8], used: usize) -> usize
             frame::put_refusal(out, used, p.number, NOT_A_FRAME)
         }
     }
+}
+
+// Whether a step is to be made: input is left, or a sweep is on its way.
+fn wants_step(p: Progress, input: &[u8], at: usize) -> bool
+    ensures { λ r. ⌜ r ≡ wantsStep (p .task) (drop at (now (input .entry))) ⌝ }
+{
+    if at < input.len() {
+        return true;
+    }
+    is_sweeping(p)
+}
+
+// Whether a step is to be made, and an output of this size has room for whatever it may write.
+fn may_step(m: Move, input: &[u8], size: usize) -> bool
+    requires { ⌜ m .used ≤ size ⌝ }
+    ensures { λ r. ⌜ r ≡ (wantsStep (m .progress .task) (drop (m .at) (now (input .entry))) && leb mostWritten (size - m .used)) ⌝ }
+{
+    let progress = m.progress;
+    wants_step(progress, input, m.at) && MOST_WRITTEN <= size - m.used
+}
+
+// Steps, as long as one is to be made and there is room for it.
+fn steps(p: Progress, input: &[u8], at: usize, out: &mut [u8]) -> Move
+    requires { ⌜ Fit p × (at ≤ length (now input)) ⌝ }
+    ensures { λ r. ⌜ Moved (allSteps (length (now (out .entry))) (readOf p) (drop at (now (input .entry)))) (now (input .entry)) r (now (out .entry)) 0 (now (out .exit)) × (r .used ≤ length (now (out .entry))) ⌝ }
+{
+    let mut moved = Move {
+        progress: p,
+        at,
+        used: 0,
+    };
+    while may_step(moved, input, out.len()) {
+        let progress = moved.progress;
+        moved = step(progress, input, moved.at, out, moved.used);
+    }
+    moved
+}
+
+// What the program does after it has written what the steps gave.
+fn next_after(p: Progress, input: &[u8], at: usize) -> Next
+    ensures { λ r. ⌜ r ≡ nextOf (readOf p) (drop at (now (input .entry))) ⌝ }
+{
+    if wants_step(p, input, at) {
+        return Next::Again;
+    }
+    if MOST_LINES < p.number {
+        return Next::Stop;
+    }
+    Next::Read
+}
+
+// All that the program does between a read and a write, with the input from `at` on and an output that is free. Where nothing is left to do, the read gave nothing: the input has ended.
+pub fn work(p: Progress, input: &[u8], at: usize, out: &mut [u8]) -> Worked
+    requires { ⌜ Fit p × (at ≤ length (now input)) × (611 ≤ length (now out)) ⌝ }
+    ensures { λ r. ⌜ WorkedOff (workOf (length (now (out .entry))) (readOf p) (drop at (now (input .entry)))) (now (input .entry)) r (now (out .entry)) (now (out .exit)) ⌝ }
+{
+    if !wants_step(p, input, at) {
+        let last = finish(p, out, 0);
+        return Worked {
+            moved: Move {
+                progress: p,
+                at,
+                used: last,
+            },
+            next: Next::Stop,
+        };
+    }
+    let moved = steps(p, input, at, out);
+    let progress = moved.progress;
+    let next = next_after(progress, input, moved.at);
+    Worked { moved, next }
 }

@@ -1,2 +1,0 @@
--- What holds between two steps.
-pub mod Held

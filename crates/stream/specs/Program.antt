@@ -1,0 +1,262 @@
+-- The program over an input that comes in chunks: whatever their sizes it comes to an end and writes the output of the whole input, and wherever it is cut short it has
+-- written a prefix of that. Assumes nothing.
+use mathlib.Core.Path.{_≡_, refl, sym, ap, _∙_}
+use mathlib.Core.Bool.{Bool, true, false, cond, true≢false}
+use mathlib.Core.List.{List, [], _∷_, _++_, append-assoc}
+use Prim.Native.Nat.{ℕ, zero, suc, _+_, _-_, _≤_, _<_}
+use native.Mathlib.Omega.{arith}
+use lib.Dec.{leb}
+use lib.ListN.{length, length-append}
+use borrow.Author.Tests.{leb-false}
+use Rattle.stream.specs.declared.Next
+use Rattle.stream.specs.declared.Next.{Next}
+use Rattle.stream.specs.declared.Task
+use Rattle.stream.specs.declared.Task.{Task}
+use Rattle.stream.specs.Output.{mostLines, output}
+use Rattle.stream.specs.PieceLaws.{append-nil, reading-past}
+use Rattle.stream.specs.Step.{Read, Stepped, sweepingTask, wantsStep, atLine, endOf}
+use Rattle.stream.specs.StepLaws.{restTask, restOf, Good, begin-good, end-tells, begin-tells}
+use Rattle.stream.specs.Work.{mostWritten, allSteps, Stretch, nextOf, workOf, chunkOf, chunksAfter, onward, loopOutput, program, inputOf}
+use Rattle.stream.specs.WorkLaws.{steps-tell, steps-good, steps-end}
+
+-- ---- where no step is wanted
+
+-- a line is being read, and the chunk is used up
+record Idle (task : Task) (left : List ℕ) : Type 0 where
+  reading : task ≡ Task.Reading
+  empty : left ≡ []
+
+idle : (task : Task) (left : List ℕ) → wantsStep task left ≡ false → Idle task left
+idle Task.Reading [] w = record { reading = refl; empty = refl }
+idle Task.Reading (b ∷ left) w = absurd (true≢false w)
+idle (Task.Sweeping t) [] w = absurd (true≢false w)
+idle (Task.Sweeping t) (b ∷ left) w = absurd (true≢false w)
+
+-- Nothing is lost by the stop after line 65,535: whatever comes later prints nothing.
+pub nothing-lost : (r : Read) (left : List ℕ) → wantsStep (r .task) left ≡ false → mostLines < r .number → (later : List ℕ) → restOf r later ≡ []
+unfolding restOf
+nothing-lost r left w h later = ap (λ (t : Task). restTask (r .number) (r .line) t later) (idle (r .task) left w .reading) ∙ reading-past (r .number) (r .line) later h
+
+-- ---- what is due
+
+-- From what was read, what is left of a chunk and the chunks to come: where no step is wanted, the input has ended.
+abbrev due : Read → (left : List ℕ) → (chunks : List (List ℕ)) → List ℕ
+due r left chunks = cond (wantsStep (r .task) left) (restOf r (left ++ inputOf chunks)) (restOf r [])
+
+-- after a read
+read-due : (r : Read) (left : List ℕ) → wantsStep (r .task) left ≡ false → (chunks : List (List ℕ)) → restOf r (inputOf chunks) ≡ due r (chunkOf chunks) (chunksAfter chunks)
+unfolding inputOf
+read-due r left w chunks = go chunks
+  where
+    ended : wantsStep (r .task) [] ≡ false
+    ended = let i = idle (r .task) left w in ap sweepingTask (i .reading)
+
+    go : (chunks : List (List ℕ)) → restOf r (inputOf chunks) ≡ due r (chunkOf chunks) (chunksAfter chunks)
+    go [] = rw ended
+    go ([] ∷ chunks) = rw ended
+    go ((b ∷ chunk) ∷ chunks) = refl
+
+-- after steps
+steps-due : (r : Read) (left : List ℕ) (chunks : List (List ℕ))
+    → restOf r (left ++ inputOf chunks) ≡ onward (nextOf r left) (due r left chunks) (due r (chunkOf chunks) (chunksAfter chunks))
+steps-due r left chunks = go (wantsStep (r .task) left) refl
+  where
+    later : List ℕ
+    later = inputOf chunks
+
+    more : List ℕ
+    more = due r (chunkOf chunks) (chunksAfter chunks)
+
+    Due : Bool → Bool → Type 0
+    Due b few = restOf r (left ++ later) ≡ onward (cond b Next.Again (cond few Next.Read Next.Stop)) (cond b (restOf r (left ++ later)) (restOf r [])) more
+
+    unwanted : wantsStep (r .task) left ≡ false → (few : Bool) → leb (r .number) mostLines ≡ few → Due false few
+    unwanted w true e = ap (λ (l : List ℕ). restOf r (l ++ later)) (idle (r .task) left w .empty) ∙ read-due r left w chunks
+    unwanted w false e = nothing-lost r left w (leb-false (r .number) mostLines e) (left ++ later)
+
+    go : (b : Bool) → wantsStep (r .task) left ≡ b → Due b (leb (r .number) mostLines)
+    go true w = refl
+    go false w = unwanted w (leb (r .number) mostLines) refl
+
+-- ---- one turn
+
+module _ (room : ℕ) (r : Read) (g : Good r) (left : List ℕ) where
+  abbrev work : Stretch
+  work = workOf room r left
+
+  abbrev after : Read
+  after = work .steps .read
+
+  abbrev steps : Stepped
+  steps = allSteps room r left
+
+  -- either steps are made, or the input has ended
+  abbrev made : Bool → Stretch
+  made b = cond b (record { steps = steps; next = nextOf (steps .read) (steps .left) }) (record { steps = record { read = r; left = left; bytes = endOf r }; next = Next.Stop })
+
+  after-good : Good after
+  unfolding workOf
+  after-good = go (wantsStep (r .task) left)
+    where
+      go : (b : Bool) → Good (made b .steps .read)
+      go true = steps-good (length left + room) room r g left
+      go false = g
+
+  module _ (chunks : List (List ℕ)) where
+    -- A turn loses nothing: what it writes, and what is due after it, is what was due.
+    turn-tells : due r left chunks ≡ work .steps .bytes ++ onward (work .next) (due after (work .steps .left) chunks) (due after (chunkOf chunks) (chunksAfter chunks))
+    unfolding workOf
+    turn-tells = go (wantsStep (r .task) left) refl
+      where
+        go : (b : Bool) → wantsStep (r .task) left ≡ b
+            → cond b (restOf r (left ++ inputOf chunks)) (restOf r [])
+            ≡ made b .steps .bytes ++ onward (made b .next) (due (made b .steps .read) (made b .steps .left) chunks) (due (made b .steps .read) (chunkOf chunks) (chunksAfter chunks))
+        go true w = steps-tell (inputOf chunks) (length left + room) room r g left ∙ ap (λ (l : List ℕ). steps .bytes ++ l) (steps-due (steps .read) (steps .left) chunks)
+        go false w = end-tells r g (idle (r .task) left w .reading) ∙ sym (append-nil (endOf r))
+
+  -- a turn that goes on without a read has written something
+  again-writes : mostWritten ≤ room → work .next ≡ Next.Again → 0 < length (work .steps .bytes)
+  unfolding workOf
+  again-writes h = go (wantsStep (r .task) left)
+    where
+      still : (b few : Bool) → cond b Next.Again (cond few Next.Read Next.Stop) ≡ Next.Again → b ≡ true
+      still true few e = refl
+      still false true e = let z : _≡_ {A = ℕ} 0 1 = cc in absurd (omega arith)
+      still false false e = let z : _≡_ {A = ℕ} 0 1 = cc in absurd (omega arith)
+
+      go : (b : Bool) → made b .next ≡ Next.Again → 0 < length (made b .steps .bytes)
+      go true e =
+          let full = steps-end (length left + room) room r g left (omega arith) (still (wantsStep (steps .read .task) (steps .left)) (leb (steps .read .number) mostLines) e) in
+          omega arith
+      go false e = let z : _≡_ {A = ℕ} 0 1 = cc in absurd (omega arith)
+
+  -- a turn that reads wants no step
+  read-ended : work .next ≡ Next.Read → wantsStep (after .task) [] ≡ false
+  unfolding workOf
+  read-ended = go (wantsStep (r .task) left)
+    where
+      unwanted : (s : Read) (l : List ℕ) (b few : Bool) → wantsStep (s .task) l ≡ b → cond b Next.Again (cond few Next.Read Next.Stop) ≡ Next.Read → wantsStep (s .task) [] ≡ false
+      unwanted s l true few w e = let z : _≡_ {A = ℕ} 0 1 = cc in absurd (omega arith)
+      unwanted s l false few w e = ap sweepingTask (idle (s .task) l w .reading)
+
+      go : (b : Bool) → made b .next ≡ Next.Read → wantsStep (made b .steps .read .task) [] ≡ false
+      go true e = unwanted (steps .read) (steps .left) (wantsStep (steps .read .task) (steps .left)) (leb (steps .read .number) mostLines) refl e
+      go false e = let z : _≡_ {A = ℕ} 0 1 = cc in absurd (omega arith)
+
+-- ---- the program is cut short
+
+-- bytes with which others begin
+pub record Prefix (some all : List ℕ) : Type 0 where
+  pub rest : List ℕ
+  pub is : all ≡ some ++ rest
+
+onward-prefix : (n : Next) (a b c d : List ℕ) → Prefix a b → Prefix c d → Prefix (onward n a c) (onward n b d)
+onward-prefix Next.Again a b c d p q = p
+onward-prefix Next.Read a b c d p q = q
+onward-prefix Next.Stop a b c d p q = record { rest = []; is = refl }
+
+loop-prefix : (turns room : ℕ) (r : Read) → Good r → (left : List ℕ) (chunks : List (List ℕ)) → Prefix (loopOutput turns room r left chunks) (due r left chunks)
+unfolding loopOutput
+loop-prefix zero room r g left chunks = record { rest = due r left chunks; is = refl }
+loop-prefix (suc turns) room r g left chunks =
+    let w = workOf room r left in
+    let good = after-good room r g left in
+    let p = onward-prefix (w .next) _ _ _ _ (loop-prefix turns room (w .steps .read) good (w .steps .left) chunks) (loop-prefix turns room (w .steps .read) good (chunkOf chunks) (chunksAfter chunks)) in
+    record { rest = p .rest; is = turn-tells room r g left chunks ∙ ap (λ (l : List ℕ). w .steps .bytes ++ l) (p .is) ∙ sym (append-assoc (w .steps .bytes) _ (p .rest)) }
+
+begin-due : (chunks : List (List ℕ)) → due (atLine 1) (chunkOf chunks) (chunksAfter chunks) ≡ output (inputOf chunks)
+begin-due chunks = sym (read-due (atLine 1) [] refl chunks) ∙ begin-tells (inputOf chunks)
+
+-- After any number of turns a prefix of the output is written, whatever chunks come later; and if the last write took only some of its bytes, still.
+pub program-prefix : (turns room : ℕ) (chunks : List (List ℕ)) (taken : List ℕ) → Prefix taken (program turns room chunks) → Prefix taken (output (inputOf chunks))
+unfolding program
+program-prefix turns room chunks taken p =
+    let q = loop-prefix turns room (atLine 1) begin-good (chunkOf chunks) (chunksAfter chunks) in
+    record { rest = p .rest ++ q .rest; is = sym (begin-due chunks) ∙ q .is ∙ ap (λ (l : List ℕ). l ++ q .rest) (p .is) ∙ append-assoc taken (p .rest) (q .rest) }
+
+-- ---- the program comes to an end
+
+-- from so many turns on, all that is due is written
+record Comes (room : ℕ) (r : Read) (left : List ℕ) (chunks : List (List ℕ)) : Type 0 where
+  turns : ℕ
+  all : (m : ℕ) → turns ≤ m → loopOutput m room r left chunks ≡ due r left chunks
+
+module _ (room : ℕ) (h : mostWritten ≤ room) where
+  -- one turn, and what comes after it
+  turn-comes : (r : Read) (g : Good r) (left : List ℕ) (chunks : List (List ℕ)) (n : Next) → workOf room r left .next ≡ n
+      → (n ≡ Next.Again → Comes room (workOf room r left .steps .read) (workOf room r left .steps .left) chunks)
+      → (n ≡ Next.Read → Comes room (workOf room r left .steps .read) (chunkOf chunks) (chunksAfter chunks))
+      → Comes room r left chunks
+  unfolding loopOutput
+  turn-comes r g left chunks n e again more = go n e again more
+    where
+      w : Stretch
+      w = workOf room r left
+
+      onwards : (a c : List ℕ) → List ℕ
+      onwards a c = w .steps .bytes ++ onward (w .next) a c
+
+      told : due r left chunks ≡ onwards (due (w .steps .read) (w .steps .left) chunks) (due (w .steps .read) (chunkOf chunks) (chunksAfter chunks))
+      told = turn-tells room r g left chunks
+
+      by : (turns : ℕ)
+          → ((m : ℕ) → turns ≤ m → onward (w .next) (loopOutput m room (w .steps .read) (w .steps .left) chunks) (loopOutput m room (w .steps .read) (chunkOf chunks) (chunksAfter chunks))
+          ≡ onward (w .next) (due (w .steps .read) (w .steps .left) chunks) (due (w .steps .read) (chunkOf chunks) (chunksAfter chunks)))
+          → Comes room r left chunks
+      by turns f = record { turns = suc turns; all = all }
+        where
+          all : (m : ℕ) → suc turns ≤ m → loopOutput m room r left chunks ≡ due r left chunks
+          all zero k = absurd (omega arith)
+          all (suc m) k = ap (λ (l : List ℕ). w .steps .bytes ++ l) (f m (omega arith)) ∙ sym told
+
+      go : (n : Next) → w .next ≡ n
+          → (n ≡ Next.Again → Comes room (w .steps .read) (w .steps .left) chunks)
+          → (n ≡ Next.Read → Comes room (w .steps .read) (chunkOf chunks) (chunksAfter chunks))
+          → Comes room r left chunks
+      go Next.Again e again more = let c = again refl in by (c .turns) (λ m k. rw e (c .all m k))
+      go Next.Read e again more = let c = more refl in by (c .turns) (λ m k. rw e (c .all m k))
+      go Next.Stop e again more = by 0 (λ m k. rw e)
+
+  -- nothing is left to read
+  ended-comes : (r : Read) → Good r → wantsStep (r .task) [] ≡ false → (chunks : List (List ℕ)) → Comes room r [] chunks
+  unfolding workOf
+  ended-comes r g w chunks =
+      let stop : workOf room r [] .next ≡ Next.Stop = rw w in
+      turn-comes r g [] chunks Next.Stop stop (λ e. let z : _≡_ {A = ℕ} 0 1 = cc in absurd (omega arith)) (λ e. let z : _≡_ {A = ℕ} 0 1 = cc in absurd (omega arith))
+
+  -- a turn that goes on without a read leaves less to print
+  fewer : (r : Read) (g : Good r) (left : List ℕ) (chunks : List (List ℕ)) → workOf room r left .next ≡ Next.Again
+      → length (due (workOf room r left .steps .read) (workOf room r left .steps .left) chunks) < length (due r left chunks)
+  fewer r g left chunks e =
+      let w = workOf room r left in
+      let again = due (w .steps .read) (w .steps .left) chunks in
+      let told : due r left chunks ≡ w .steps .bytes ++ again = turn-tells room r g left chunks ∙ rw e in
+      omega (arith, again-writes room r g left h e, ap length told, length-append (w .steps .bytes) again)
+
+  -- a chunk, of which so much is still to print
+  chunk-comes : (chunks : List (List ℕ))
+      → ((r : Read) → Good r → wantsStep (r .task) [] ≡ false → Comes room r (chunkOf chunks) (chunksAfter chunks))
+      → (n : ℕ) (r : Read) → Good r → (left : List ℕ) → length (due r left chunks) ≤ n → Comes room r left chunks
+  chunk-comes chunks later zero r g left k =
+      turn-comes r g left chunks (workOf room r left .next) refl
+      (λ e. absurd (omega (arith, fewer r g left chunks e)))
+      (λ e. later (workOf room r left .steps .read) (after-good room r g left) (read-ended room r g left e))
+  chunk-comes chunks later (suc n) r g left k =
+      turn-comes r g left chunks (workOf room r left .next) refl
+      (λ e. chunk-comes chunks later n (workOf room r left .steps .read) (after-good room r g left) (workOf room r left .steps .left) (omega (arith, fewer r g left chunks e)))
+      (λ e. later (workOf room r left .steps .read) (after-good room r g left) (read-ended room r g left e))
+
+  comes : (chunks : List (List ℕ)) (r : Read) → Good r → (left : List ℕ) → Comes room r left chunks
+  comes [] r g left = chunk-comes [] (λ s q w. ended-comes s q w []) (length (due r left [])) r g left (omega arith)
+  comes (chunk ∷ chunks) r g left = chunk-comes (chunk ∷ chunks) (λ s q w. comes chunks s q chunk) (length (due r left (chunk ∷ chunks))) r g left (omega arith)
+
+-- The program comes to an end, and has then written the output of its input: from so many turns on. Chunk sizes cannot matter.
+pub record Ends (room : ℕ) (chunks : List (List ℕ)) : Type 0 where
+  pub turns : ℕ
+  pub all : (m : ℕ) → turns ≤ m → program m room chunks ≡ output (inputOf chunks)
+
+pub program-ends : (room : ℕ) → mostWritten ≤ room → (chunks : List (List ℕ)) → Ends room chunks
+unfolding program
+program-ends room h chunks =
+    let c = comes room h (chunksAfter chunks) (atLine 1) begin-good (chunkOf chunks) in
+    record { turns = c .turns; all = λ m k. c .all m k ∙ begin-due chunks }
