@@ -9,6 +9,7 @@ mod compare;
 #[cfg(engine)]
 mod engine;
 mod factor;
+mod faults;
 mod figures;
 mod frame;
 #[cfg(engine)]
@@ -28,6 +29,7 @@ const USAGE: &str = "reference plotconst   frames from standard input, reports t
 reference cases       lines of calls from standard input, each answered
 reference selftest    document 01's figures and the reference's methods against each other
 reference lines       lines for plotconst, frames and others
+reference faults      plotconst (target/bin) when reads and writes are small or fail
 reference compare     the engine against the reference (only if it was linked: reference/build)
 reference bench       the engine's time against the reference's (the same)";
 
@@ -40,6 +42,7 @@ fn main() -> io::Result<()> {
         "cases" => cases::cases(&mut input, &mut output)?,
         "selftest" => figures::selftest(&mut output)?,
         "lines" => lines::lines(&mut output)?,
+        "faults" => faults::faults(&mut output)?,
         #[cfg(engine)]
         "compare" => compare::compare(&mut output)?,
         #[cfg(engine)]
