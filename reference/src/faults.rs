@@ -79,7 +79,11 @@ pub fn faults(output: &mut dyn Write) -> io::Result<()> {
     for (most, fails) in [(65_536, 1), (65_536, 2), (1000, 2), (1000, 30), (39, 2), (39, 777), (40, 2)] {
         let settings = [("READ_MOST", most), ("READ_FAILS", fails), ("ERRNO", DEVICE.into())];
         let run = run(&settings)?;
-        check(run.stdout == due_of(&input, (most * (fails - 1)) as usize)?, "not what is due of the lines read", &settings);
+        check(
+            run.stdout == due_of(&input, (most * (fails - 1)) as usize)?,
+            "not what is due of the lines read",
+            &settings,
+        );
         check(told(&run, "plotconst: cannot read standard input"), "not told", &settings);
     }
     writeln!(output, "faults: {runs} checks of plotconst with small or failing reads and writes")

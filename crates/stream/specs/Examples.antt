@@ -1,4 +1,4 @@
--- Document 01's whole example, to the byte, by computation; and what other inputs print. Assumes nothing.
+-- Document 01's whole example, to the byte, by computation, as one input and in chunks; and what other inputs print. Assumes nothing.
 use mathlib.Core.Path.{_≡_, refl}
 use mathlib.Core.List.{List, [] as []ᴸ, _∷_ as _∷ᴸ_}
 use Prim.Native.Nat.{ℕ}
@@ -12,15 +12,19 @@ use Rattle.factor.specs.SetUp.{setUp, partsOf, appliedOf}
 use Rattle.product.specs.Product.{product}
 use Rattle.product.specs.Marks.{mark}
 use Rattle.suspects.specs.Suspects.{isSuspect}
-use Rattle.calls.specs.Plain.{row, pick, span, spanOf, wordsOf}
+use Rattle.calls.specs.Plain.{row, pick, span, spanOf, tries, wordsOf}
 use Rattle.frame.specs.Digits.{digitByte, digits, digitValue, valueAfter, fieldAt}
 use Rattle.frame.specs.Frame.{spaced, frameOf}
 use Rattle.frame.specs.Report.{wordLine, reportLine, refusalLine}
 use Rattle.stream.specs.Output.{suspectsOf, counted, wordLines, sweptOutput, lineOutput, pieces, linesOutput, output}
+use Rattle.stream.specs.Keep.{kept, upToFeed}
+use Rattle.stream.specs.Judged.{judgedLine}
+use Rattle.stream.specs.Step.{stepOf, endOf}
+use Rattle.stream.specs.Work.{stepsOf, workOf, loopOutput, program}
 
 -- the bytes of a text; the line below names what has to unfold for the program to compute
 bytes : String → List ℕ
-unfolding digitByte digits digitValue valueAfter fieldAt spaced frameOf wordLine reportLine refusalLine setUp partsOf appliedOf partsAt rounded nearest product mark isSuspect row pick span spanOf wordsOf suspectsOf counted wordLines sweptOutput lineOutput pieces linesOutput output Ieee.round Ieee.size
+unfolding digitByte digits digitValue valueAfter fieldAt spaced frameOf wordLine reportLine refusalLine setUp partsOf appliedOf partsAt rounded nearest product mark isSuspect row pick span spanOf wordsOf suspectsOf counted wordLines sweptOutput lineOutput pieces linesOutput output tries kept upToFeed judgedLine stepOf endOf stepsOf workOf loopOutput program Ieee.round Ieee.size
 bytes [] = []ᴸ
 bytes (c ∷ s) = code c ∷ᴸ bytes s
 
@@ -44,3 +48,21 @@ no-line-feed = refl
 refused : output (bytes "03 00 6000000000000000 6000000000000000\n03 00 6000000000000000\n") ≡ bytes "0001 FF 11\n0002 FF 24\n"
 unfolding bytes
 refused = refl
+
+-- ---- the program's loop
+
+-- the example in chunks that cut its lines, with room for one step at a time: the same output
+in-chunks :
+    program 20 611 (bytes "04 00 60000" ∷ᴸ bytes "00000000000 6000000000000000\n04 00 4BFFFC0000000000 4BFFFC0000000000\n0" ∷ᴸ bytes "4 00 51C71C71C71C71C7 51C71C71C71C71C8\n" ∷ᴸ []ᴸ)
+    ≡ bytes "0001 00 00000002 00000000 00000000\n00000010\n0002 01 00000001 00000001 00000000\n00000013\n0003 02 00000001 00000000 00000001\n"
+unfolding bytes
+in-chunks = refl
+
+-- a last line without its line feed is refused when a read gives nothing; cut short before that, it is not
+unfinished : program 20 65536 (bytes "\n04" ∷ᴸ bytes " 00" ∷ᴸ []ᴸ) ≡ bytes "0001 FF 24\n0002 FF 24\n"
+unfolding bytes
+unfinished = refl
+
+cut-short : program 2 65536 (bytes "\n04" ∷ᴸ bytes " 00" ∷ᴸ []ᴸ) ≡ bytes "0001 FF 24\n"
+unfolding bytes
+cut-short = refl

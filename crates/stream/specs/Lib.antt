@@ -1,6 +1,5 @@
 -- The program as a function, with its examples and its laws.
 pub mod Output
-pub mod Examples
 pub mod PieceLaws
 pub mod SweepLaws
 pub mod Keep
@@ -14,3 +13,4 @@ pub mod MoveLaws
 pub mod WorkLaws
 pub mod LoopLaws
 pub mod Program
+pub mod Examples
