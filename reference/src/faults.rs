@@ -46,45 +46,90 @@ fn due_of(input: &[u8], size: usize) -> io::Result<Vec<u8>> {
     Ok(due)
 }
 
+/// Runs, each held to what it must print and say.
+struct Checked<'a> {
+    input: &'a [u8],
+    due: &'a [u8],
+    runs: usize,
+}
+
+impl Checked<'_> {
+    /// What a run printed, after what holds of any: it ended by itself, and said these words in one line, or nothing.
+    fn run(&mut self, settings: &[(&str, u64)], words: &str) -> io::Result<Vec<u8>> {
+        self.runs += 1;
+        let run = run(settings)?;
+        assert!(run.status.success(), "ended by {:?}, with {settings:?}", run.status);
+        assert!(told(&run, words), "said {:?}, with {settings:?}", String::from_utf8_lossy(&run.stderr));
+        Ok(run.stdout)
+    }
+
+    /// Sizes do not matter.
+    fn sizes(&mut self) -> io::Result<()> {
+        for most in [1, 2, 39, 40, 41, 1000, 4096, 65_536] {
+            for name in ["READ_MOST", "WRITE_MOST"] {
+                let printed = self.run(&[(name, most)], "")?;
+                assert!(printed == self.due, "{name} {most}: not what is due");
+            }
+        }
+        Ok(())
+    }
+
+    /// A write that failed is the last, whichever of them it is: each time a longer part of what is due is printed, and nothing else.
+    fn writes(&mut self, most: u64, step: usize) -> io::Result<()> {
+        let mut before = None;
+        for call in (1..).step_by(step) {
+            let settings = [("WRITE_MOST", most), ("WRITE_FAILS", call), ("ERRNO", DISK_FULL.into())];
+            let writes = self.due.len() as u64 / most;
+            if call > writes && run(&settings)?.stdout == self.due {
+                assert!(call > 2, "no write failed");
+                return Ok(());
+            }
+            let printed = self.run(&settings, "plotconst: cannot write standard output")?;
+            assert!(self.due.starts_with(&printed), "not a prefix of what is due, with {settings:?}");
+            assert!(printed.is_empty() == (call == 1), "not what was written before, with {settings:?}");
+            assert!(
+                before < Some(printed.len()) && printed.len() < self.due.len(),
+                "{} bytes, with {settings:?}",
+                printed.len()
+            );
+            before = Some(printed.len());
+        }
+        Ok(())
+    }
+
+    /// Every reason is told, but that nobody reads any more.
+    fn reasons(&mut self) -> io::Result<()> {
+        for reason in [INTERRUPTED, DEVICE, WOULD_BLOCK, NO_READER] {
+            let settings = [("WRITE_FAILS", 3), ("ERRNO", reason.into())];
+            let words = if reason == NO_READER { "" } else { "plotconst: cannot write standard output" };
+            let printed = self.run(&settings, words)?;
+            assert!(
+                self.due.starts_with(&printed) && printed.len() < self.due.len(),
+                "not a prefix, with {settings:?}"
+            );
+        }
+        Ok(())
+    }
+
+    /// A read that failed is the last: what is due of the lines that were read is printed, and of the unfinished one nothing.
+    fn reads(&mut self) -> io::Result<()> {
+        for (most, call) in [(65_536, 1), (65_536, 2), (1000, 2), (1000, 30), (39, 2), (39, 777), (40, 2), (41, 2)] {
+            let settings = [("READ_MOST", most), ("READ_FAILS", call), ("ERRNO", DEVICE.into())];
+            let printed = self.run(&settings, "plotconst: cannot read standard input")?;
+            let due = due_of(self.input, (most * (call - 1)) as usize)?;
+            assert!(printed == due, "not what is due of the lines read, with {settings:?}");
+        }
+        Ok(())
+    }
+}
+
 pub fn faults(output: &mut dyn Write) -> io::Result<()> {
     let (input, due) = (fs::read(INPUT)?, fs::read(DUE)?);
-    let mut runs = 0;
-    let mut check = |holds: bool, what: &str, settings: &[(&str, u64)]| {
-        runs += 1;
-        assert!(holds, "{what}, with {settings:?}");
-    };
-
-    // Sizes do not matter.
-    for most in [1, 2, 39, 40, 41, 1000, 4096] {
-        for settings in [[("READ_MOST", most), ("WRITE_MOST", 65_536)], [("READ_MOST", 65_536), ("WRITE_MOST", most)]] {
-            let run = run(&settings)?;
-            check(run.stdout == due && told(&run, ""), "not what is due", &settings);
-        }
-    }
-
-    // A write that failed is the last: what was written is a prefix of what was due. A reader that has gone is not told.
-    for (most, fails) in [(65_536, 1), (65_536, 2), (65_536, 5), (65_536, 9), (100, 1), (100, 2), (100, 700)] {
-        for reason in [INTERRUPTED, DEVICE, WOULD_BLOCK, DISK_FULL, NO_READER] {
-            let settings = [("WRITE_MOST", most), ("WRITE_FAILS", fails), ("ERRNO", reason.into())];
-            let run = run(&settings)?;
-            let words = if reason == NO_READER { "" } else { "plotconst: cannot write standard output" };
-            check(due.starts_with(&run.stdout), "not a prefix of what is due", &settings);
-            check(run.stdout.len() < due.len(), "a failed write, and all is written", &settings);
-            check((run.stdout.is_empty()) == (fails == 1), "not what was written before the failure", &settings);
-            check(told(&run, words), "not told", &settings);
-        }
-    }
-
-    // A read that failed is the last: what is due of the lines that were read is written, and of the unfinished one nothing.
-    for (most, fails) in [(65_536, 1), (65_536, 2), (1000, 2), (1000, 30), (39, 2), (39, 777), (40, 2)] {
-        let settings = [("READ_MOST", most), ("READ_FAILS", fails), ("ERRNO", DEVICE.into())];
-        let run = run(&settings)?;
-        check(
-            run.stdout == due_of(&input, (most * (fails - 1)) as usize)?,
-            "not what is due of the lines read",
-            &settings,
-        );
-        check(told(&run, "plotconst: cannot read standard input"), "not told", &settings);
-    }
-    writeln!(output, "faults: {runs} checks of plotconst with small or failing reads and writes")
+    let mut checked = Checked { input: &input, due: &due, runs: 0 };
+    checked.sizes()?;
+    checked.writes(65_536, 1)?;
+    checked.writes(1000, 37)?;
+    checked.reasons()?;
+    checked.reads()?;
+    writeln!(output, "faults: {} runs of plotconst with small or failing reads and writes", checked.runs)
 }

@@ -51,18 +51,7 @@ refused = refl
 
 -- ---- the program's loop
 
--- the example in chunks that cut its lines, with room for one step at a time: the same output
-in-chunks :
-    program 20 611 (bytes "04 00 60000" ∷ᴸ bytes "00000000000 6000000000000000\n04 00 4BFFFC0000000000 4BFFFC0000000000\n0" ∷ᴸ bytes "4 00 51C71C71C71C71C7 51C71C71C71C71C8\n" ∷ᴸ []ᴸ)
-    ≡ bytes "0001 00 00000002 00000000 00000000\n00000010\n0002 01 00000001 00000001 00000000\n00000013\n0003 02 00000001 00000000 00000001\n"
+-- with room for one step that writes, and a line that two chunks share: it is refused only when a read gives nothing
+in-chunks : program 4 611 (bytes "\n0" ∷ᴸ bytes "4" ∷ᴸ []ᴸ) ≡ bytes "0001 FF 24\n0002 FF 24\n"
 unfolding bytes
 in-chunks = refl
-
--- a last line without its line feed is refused when a read gives nothing; cut short before that, it is not
-unfinished : program 20 65536 (bytes "\n04" ∷ᴸ bytes " 00" ∷ᴸ []ᴸ) ≡ bytes "0001 FF 24\n0002 FF 24\n"
-unfolding bytes
-unfinished = refl
-
-cut-short : program 2 65536 (bytes "\n04" ∷ᴸ bytes " 00" ∷ᴸ []ᴸ) ≡ bytes "0001 FF 24\n"
-unfolding bytes
-cut-short = refl

@@ -5,7 +5,7 @@ use mathlib.Core.List.{List, [], _++_, append-assoc}
 use Prim.Native.Nat.{ℕ, zero, suc, _+_, _-_, _≤_, _<_}
 use native.Mathlib.Omega.{arith}
 use lib.Dec.{leb}
-use lib.ListN.{length, drop, length-drop, drop-of-length-le}
+use lib.ListN.{length, take, drop, length-drop, drop-of-length-le}
 use lib.Seq.{drop-cons}
 use borrow.Author.Tests.{leb-true, leb-false, le-leb, lt-leb}
 use Rattle.frame.specs.Written.{Written}
@@ -15,13 +15,14 @@ use Rattle.stream.specs.declared.Next
 use Rattle.stream.specs.declared.Next.{Next}
 use Rattle.stream.specs.declared.Progress.{Progress}
 use Rattle.stream.specs.declared.Task.{Task}
+use Rattle.stream.specs.declared.Worked.{Worked}
 use Rattle.stream.specs.Output.{mostLines}
 use Rattle.stream.specs.PieceLaws.{append-nil}
-use Rattle.stream.specs.Step.{Read, Stepped, sweepingTask, wantsStep, readOf, stepOf, endOf}
+use Rattle.stream.specs.Step.{mostWritten, Read, Stepped, sweepingTask, wantsStep, readOf, stepOf, endOf}
 use Rattle.stream.specs.StepLaws.{Fit}
 use Rattle.stream.specs.Moves.{Moved, WorkedOff}
 use Rattle.stream.specs.MoveLaws.{step-short}
-use Rattle.stream.specs.Work.{mostWritten, noStep, andThen, stepsOf, allSteps, Stretch, nextOf, workOf}
+use Rattle.stream.specs.Work.{noStep, andThen, stepsOf, allSteps, Stretch, nextOf, workOf}
 use Rattle.stream.specs.WorkLaws.{step-uses, steps-none, steps-more, steps-unwanted, steps-full}
 
 -- ---- the loop
@@ -86,7 +87,7 @@ module _ (all : Stepped) (input out₀ : List ℕ) (m : Move) (out : List ℕ) (
   pub used-within : m .used ≤ length out
   used-within = omega (arith, same-size, b .within)
 
-  pub room-for-step : test ≡ true → m .used + 611 ≤ length out
+  pub room-for-step : test ≡ true → m .used + mostWritten ≤ length out
   room-for-step t = omega (arith, used-within, leb-true mostWritten (length out - m .used) (and-true (wantsStep (r .task) left) (leb mostWritten (length out - m .used)) t .1))
 
   -- one step more
@@ -100,7 +101,7 @@ module _ (all : Stepped) (input out₀ : List ℕ) (m : Move) (out : List ℕ) (
     h : mostWritten ≤ room
     h = omega (arith, same-size, leb-true mostWritten (length out - m .used) (and-true (wantsStep (r .task) left) (leb mostWritten (length out - m .used)) t .1))
 
-    short : length (s .bytes) ≤ 611
+    short : length (s .bytes) ≤ mostWritten
     short = step-short r left
 
     used : length (s .left) < length left + length (s .bytes)
@@ -206,7 +207,11 @@ module _ (room : ℕ) (r : Read) (left : List ℕ) where
 -- what comes out of it
 worked-off : (w : Stretch) (input : List ℕ) (m : Move) (n : Next) (out after : List ℕ) → Moved (w .steps) input m out 0 after → m .used ≤ length out → n ≡ w .next
     → WorkedOff w input (record { moved = m; next = n }) out after
-worked-off w input m n out after d h e = record { moved = d; within = h; front = written-front (d .bytes) h; next = e }
+worked-off w input m n out after d h e = record { moved = d; within = h; next = e }
+
+-- The first bytes of the output, as many as are used, are the steps'.
+pub worked-front : (w : Stretch) (input : List ℕ) (r : Worked) (out after : List ℕ) → WorkedOff w input r out after → take (r .moved .used) after ≡ w .steps .bytes
+worked-front w input r out after d = written-front (d .moved .bytes) (d .within)
 
 module _ (p : Progress) (fit : Fit p) (input : List ℕ) (at : ℕ) (h : at ≤ length input) (out after : List ℕ) where
   pub worked-ended : wantsStep (p .task) (drop at input) ≡ false → (used : ℕ) → Written out 0 (endOf (readOf p)) after used → used ≤ length out

@@ -27,7 +27,7 @@ use Rattle.stream.specs.Output.{mostLines}
 use Rattle.stream.specs.PieceLaws.{mostKept}
 use Rattle.stream.specs.Keep.{kept, upToFeed, Part, none-kept, kept-part}
 use Rattle.stream.specs.Judged.{judgedLine}
-use Rattle.stream.specs.Step.{begunWith, tallied, partLines, reportBy, Read, readOf, Stepped, atLine, judgedStep, lineStep, sweptStep, taskStep, stepOf, endTask, endOf}
+use Rattle.stream.specs.Step.{begunWith, tallied, partLines, reportBy, mostWritten, Read, readOf, Stepped, atLine, judgedStep, lineStep, sweptStep, taskStep, stepOf, endTask, endOf}
 use Rattle.stream.specs.StepLaws.{GoodTask, Good, Fit, judged-good, step-good}
 use Rattle.stream.specs.PartLaws.{part-short}
 use Rattle.stream.specs.Moves.{Turned, Moved}
@@ -222,48 +222,48 @@ module _ (p : Progress) (fit : Fit p) (out : List ℕ) (used : ℕ) where
 
 -- ---- a step writes at most 611 bytes
 
-swept-short : (i : ℕ) (t : Tally) (b : Bool) (s : SweepState) (input : List ℕ) → length (sweptStep i t b (partLines s) input .bytes) ≤ 611
+swept-short : (i : ℕ) (t : Tally) (b : Bool) (s : SweepState) (input : List ℕ) → length (sweptStep i t b (partLines s) input .bytes) ≤ mostWritten
 swept-short i t true s input = omega (arith, length-append (partLines s) (reportLine 8 (reportBy i t)), part-short s, length-report 8 (reportBy i t))
 swept-short i t false s input = omega (arith, part-short s)
 
-judged-short : (i : ℕ) (a : SetUp) (input : List ℕ) → length (judgedStep i a input .bytes) ≤ 611
+judged-short : (i : ℕ) (a : SetUp) (input : List ℕ) → length (judgedStep i a input .bytes) ≤ mostWritten
 judged-short i (SetUp.Accepted f) input = omega arith
 judged-short i (SetUp.Refused j) input = omega (arith, length-refusal i j)
 
-line-short : (i : ℕ) (line rest : List ℕ) → length (lineStep i line rest .bytes) ≤ 611
+line-short : (i : ℕ) (line rest : List ℕ) → length (lineStep i line rest .bytes) ≤ mostWritten
 line-short i line [] = omega arith
 line-short i line (b ∷ rest) = judged-short i (judgedLine line) rest
 
-pub step-short : (r : Read) (input : List ℕ) → length (stepOf r input .bytes) ≤ 611
+pub step-short : (r : Read) (input : List ℕ) → length (stepOf r input .bytes) ≤ mostWritten
 unfolding stepOf
 step-short r input = go (r .task)
   where
-    go : (t : Task) → length (taskStep (r .number) (r .line) t input .bytes) ≤ 611
+    go : (t : Task) → length (taskStep (r .number) (r .line) t input .bytes) ≤ mostWritten
     go (Task.Sweeping t) = swept-short (r .number) (tallied t) (tallied t .state .finished) (t .state) input
     go Task.Reading = reads (leb (r .number) mostLines)
       where
         reads : (b : Bool)
-            → length (cond b (lineStep (r .number) (kept (r .line) input) (upToFeed input)) (record { read = record { number = r .number; line = r .line; task = Task.Reading }; left = []; bytes = [] }) .bytes) ≤ 611
+            → length (cond b (lineStep (r .number) (kept (r .line) input) (upToFeed input)) (record { read = record { number = r .number; line = r .line; task = Task.Reading }; left = []; bytes = [] }) .bytes) ≤ mostWritten
         reads true = line-short (r .number) (kept (r .line) input) (upToFeed input)
         reads false = omega arith
 
 -- so what a step leaves of the room is known
 pub with-room : (p : Progress) (input : List ℕ) (at : ℕ) (r : Move) (out : List ℕ) (used : ℕ) (after : List ℕ)
     → Moved (stepOf (readOf p) (drop at input)) input r out used after
-    → Moved (stepOf (readOf p) (drop at input)) input r out used after × (r .used ≤ used + 611)
+    → Moved (stepOf (readOf p) (drop at input)) input r out used after × (r .used ≤ used + mostWritten)
 with-room p input at r out used after m = (m, omega (arith, m .bytes .place, step-short (readOf p) (drop at input)))
 
-end-short : (i : ℕ) (line : List ℕ) (t : Task) → length (endTask i line t) ≤ 611
+end-short : (i : ℕ) (line : List ℕ) (t : Task) → length (endTask i line t) ≤ mostWritten
 end-short i line (Task.Sweeping t) = omega arith
 end-short i [] Task.Reading = omega arith
 end-short i (b ∷ line) Task.Reading = go (leb i mostLines)
   where
-    go : (b : Bool) → length (cond b (refusalLine i 24) []) ≤ 611
+    go : (b : Bool) → length (cond b (refusalLine i 24) []) ≤ mostWritten
     go true = omega (arith, length-refusal i 24)
     go false = omega arith
 
 pub end-room : (p : Progress) (out : List ℕ) (used : ℕ) (after : List ℕ) (next : ℕ)
     → Written out used (endOf (readOf p)) after next
-    → Written out used (endOf (readOf p)) after next × (next ≤ used + 611)
+    → Written out used (endOf (readOf p)) after next × (next ≤ used + mostWritten)
 unfolding endOf
 end-room p out used after next w = (w, omega (arith, w .place, end-short (p .number) (take (p .length) (p .held)) (p .task)))

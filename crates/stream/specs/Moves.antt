@@ -2,7 +2,7 @@
 use mathlib.Core.Path.{_≡_}
 use mathlib.Core.List.{List}
 use Prim.Native.Nat.{ℕ, _≤_}
-use lib.ListN.{length, take, drop}
+use lib.ListN.{length, drop}
 use Rattle.frame.specs.Written.{Written}
 use Rattle.stream.specs.declared.Turn.{Turn}
 use Rattle.stream.specs.declared.Move.{Move}
@@ -25,9 +25,8 @@ pub record Moved (s : Stepped) (input : List ℕ) (r : Move) (out : List ℕ) (u
   pub left : drop (r .at) input ≡ s .left
   pub bytes : Written out used (s .bytes) after (r .used)
 
--- and what comes after it; the bytes are the first of the output
+-- and what comes after it; the bytes stand at the beginning of the output
 pub record WorkedOff (w : Stretch) (input : List ℕ) (r : Worked) (out after : List ℕ) : Type 0 where
   pub moved : Moved (w .steps) input (r .moved) out 0 after
   pub within : r .moved .used ≤ length out
-  pub front : take (r .moved .used) after ≡ w .steps .bytes
   pub next : r .next ≡ w .next

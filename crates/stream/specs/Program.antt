@@ -14,9 +14,9 @@ use Rattle.stream.specs.declared.Task
 use Rattle.stream.specs.declared.Task.{Task}
 use Rattle.stream.specs.Output.{mostLines, output}
 use Rattle.stream.specs.PieceLaws.{append-nil, reading-past}
-use Rattle.stream.specs.Step.{Read, Stepped, sweepingTask, wantsStep, atLine, endOf}
+use Rattle.stream.specs.Step.{mostWritten, Read, Stepped, sweepingTask, wantsStep, atLine, endOf}
 use Rattle.stream.specs.StepLaws.{restTask, restOf, Good, begin-good, end-tells, begin-tells}
-use Rattle.stream.specs.Work.{mostWritten, allSteps, Stretch, nextOf, workOf, chunkOf, chunksAfter, onward, loopOutput, program, inputOf}
+use Rattle.stream.specs.Work.{allSteps, Stretch, nextOf, workOf, chunkOf, chunksAfter, onward, loopOutput, program, inputOf}
 use Rattle.stream.specs.WorkLaws.{steps-tell, steps-good, steps-end}
 
 -- ---- where no step is wanted
@@ -33,9 +33,16 @@ idle (Task.Sweeping t) [] w = absurd (true≢false w)
 idle (Task.Sweeping t) (b ∷ left) w = absurd (true≢false w)
 
 -- Nothing is lost by the stop after line 65,535: whatever comes later prints nothing.
-pub nothing-lost : (r : Read) (left : List ℕ) → wantsStep (r .task) left ≡ false → mostLines < r .number → (later : List ℕ) → restOf r later ≡ []
+pub nothing-lost : (r : Read) (left : List ℕ) → nextOf r left ≡ Next.Stop → (later : List ℕ) → restOf r later ≡ []
 unfolding restOf
-nothing-lost r left w h later = ap (λ (t : Task). restTask (r .number) (r .line) t later) (idle (r .task) left w .reading) ∙ reading-past (r .number) (r .line) later h
+nothing-lost r left e later = go (wantsStep (r .task) left) refl (leb (r .number) mostLines) refl e
+  where
+    go : (b : Bool) → wantsStep (r .task) left ≡ b → (few : Bool) → leb (r .number) mostLines ≡ few → cond b Next.Again (cond few Next.Read Next.Stop) ≡ Next.Stop
+        → restTask (r .number) (r .line) (r .task) later ≡ []
+    go true w few f e = let z : _≡_ {A = ℕ} 0 1 = cc in absurd (omega arith)
+    go false w true f e = let z : _≡_ {A = ℕ} 0 1 = cc in absurd (omega arith)
+    go false w false f e =
+        ap (λ (t : Task). restTask (r .number) (r .line) t later) (idle (r .task) left w .reading) ∙ reading-past (r .number) (r .line) later (leb-false (r .number) mostLines f)
 
 -- ---- what is due
 
@@ -72,7 +79,7 @@ steps-due r left chunks = go (wantsStep (r .task) left) refl
 
     unwanted : wantsStep (r .task) left ≡ false → (few : Bool) → leb (r .number) mostLines ≡ few → Due false few
     unwanted w true e = ap (λ (l : List ℕ). restOf r (l ++ later)) (idle (r .task) left w .empty) ∙ read-due r left w chunks
-    unwanted w false e = nothing-lost r left w (leb-false (r .number) mostLines e) (left ++ later)
+    unwanted w false e = nothing-lost r left (rw (w, e)) (left ++ later)
 
     go : (b : Bool) → wantsStep (r .task) left ≡ b → Due b (leb (r .number) mostLines)
     go true w = refl

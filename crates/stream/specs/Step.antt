@@ -82,6 +82,10 @@ reportBy i t = tally i (t .trials) (t .wrongs) (t .opens)
 
 -- ---- a step
 
+-- no step writes more bytes: 64 words of 9, and a report of 35
+abbrev pub mostWritten : ℕ
+mostWritten = 611
+
 -- what was read so far: the number of the line, what is kept of it, and the task
 pub record Read : Type 0 where
   pub number : ℕ

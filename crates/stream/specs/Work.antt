@@ -7,13 +7,9 @@ use lib.ListN.{length}
 use Rattle.stream.specs.declared.Next
 use Rattle.stream.specs.declared.Next.{Next}
 use Rattle.stream.specs.Output.{mostLines}
-use Rattle.stream.specs.Step.{Read, Stepped, wantsStep, atLine, stepOf, endOf}
+use Rattle.stream.specs.Step.{mostWritten, Read, Stepped, wantsStep, atLine, stepOf, endOf}
 
 -- ---- steps one after another
-
--- no step writes more bytes: 64 words of 9, and a report of 35
-abbrev pub mostWritten : ℕ
-mostWritten = 611
 
 abbrev pub noStep : Read → (input : List ℕ) → Stepped
 noStep r input = record { read = r; left = input; bytes = [] }

@@ -23,10 +23,10 @@ use Rattle.stream.specs.Output.{mostLines, markOf}
 use Rattle.stream.specs.SweepLaws.{length-lines}
 use Rattle.stream.specs.Keep.{kept, upToFeed}
 use Rattle.stream.specs.Judged.{judgedLine}
-use Rattle.stream.specs.Step.{listSize, noCap, leftOf, triedBy, triedOf, afterOf, talliedTo, tallied, partLines, reportBy, Read, Stepped, wantsStep, judgedStep, lineStep, sweptStep, taskStep, stepOf}
+use Rattle.stream.specs.Step.{listSize, noCap, leftOf, triedBy, triedOf, afterOf, talliedTo, tallied, partLines, reportBy, mostWritten, Read, Stepped, wantsStep, judgedStep, lineStep, sweptStep, taskStep, stepOf}
 use Rattle.stream.specs.StepLaws.{Counted, GoodTask, Good, restOf, step-tells, step-good}
 use Rattle.stream.specs.MoveLaws.{step-short}
-use Rattle.stream.specs.Work.{mostWritten, noStep, andThen, stepsOf}
+use Rattle.stream.specs.Work.{noStep, andThen, stepsOf}
 
 -- ---- a step uses up input or room
 
@@ -192,7 +192,7 @@ steps-end (suc most) room r g input h = go (steps-end most (room - length (s .by
 
     go : (length (s .left) + (room - length (s .bytes)) ≤ most → Ends (room - length (s .bytes)) t) → Case most room r input → Ends room (stepsOf (suc most) room r input)
     go further (more w k) =
-        let short : length (s .bytes) ≤ 611 = step-short r input in
+        let short : length (s .bytes) ≤ mostWritten = step-short r input in
         let used : length (s .left) < length input + length (s .bytes) = step-uses r g input w in
         subst (Ends room) (sym (steps-more most room r input w k)) (λ v. let l = further (omega arith) v in omega (arith, length-append (s .bytes) (t .bytes)))
     go further (unwanted w) = subst (Ends room) (sym (steps-unwanted most room r input w)) (λ v. absurd (false≢true (sym w ∙ v)))

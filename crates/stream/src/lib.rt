@@ -19,8 +19,8 @@ ghost use Rattle.stream.specs.Output.{wordLines};
 ghost use Rattle.stream.specs.SweepLaws.{odds};
 ghost use Rattle.stream.specs.Keep.{keep, kept, upToFeed};
 ghost use Rattle.stream.specs.Judged.{judgedLine};
-ghost use Rattle.stream.specs.Step.{begunWith, tallied, partLines, sweepingTask, wantsStep, readOf, atLine, judgedStep, taskStep, stepOf, endOf};
-ghost use Rattle.stream.specs.Work.{mostWritten, allSteps, nextOf, workOf};
+ghost use Rattle.stream.specs.Step.{begunWith, tallied, partLines, mostWritten, sweepingTask, wantsStep, readOf, atLine, judgedStep, taskStep, stepOf, endOf};
+ghost use Rattle.stream.specs.Work.{allSteps, nextOf, workOf};
 ghost use Rattle.stream.specs.StepLaws.{Going, Counted, GoodTask, Fit};
 ghost use Rattle.stream.specs.PartLaws.{addedTo, Addable};
 ghost use Rattle.stream.specs.Moves.{Turned, Moved, WorkedOff};
@@ -263,7 +263,7 @@ fn is_sweeping(p: Progress) -> bool
 
 // A part of a sweep, and its report at the end.
 fn sweep_step(p: Progress, t: Tally, out: &mut [u8], used: usize) -> Turn
-    requires { ⌜ Fit p × GoodTask (p .number) (Task.Sweeping t) × (used + 611 ≤ length (now out)) ⌝ }
+    requires { ⌜ Fit p × GoodTask (p .number) (Task.Sweeping t) × (used + mostWritten ≤ length (now out)) ⌝ }
     ensures { λ r. ⌜ Turned (taskStep (p .number) [] (Task.Sweeping t) []) r (now (out .entry)) used (now (out .exit)) ⌝ }
 {
     let part = sweep_part(t, out, used);
@@ -296,7 +296,7 @@ fn sweep_step(p: Progress, t: Tally, out: &mut [u8], used: usize) -> Turn
 
 // A line that is complete: its refusal, or the sweep of its factor begins.
 fn line_step(number: u64, held: [u8; 40], count: usize, out: &mut [u8], used: usize) -> Turn
-    requires { ⌜ (number ≤ 65535) × (length held ≡ 40) × (count ≤ 40) × (used + 611 ≤ length (now out)) ⌝ }
+    requires { ⌜ (number ≤ 65535) × (length held ≡ 40) × (count ≤ 40) × (used + mostWritten ≤ length (now out)) ⌝ }
     ensures { λ r. ⌜ Turned (judgedStep number (judgedLine (take count held)) []) r (now (out .entry)) used (now (out .exit)) ⌝ }
 {
     match judge(&held[..count]) {
@@ -324,8 +324,8 @@ fn line_step(number: u64, held: [u8; 40], count: usize, out: &mut [u8], used: us
 
 // One step: from what was read so far, and the input from `at` on, to the bytes that it writes from `used` on.
 fn step(p: Progress, input: &[u8], at: usize, out: &mut [u8], used: usize) -> Move
-    requires { ⌜ Fit p × (at ≤ length (now input)) × (used + 611 ≤ length (now out)) ⌝ }
-    ensures { λ r. ⌜ Moved (stepOf (readOf p) (drop at (now (input .entry)))) (now (input .entry)) r (now (out .entry)) used (now (out .exit)) × (r .used ≤ used + 611) ⌝ }
+    requires { ⌜ Fit p × (at ≤ length (now input)) × (used + mostWritten ≤ length (now out)) ⌝ }
+    ensures { λ r. ⌜ Moved (stepOf (readOf p) (drop at (now (input .entry)))) (now (input .entry)) r (now (out .entry)) used (now (out .exit)) × (r .used ≤ used + mostWritten) ⌝ }
 {
     let task = p.task;
     match task {
@@ -373,8 +373,8 @@ fn step(p: Progress, input: &[u8], at: usize, out: &mut [u8], used: usize) -> Mo
 
 // The end of the input: a last line without its line feed is refused.
 fn finish(p: Progress, out: &mut [u8], used: usize) -> usize
-    requires { ⌜ Fit p × (used + 611 ≤ length (now out)) ⌝ }
-    ensures { λ r. ⌜ Written (now (out .entry)) used (endOf (readOf p)) (now (out .exit)) r × (r ≤ used + 611) ⌝ }
+    requires { ⌜ Fit p × (used + mostWritten ≤ length (now out)) ⌝ }
+    ensures { λ r. ⌜ Written (now (out .entry)) used (endOf (readOf p)) (now (out .exit)) r × (r ≤ used + mostWritten) ⌝ }
 {
     let task = p.task;
     match task {
@@ -442,7 +442,7 @@ fn next_after(p: Progress, input: &[u8], at: usize) -> Next
 
 // All that the program does between a read and a write, with the input from `at` on and an output that is free. Where nothing is left to do, the read gave nothing: the input has ended.
 pub fn work(p: Progress, input: &[u8], at: usize, out: &mut [u8]) -> Worked
-    requires { ⌜ Fit p × (at ≤ length (now input)) × (611 ≤ length (now out)) ⌝ }
+    requires { ⌜ Fit p × (at ≤ length (now input)) × (mostWritten ≤ length (now out)) ⌝ }
     ensures { λ r. ⌜ WorkedOff (workOf (length (now (out .entry))) (readOf p) (drop at (now (input .entry)))) (now (input .entry)) r (now (out .entry)) (now (out .exit)) ⌝ }
 {
     if !wants_step(p, input, at) {

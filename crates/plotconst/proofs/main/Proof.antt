@@ -6,12 +6,13 @@ use native.Mathlib.Omega.{arith}
 use lib.ListN.{length}
 use lib.Seq.{length-take-le}
 use borrow.Author.Needs.{needs}
+use Rattle.stream.specs.Step.{mostWritten}
 use Rattle.stream.specs.StepLaws.{Fit}
 use Rattle.plotconst.proofs.main.Statement.{statement}
 use Rattle.plotconst.proofs.main.Tie as tie
 
 abbrev Inv-loop : tie.InvT-loop
-Inv-loop input₀ out₀ progress₀ next₀ count₀ at₀ turns₀ input out progress next count at turns = Fit progress × (at ≤ count) × (count ≤ length input) × (611 ≤ length out)
+Inv-loop input₀ out₀ progress₀ next₀ count₀ at₀ turns₀ input out progress next count at turns = Fit progress × (at ≤ count) × (count ≤ length input) × (mostWritten ≤ length out)
 
 abbrev μ-loop : tie.MeasureT-loop
 μ-loop input₀ out₀ progress₀ next₀ count₀ at₀ turns₀ input out progress next count at turns = turns

@@ -1,6 +1,7 @@
 -- `stream::steps` meets its contract: what the loop has made, and what is left to make, are all steps. Assumes nothing.
 use mathlib.Core.Path.{sym, _∙_}
 use Prim.Native.Nat.{_+_, _-_}
+use native.Mathlib.Omega.{arith}
 use lib.ListN.{length, drop}
 use Rattle.frame.specs.WrittenLaws.{written-length}
 use Rattle.stream.specs.Step.{readOf}
@@ -26,7 +27,7 @@ step-requires c κs =
     let test = c .before .before in
     let call = test .before in
     let b = call .before .loop .inv in
-    (b .fit, b .inside, room-for-step _ _ _ _ _ b (sym (call .may-step .ensures) ∙ test .if1 .taken))
+    (b .fit, b .inside, omega (arith, room-for-step _ _ _ _ _ b (sym (call .may-step .ensures) ∙ test .if1 .taken)))
 
 loop-less : tie.Need-loop-less Inv-loop μ-loop
 loop-less c =

@@ -6,7 +6,7 @@ use lib.ListN.{length}
 use Rattle.frame.specs.Written.{Written}
 use Rattle.frame.specs.WrittenLaws.{written-length}
 use Rattle.sweep.specs.declared.SweepState.{SweepState}
-use Rattle.stream.specs.Step.{partLines}
+use Rattle.stream.specs.Step.{partLines, mostWritten}
 use Rattle.stream.specs.PartLaws.{part-short}
 use Rattle.stream.specs.MoveLaws.{part-ends, part-goes-on}
 use borrow.Author.Needs.{needs}
@@ -16,7 +16,7 @@ use Rattle.stream.proofs.sweep_step.Tie as tie
 sweep-part-requires : tie.Need-sweep-part-requires
 sweep-part-requires c κs = search needs
 
-room : (s : SweepState) (l₁ l₂ : List ℕ) (used u : ℕ) → Written l₁ used (partLines s) l₂ u → used + 611 ≤ length l₁ → u + 35 ≤ length l₂
+room : (s : SweepState) (l₁ l₂ : List ℕ) (used u : ℕ) → Written l₁ used (partLines s) l₂ u → used + mostWritten ≤ length l₁ → u + 35 ≤ length l₂
 room s l₁ l₂ used u w h = omega (arith, w .place, written-length w, part-short s)
 
 put-report-requires : tie.Need-put-report-requires
