@@ -1,6 +1,6 @@
 -- The code's loop over steps, and what it comes to. Assumes nothing.
 use mathlib.Core.Path.{_≡_, refl, sym, ap, ap₂, subst, _∙_}
-use mathlib.Core.Bool.{Bool, true, false, cond, _&&_, true≢false, false≢true}
+use mathlib.Core.Bool.{Bool, true, false, _&&_, true≢false}
 use mathlib.Core.List.{List, [], _++_, append-assoc}
 use Prim.Native.Nat.{ℕ, zero, suc, _+_, _-_, _≤_, _<_}
 use native.Mathlib.Omega.{arith}
@@ -8,6 +8,7 @@ use lib.Dec.{leb}
 use lib.ListN.{length, take, drop, length-drop, drop-of-length-le}
 use lib.Seq.{drop-cons}
 use borrow.Author.Tests.{leb-true, leb-false, le-leb, lt-leb}
+use Rattle.factor.specs.SetUpLaws.{and-true}
 use Rattle.frame.specs.Written.{Written}
 use Rattle.frame.specs.WrittenLaws.{written-then, written-none, written-front, written-length}
 use Rattle.stream.specs.declared.Move.{Move}
@@ -22,7 +23,7 @@ use Rattle.stream.specs.Step.{mostWritten, Read, Stepped, sweepingTask, 
 use Rattle.stream.specs.StepLaws.{Fit}
 use Rattle.stream.specs.Moves.{Moved, WorkedOff}
 use Rattle.stream.specs.MoveLaws.{step-short}
-use Rattle.stream.specs.Work.{noStep, andThen, stepsOf, allSteps, Stretch, nextOf, workOf}
+use Rattle.stream.specs.Work.{noStep, andThen, stepsOf, allSteps, Batch, nextIf, nextOf, workIf, workOf}
 use Rattle.stream.specs.WorkLaws.{step-uses, steps-none, steps-more, steps-unwanted, steps-full}
 
 -- ---- the loop
@@ -37,11 +38,6 @@ pub record Begun (all : Stepped) (input out₀ : List ℕ) (m : Move) (out : Lis
   pub most : ℕ
   pub enough : length (drop (m .at) input) + (length out₀ - m .used) ≤ most
   pub is : all ≡ andThen done (stepsOf most (length out₀ - m .used) (readOf (m .progress)) (drop (m .at) input))
-
--- a test of two parts
-pub and-true : (a c : Bool) → (a && c) ≡ true → (a ≡ true) × (c ≡ true)
-and-true true c e = (refl, e)
-and-true false c e = absurd (false≢true e)
 
 -- bytes, and no step
 none-after : (done : List ℕ) (r : Read) (left : List ℕ) (s : Stepped) → s ≡ noStep r left → andThen done s ≡ record { read = r; left = left; bytes = done }
@@ -179,50 +175,43 @@ module _ (task : Task) (input : List ℕ) (at : ℕ) where
   wants-sweep h = sym (ap (wantsStep task) (drop-of-length-le input h))
 
 module _ (r : Read) (left : List ℕ) where
-  -- a step is wanted
+  -- what comes next, by the two tests
+  next-by : (wanted few : Bool) → wantsStep (r .task) left ≡ wanted → leb (r .number) mostLines ≡ few → nextIf wanted few ≡ nextOf r left
+  next-by wanted few w e = sym (ap₂ nextIf w e)
+
   pub next-again : wantsStep (r .task) left ≡ true → Next.Again ≡ nextOf r left
-  next-again w = sym (ap (λ (b : Bool). cond b Next.Again (cond (leb (r .number) mostLines) Next.Read Next.Stop)) w)
+  next-again w = next-by true (leb (r .number) mostLines) w refl
 
-  module _ (w : wantsStep (r .task) left ≡ false) where
-    by-number : (few : Bool) → leb (r .number) mostLines ≡ few → cond few Next.Read Next.Stop ≡ nextOf r left
-    by-number few e = sym (ap₂ (λ (b c : Bool). cond b Next.Again (cond c Next.Read Next.Stop)) w e)
+  pub next-read : wantsStep (r .task) left ≡ false → r .number ≤ mostLines → Next.Read ≡ nextOf r left
+  next-read w h = next-by false true w (le-leb (r .number) mostLines h)
 
-    pub next-read : r .number ≤ mostLines → Next.Read ≡ nextOf r left
-    next-read h = by-number true (le-leb (r .number) mostLines h)
+  pub next-stop : wantsStep (r .task) left ≡ false → mostLines < r .number → Next.Stop ≡ nextOf r left
+  next-stop w h = next-by false false w (lt-leb (r .number) mostLines h)
 
-    pub next-stop : mostLines < r .number → Next.Stop ≡ nextOf r left
-    next-stop h = by-number false (lt-leb (r .number) mostLines h)
-
-module _ (room : ℕ) (r : Read) (left : List ℕ) where
-  -- the steps are made
-  pub work-made : wantsStep (r .task) left ≡ true → workOf room r left ≡ record { steps = allSteps room r left; next = nextOf (allSteps room r left .read) (allSteps room r left .left) }
-  unfolding workOf
-  work-made w = rw w
-
-  -- the input has ended
-  pub work-ended : wantsStep (r .task) left ≡ false → workOf room r left ≡ record { steps = record { read = r; left = left; bytes = endOf r }; next = Next.Stop }
-  unfolding workOf
-  work-ended w = rw w
+-- what is done, by the test
+work-by : (room : ℕ) (r : Read) (left : List ℕ) (wanted : Bool) → wantsStep (r .task) left ≡ wanted → workIf wanted room r left ≡ workOf room r left
+unfolding workOf
+work-by room r left wanted w = sym (ap (λ (b : Bool). workIf b room r left) w)
 
 -- what comes out of it
-worked-off : (w : Stretch) (input : List ℕ) (m : Move) (n : Next) (out after : List ℕ) → Moved (w .steps) input m out 0 after → m .used ≤ length out → n ≡ w .next
+worked-off : (w : Batch) (input : List ℕ) (m : Move) (n : Next) (out after : List ℕ) → Moved (w .steps) input m out 0 after → m .used ≤ length out → n ≡ w .next
     → WorkedOff w input (record { moved = m; next = n }) out after
 worked-off w input m n out after d h e = record { moved = d; within = h; next = e }
 
 -- The first bytes of the output, as many as are used, are the steps'.
-pub worked-front : (w : Stretch) (input : List ℕ) (r : Worked) (out after : List ℕ) → WorkedOff w input r out after → take (r .moved .used) after ≡ w .steps .bytes
+pub worked-front : (w : Batch) (input : List ℕ) (r : Worked) (out after : List ℕ) → WorkedOff w input r out after → take (r .moved .used) after ≡ w .steps .bytes
 worked-front w input r out after d = written-front (d .moved .bytes) (d .within)
 
 module _ (p : Progress) (fit : Fit p) (input : List ℕ) (at : ℕ) (h : at ≤ length input) (out after : List ℕ) where
   pub worked-ended : wantsStep (p .task) (drop at input) ≡ false → (used : ℕ) → Written out 0 (endOf (readOf p)) after used → used ≤ length out
       → WorkedOff (workOf (length out) (readOf p) (drop at input)) input (record { moved = record { progress = p; at = at; used = used }; next = Next.Stop }) out after
   worked-ended w used e k =
-      subst (λ (z : Stretch). WorkedOff z input (record { moved = record { progress = p; at = at; used = used }; next = Next.Stop }) out after) (sym (work-ended (length out) (readOf p) (drop at input) w))
+      subst (λ (z : Batch). WorkedOff z input (record { moved = record { progress = p; at = at; used = used }; next = Next.Stop }) out after) (work-by (length out) (readOf p) (drop at input) false w)
       (worked-off _ input _ Next.Stop out after (record { fit = fit; read = refl; inside = h; left = refl; bytes = e }) k refl)
 
   pub worked-made : wantsStep (p .task) (drop at input) ≡ true → (m : Move) (n : Next) → Moved (allSteps (length out) (readOf p) (drop at input)) input m out 0 after × (m .used ≤ length out)
       → n ≡ nextOf (readOf (m .progress)) (drop (m .at) input)
       → WorkedOff (workOf (length out) (readOf p) (drop at input)) input (record { moved = m; next = n }) out after
   worked-made w m n d e =
-      subst (λ (z : Stretch). WorkedOff z input (record { moved = m; next = n }) out after) (sym (work-made (length out) (readOf p) (drop at input) w))
+      subst (λ (z : Batch). WorkedOff z input (record { moved = m; next = n }) out after) (work-by (length out) (readOf p) (drop at input) true w)
       (worked-off _ input m n out after (d .0) (d .1) (e ∙ ap₂ nextOf (d .0 .read) (d .0 .left)))

@@ -9,7 +9,7 @@ use Rattle.stream.specs.declared.Move.{Move}
 use Rattle.stream.specs.declared.Worked.{Worked}
 use Rattle.stream.specs.Step.{readOf, Stepped}
 use Rattle.stream.specs.StepLaws.{Fit}
-use Rattle.stream.specs.Work.{Stretch}
+use Rattle.stream.specs.Work.{Batch}
 
 -- what was read then, and the bytes written from a place of the output on
 pub record Turned (s : Stepped) (r : Turn) (out : List ℕ) (used : ℕ) (after : List ℕ) : Type 0 where
@@ -26,7 +26,7 @@ pub record Moved (s : Stepped) (input : List ℕ) (r : Move) (out : List ℕ) (u
   pub bytes : Written out used (s .bytes) after (r .used)
 
 -- and what comes after it; the bytes stand at the beginning of the output
-pub record WorkedOff (w : Stretch) (input : List ℕ) (r : Worked) (out after : List ℕ) : Type 0 where
+pub record WorkedOff (w : Batch) (input : List ℕ) (r : Worked) (out after : List ℕ) : Type 0 where
   pub moved : Moved (w .steps) input (r .moved) out 0 after
   pub within : r .moved .used ≤ length out
   pub next : r .next ≡ w .next

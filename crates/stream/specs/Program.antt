@@ -16,7 +16,7 @@ use Rattle.stream.specs.Output.{mostLines, output}
 use Rattle.stream.specs.PieceLaws.{append-nil, reading-past}
 use Rattle.stream.specs.Step.{mostWritten, Read, Stepped, sweepingTask, wantsStep, atLine, endOf}
 use Rattle.stream.specs.StepLaws.{restTask, restOf, Good, begin-good, end-tells, begin-tells}
-use Rattle.stream.specs.Work.{allSteps, Stretch, nextOf, workOf, chunkOf, chunksAfter, onward, loopOutput, program, inputOf}
+use Rattle.stream.specs.Work.{allSteps, Batch, nextIf, nextOf, workIf, workOf, chunkOf, chunksAfter, onward, loopOutput, program, inputOf}
 use Rattle.stream.specs.WorkLaws.{steps-tell, steps-good, steps-end}
 
 -- ---- where no step is wanted
@@ -32,17 +32,27 @@ idle Task.Reading (b ∷ left) w = absurd (true≢false w)
 idle (Task.Sweeping t) [] w = absurd (true≢false w)
 idle (Task.Sweeping t) (b ∷ left) w = absurd (true≢false w)
 
+-- what each answer says of the two tests
+again-wanted : (wanted few : Bool) → nextIf wanted few ≡ Next.Again → wanted ≡ true
+again-wanted true few e = refl
+again-wanted false true e = cc
+again-wanted false false e = cc
+
+read-unwanted : (wanted few : Bool) → nextIf wanted few ≡ Next.Read → wanted ≡ false
+read-unwanted true few e = cc
+read-unwanted false few e = refl
+
+stop-past : (wanted few : Bool) → nextIf wanted few ≡ Next.Stop → (wanted ≡ false) × (few ≡ false)
+stop-past true few e = (cc, cc)
+stop-past false true e = (refl, cc)
+stop-past false false e = (refl, refl)
+
 -- Nothing is lost by the stop after line 65,535: whatever comes later prints nothing.
 pub nothing-lost : (r : Read) (left : List ℕ) → nextOf r left ≡ Next.Stop → (later : List ℕ) → restOf r later ≡ []
 unfolding restOf
-nothing-lost r left e later = go (wantsStep (r .task) left) refl (leb (r .number) mostLines) refl e
-  where
-    go : (b : Bool) → wantsStep (r .task) left ≡ b → (few : Bool) → leb (r .number) mostLines ≡ few → cond b Next.Again (cond few Next.Read Next.Stop) ≡ Next.Stop
-        → restTask (r .number) (r .line) (r .task) later ≡ []
-    go true w few f e = let z : _≡_ {A = ℕ} 0 1 = cc in absurd (omega arith)
-    go false w true f e = let z : _≡_ {A = ℕ} 0 1 = cc in absurd (omega arith)
-    go false w false f e =
-        ap (λ (t : Task). restTask (r .number) (r .line) t later) (idle (r .task) left w .reading) ∙ reading-past (r .number) (r .line) later (leb-false (r .number) mostLines f)
+nothing-lost r left e later =
+    let past = stop-past (wantsStep (r .task) left) (leb (r .number) mostLines) e in
+    ap (λ (t : Task). restTask (r .number) (r .line) t later) (idle (r .task) left (past .0) .reading) ∙ reading-past (r .number) (r .line) later (leb-false (r .number) mostLines (past .1))
 
 -- ---- what is due
 
@@ -75,7 +85,7 @@ steps-due r left chunks = go (wantsStep (r .task) left) refl
     more = due r (chunkOf chunks) (chunksAfter chunks)
 
     Due : Bool → Bool → Type 0
-    Due b few = restOf r (left ++ later) ≡ onward (cond b Next.Again (cond few Next.Read Next.Stop)) (cond b (restOf r (left ++ later)) (restOf r [])) more
+    Due b few = restOf r (left ++ later) ≡ onward (nextIf b few) (cond b (restOf r (left ++ later)) (restOf r [])) more
 
     unwanted : wantsStep (r .task) left ≡ false → (few : Bool) → leb (r .number) mostLines ≡ few → Due false few
     unwanted w true e = ap (λ (l : List ℕ). restOf r (l ++ later)) (idle (r .task) left w .empty) ∙ read-due r left w chunks
@@ -88,7 +98,7 @@ steps-due r left chunks = go (wantsStep (r .task) left) refl
 -- ---- one turn
 
 module _ (room : ℕ) (r : Read) (g : Good r) (left : List ℕ) where
-  abbrev work : Stretch
+  abbrev work : Batch
   work = workOf room r left
 
   abbrev after : Read
@@ -97,15 +107,11 @@ module _ (room : ℕ) (r : Read) (g : Good r) (left : List ℕ) where
   abbrev steps : Stepped
   steps = allSteps room r left
 
-  -- either steps are made, or the input has ended
-  abbrev made : Bool → Stretch
-  made b = cond b (record { steps = steps; next = nextOf (steps .read) (steps .left) }) (record { steps = record { read = r; left = left; bytes = endOf r }; next = Next.Stop })
-
   after-good : Good after
   unfolding workOf
   after-good = go (wantsStep (r .task) left)
     where
-      go : (b : Bool) → Good (made b .steps .read)
+      go : (b : Bool) → Good (workIf b room r left .steps .read)
       go true = steps-good (length left + room) room r g left
       go false = g
 
@@ -117,7 +123,7 @@ module _ (room : ℕ) (r : Read) (g : Good r) (left : List ℕ) where
       where
         go : (b : Bool) → wantsStep (r .task) left ≡ b
             → cond b (restOf r (left ++ inputOf chunks)) (restOf r [])
-            ≡ made b .steps .bytes ++ onward (made b .next) (due (made b .steps .read) (made b .steps .left) chunks) (due (made b .steps .read) (chunkOf chunks) (chunksAfter chunks))
+            ≡ workIf b room r left .steps .bytes ++ onward (workIf b room r left .next) (due (workIf b room r left .steps .read) (workIf b room r left .steps .left) chunks) (due (workIf b room r left .steps .read) (chunkOf chunks) (chunksAfter chunks))
         go true w = steps-tell (inputOf chunks) (length left + room) room r g left ∙ ap (λ (l : List ℕ). steps .bytes ++ l) (steps-due (steps .read) (steps .left) chunks)
         go false w = end-tells r g (idle (r .task) left w .reading) ∙ sym (append-nil (endOf r))
 
@@ -126,14 +132,9 @@ module _ (room : ℕ) (r : Read) (g : Good r) (left : List ℕ) where
   unfolding workOf
   again-writes h = go (wantsStep (r .task) left)
     where
-      still : (b few : Bool) → cond b Next.Again (cond few Next.Read Next.Stop) ≡ Next.Again → b ≡ true
-      still true few e = refl
-      still false true e = let z : _≡_ {A = ℕ} 0 1 = cc in absurd (omega arith)
-      still false false e = let z : _≡_ {A = ℕ} 0 1 = cc in absurd (omega arith)
-
-      go : (b : Bool) → made b .next ≡ Next.Again → 0 < length (made b .steps .bytes)
+      go : (b : Bool) → workIf b room r left .next ≡ Next.Again → 0 < length (workIf b room r left .steps .bytes)
       go true e =
-          let full = steps-end (length left + room) room r g left (omega arith) (still (wantsStep (steps .read .task) (steps .left)) (leb (steps .read .number) mostLines) e) in
+          let full = steps-end (length left + room) room r g left (omega arith) (again-wanted (wantsStep (steps .read .task) (steps .left)) (leb (steps .read .number) mostLines) e) in
           omega arith
       go false e = let z : _≡_ {A = ℕ} 0 1 = cc in absurd (omega arith)
 
@@ -142,12 +143,10 @@ module _ (room : ℕ) (r : Read) (g : Good r) (left : List ℕ) where
   unfolding workOf
   read-ended = go (wantsStep (r .task) left)
     where
-      unwanted : (s : Read) (l : List ℕ) (b few : Bool) → wantsStep (s .task) l ≡ b → cond b Next.Again (cond few Next.Read Next.Stop) ≡ Next.Read → wantsStep (s .task) [] ≡ false
-      unwanted s l true few w e = let z : _≡_ {A = ℕ} 0 1 = cc in absurd (omega arith)
-      unwanted s l false few w e = ap sweepingTask (idle (s .task) l w .reading)
-
-      go : (b : Bool) → made b .next ≡ Next.Read → wantsStep (made b .steps .read .task) [] ≡ false
-      go true e = unwanted (steps .read) (steps .left) (wantsStep (steps .read .task) (steps .left)) (leb (steps .read .number) mostLines) refl e
+      go : (b : Bool) → workIf b room r left .next ≡ Next.Read → wantsStep (workIf b room r left .steps .read .task) [] ≡ false
+      go true e =
+          let unwanted = read-unwanted (wantsStep (steps .read .task) (steps .left)) (leb (steps .read .number) mostLines) e in
+          ap sweepingTask (idle (steps .read .task) (steps .left) unwanted .reading)
       go false e = let z : _≡_ {A = ℕ} 0 1 = cc in absurd (omega arith)
 
 -- ---- the program is cut short
@@ -184,20 +183,20 @@ program-prefix turns room chunks taken p =
 -- ---- the program comes to an end
 
 -- from so many turns on, all that is due is written
-record Comes (room : ℕ) (r : Read) (left : List ℕ) (chunks : List (List ℕ)) : Type 0 where
+record Completes (room : ℕ) (r : Read) (left : List ℕ) (chunks : List (List ℕ)) : Type 0 where
   turns : ℕ
   all : (m : ℕ) → turns ≤ m → loopOutput m room r left chunks ≡ due r left chunks
 
 module _ (room : ℕ) (h : mostWritten ≤ room) where
   -- one turn, and what comes after it
-  turn-comes : (r : Read) (g : Good r) (left : List ℕ) (chunks : List (List ℕ)) (n : Next) → workOf room r left .next ≡ n
-      → (n ≡ Next.Again → Comes room (workOf room r left .steps .read) (workOf room r left .steps .left) chunks)
-      → (n ≡ Next.Read → Comes room (workOf room r left .steps .read) (chunkOf chunks) (chunksAfter chunks))
-      → Comes room r left chunks
+  turn-completes : (r : Read) (g : Good r) (left : List ℕ) (chunks : List (List ℕ)) (n : Next) → workOf room r left .next ≡ n
+      → (n ≡ Next.Again → Completes room (workOf room r left .steps .read) (workOf room r left .steps .left) chunks)
+      → (n ≡ Next.Read → Completes room (workOf room r left .steps .read) (chunkOf chunks) (chunksAfter chunks))
+      → Completes room r left chunks
   unfolding loopOutput
-  turn-comes r g left chunks n e again more = go n e again more
+  turn-completes r g left chunks n e again more = go n e again more
     where
-      w : Stretch
+      w : Batch
       w = workOf room r left
 
       onwards : (a c : List ℕ) → List ℕ
@@ -209,7 +208,7 @@ module _ (room : ℕ) (h : mostWritten ≤ room) where
       by : (turns : ℕ)
           → ((m : ℕ) → turns ≤ m → onward (w .next) (loopOutput m room (w .steps .read) (w .steps .left) chunks) (loopOutput m room (w .steps .read) (chunkOf chunks) (chunksAfter chunks))
           ≡ onward (w .next) (due (w .steps .read) (w .steps .left) chunks) (due (w .steps .read) (chunkOf chunks) (chunksAfter chunks)))
-          → Comes room r left chunks
+          → Completes room r left chunks
       by turns f = record { turns = suc turns; all = all }
         where
           all : (m : ℕ) → suc turns ≤ m → loopOutput m room r left chunks ≡ due r left chunks
@@ -217,19 +216,19 @@ module _ (room : ℕ) (h : mostWritten ≤ room) where
           all (suc m) k = ap (λ (l : List ℕ). w .steps .bytes ++ l) (f m (omega arith)) ∙ sym told
 
       go : (n : Next) → w .next ≡ n
-          → (n ≡ Next.Again → Comes room (w .steps .read) (w .steps .left) chunks)
-          → (n ≡ Next.Read → Comes room (w .steps .read) (chunkOf chunks) (chunksAfter chunks))
-          → Comes room r left chunks
+          → (n ≡ Next.Again → Completes room (w .steps .read) (w .steps .left) chunks)
+          → (n ≡ Next.Read → Completes room (w .steps .read) (chunkOf chunks) (chunksAfter chunks))
+          → Completes room r left chunks
       go Next.Again e again more = let c = again refl in by (c .turns) (λ m k. rw e (c .all m k))
       go Next.Read e again more = let c = more refl in by (c .turns) (λ m k. rw e (c .all m k))
       go Next.Stop e again more = by 0 (λ m k. rw e)
 
   -- nothing is left to read
-  ended-comes : (r : Read) → Good r → wantsStep (r .task) [] ≡ false → (chunks : List (List ℕ)) → Comes room r [] chunks
+  ended-completes : (r : Read) → Good r → wantsStep (r .task) [] ≡ false → (chunks : List (List ℕ)) → Completes room r [] chunks
   unfolding workOf
-  ended-comes r g w chunks =
+  ended-completes r g w chunks =
       let stop : workOf room r [] .next ≡ Next.Stop = rw w in
-      turn-comes r g [] chunks Next.Stop stop (λ e. let z : _≡_ {A = ℕ} 0 1 = cc in absurd (omega arith)) (λ e. let z : _≡_ {A = ℕ} 0 1 = cc in absurd (omega arith))
+      turn-completes r g [] chunks Next.Stop stop (λ e. let z : _≡_ {A = ℕ} 0 1 = cc in absurd (omega arith)) (λ e. let z : _≡_ {A = ℕ} 0 1 = cc in absurd (omega arith))
 
   -- a turn that goes on without a read leaves less to print
   fewer : (r : Read) (g : Good r) (left : List ℕ) (chunks : List (List ℕ)) → workOf room r left .next ≡ Next.Again
@@ -241,21 +240,21 @@ module _ (room : ℕ) (h : mostWritten ≤ room) where
       omega (arith, again-writes room r g left h e, ap length told, length-append (w .steps .bytes) again)
 
   -- a chunk, of which so much is still to print
-  chunk-comes : (chunks : List (List ℕ))
-      → ((r : Read) → Good r → wantsStep (r .task) [] ≡ false → Comes room r (chunkOf chunks) (chunksAfter chunks))
-      → (n : ℕ) (r : Read) → Good r → (left : List ℕ) → length (due r left chunks) ≤ n → Comes room r left chunks
-  chunk-comes chunks later zero r g left k =
-      turn-comes r g left chunks (workOf room r left .next) refl
+  chunk-completes : (chunks : List (List ℕ))
+      → ((r : Read) → Good r → wantsStep (r .task) [] ≡ false → Completes room r (chunkOf chunks) (chunksAfter chunks))
+      → (n : ℕ) (r : Read) → Good r → (left : List ℕ) → length (due r left chunks) ≤ n → Completes room r left chunks
+  chunk-completes chunks later zero r g left k =
+      turn-completes r g left chunks (workOf room r left .next) refl
       (λ e. absurd (omega (arith, fewer r g left chunks e)))
       (λ e. later (workOf room r left .steps .read) (after-good room r g left) (read-ended room r g left e))
-  chunk-comes chunks later (suc n) r g left k =
-      turn-comes r g left chunks (workOf room r left .next) refl
-      (λ e. chunk-comes chunks later n (workOf room r left .steps .read) (after-good room r g left) (workOf room r left .steps .left) (omega (arith, fewer r g left chunks e)))
+  chunk-completes chunks later (suc n) r g left k =
+      turn-completes r g left chunks (workOf room r left .next) refl
+      (λ e. chunk-completes chunks later n (workOf room r left .steps .read) (after-good room r g left) (workOf room r left .steps .left) (omega (arith, fewer r g left chunks e)))
       (λ e. later (workOf room r left .steps .read) (after-good room r g left) (read-ended room r g left e))
 
-  comes : (chunks : List (List ℕ)) (r : Read) → Good r → (left : List ℕ) → Comes room r left chunks
-  comes [] r g left = chunk-comes [] (λ s q w. ended-comes s q w []) (length (due r left [])) r g left (omega arith)
-  comes (chunk ∷ chunks) r g left = chunk-comes (chunk ∷ chunks) (λ s q w. comes chunks s q chunk) (length (due r left (chunk ∷ chunks))) r g left (omega arith)
+  completes : (chunks : List (List ℕ)) (r : Read) → Good r → (left : List ℕ) → Completes room r left chunks
+  completes [] r g left = chunk-completes [] (λ s q w. ended-completes s q w []) (length (due r left [])) r g left (omega arith)
+  completes (chunk ∷ chunks) r g left = chunk-completes (chunk ∷ chunks) (λ s q w. completes chunks s q chunk) (length (due r left (chunk ∷ chunks))) r g left (omega arith)
 
 -- The program comes to an end, and has then written the output of its input: from so many turns on. Chunk sizes cannot matter.
 pub record Ends (room : ℕ) (chunks : List (List ℕ)) : Type 0 where
@@ -265,5 +264,5 @@ pub record Ends (room : ℕ) (chunks : List (List ℕ)) : Type 0 where
 pub program-ends : (room : ℕ) → mostWritten ≤ room → (chunks : List (List ℕ)) → Ends room chunks
 unfolding program
 program-ends room h chunks =
-    let c = comes room h (chunksAfter chunks) (atLine 1) begin-good (chunkOf chunks) in
+    let c = completes room h (chunksAfter chunks) (atLine 1) begin-good (chunkOf chunks) in
     record { turns = c .turns; all = λ m k. c .all m k ∙ begin-due chunks }

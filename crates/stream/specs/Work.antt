@@ -1,5 +1,5 @@
 -- What the program does between a read and a write, and its loop around them, as functions of the bytes that are read. Definitions only. Assumes nothing.
-use mathlib.Core.Bool.{cond, _&&_}
+use mathlib.Core.Bool.{Bool, true, false, cond, _&&_}
 use mathlib.Core.List.{List, [], _∷_, _++_}
 use Prim.Native.Nat.{ℕ, zero, suc, _+_, _-_}
 use lib.Dec.{leb}
@@ -11,6 +11,7 @@ use Rattle.stream.specs.Step.{mostWritten, Read, Stepped, wantsStep, atL
 
 -- ---- steps one after another
 
+-- no step: nothing is read or written
 abbrev pub noStep : Read → (input : List ℕ) → Stepped
 noStep r input = record { read = r; left = input; bytes = [] }
 
@@ -29,22 +30,30 @@ stepsOf (suc most) room r input =
 abbrev pub allSteps : (room : ℕ) → Read → (input : List ℕ) → Stepped
 allSteps room r input = stepsOf (length input + room) room r input
 
--- ---- what is done with a chunk of the input
+-- ---- what is done between a read and a write
 
 -- the steps, and what the program does after it has written their bytes
-pub record Stretch : Type 0 where
+pub record Batch : Type 0 where
   pub steps : Stepped
   pub next : Next
 
--- it goes on where a step is wanted for which there was no room, else it reads; "it stops after 65,535 lines"
-abbrev pub nextOf : Read → (left : List ℕ) → Next
-nextOf r left = cond (wantsStep (r .task) left) Next.Again (cond (leb (r .number) mostLines) Next.Read Next.Stop)
+-- it goes on where a step is still wanted, for which there was no room; else it reads; "it stops after 65,535 lines"
+abbrev pub nextIf : (wanted few : Bool) → Next
+nextIf true few = Next.Again
+nextIf false true = Next.Read
+nextIf false false = Next.Stop
 
--- All steps that there is room for. Where none is wanted, the read before it gave nothing: that is the end of the input.
-unfoldable pub workOf : (room : ℕ) → Read → (left : List ℕ) → Stretch
-workOf room r left =
-    let s = allSteps room r left in
-    cond (wantsStep (r .task) left) (record { steps = s; next = nextOf (s .read) (s .left) }) (record { steps = record { read = r; left = left; bytes = endOf r }; next = Next.Stop })
+abbrev pub nextOf : Read → (left : List ℕ) → Next
+nextOf r left = nextIf (wantsStep (r .task) left) (leb (r .number) mostLines)
+
+-- where a step is wanted, all steps that there is room for; else the read before it gave nothing: that is the end of the input
+abbrev pub workIf : (wanted : Bool) (room : ℕ) → Read → (left : List ℕ) → Batch
+workIf true room r left = record { steps = allSteps room r left; next = nextOf (allSteps room r left .read) (allSteps room r left .left) }
+workIf false room r left = record { steps = record { read = r; left = left; bytes = endOf r }; next = Next.Stop }
+
+-- All that the program does between a read and a write.
+unfoldable pub workOf : (room : ℕ) → Read → (left : List ℕ) → Batch
+workOf room r left = workIf (wantsStep (r .task) left) room r left
 
 -- ---- the program's loop
 
@@ -53,11 +62,12 @@ abbrev pub chunkOf : List (List ℕ) → List ℕ
 chunkOf [] = []
 chunkOf (chunk ∷ chunks) = chunk
 
+-- and the chunks after it
 abbrev pub chunksAfter : List (List ℕ) → List (List ℕ)
 chunksAfter [] = []
 chunksAfter (chunk ∷ chunks) = chunks
 
--- what is written after it, where the program goes on with the chunk, and where it reads
+-- what is written after a turn, from what would be if the program went on with its chunk, and if it read
 abbrev pub onward : Next → (again more : List ℕ) → List ℕ
 onward Next.Again again more = again
 onward Next.Read again more = more

@@ -30,7 +30,7 @@ use Rattle.stream.specs.Work.{noStep, andThen, stepsOf}
 
 -- ---- a step uses up input or room
 
--- a step that leaves so much of so many bytes, and writes some
+-- of so many bytes a step leaves fewer, or it writes some
 abbrev Uses : ℕ → Stepped → Type 0
 Uses size s = length (s .left) < size + length (s .bytes)
 
