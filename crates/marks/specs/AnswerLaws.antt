@@ -1,0 +1,83 @@
+-- The law of answers, "the first condition that holds", both ways: from the tests to the answer, and from the answer to the tests. Assumes nothing.
+use mathlib.Core.Path.{_≡_, refl, sym, ap, _∙_}
+use mathlib.Core.Bool.{Bool, true, false, cond, not, _&&_, _||_, true≢false}
+use mathlib.Core.List.{List, [], _∷_, _++_}
+use Prim.Native.Nat.{ℕ}
+use native.Mathlib.Omega.{arith}
+use Rattle.marks.specs.Answers.{Refusal, number, none, judged, NoneHolds, Outcome, refused, accepted, unless, answer}
+
+-- ---- from the tests to the refusal
+-- v is what the first condition that holds says
+pub record First (l : List (ℕ × Bool)) (v : Refusal) : Type 0 where
+  pub is : judged l ≡ v
+
+-- a condition that does not hold is passed over
+pub pass : {n : ℕ} {b : Bool} {l : List (ℕ × Bool)} {v : Refusal} → b ≡ false → First l v → First ((n, b) ∷ l) v
+unfolding judged
+pass {n} {b} {l} q r = record { is = ap (λ (t : Bool). cond t (number n) (judged l)) q ∙ r .is }
+
+-- one that holds is the refusal
+pub stop : {n : ℕ} {b : Bool} {l : List (ℕ × Bool)} → b ≡ true → First ((n, b) ∷ l) (number n)
+unfolding judged
+stop {n} {b} {l} q = record { is = ap (λ (t : Bool). cond t (number n) (judged l)) q }
+
+-- where none is left, there is none
+pub end : First [] none
+unfolding judged
+end = record { is = refl }
+
+-- none of a list holds: the rest decides
+pub pass-all : (k l : List (ℕ × Bool)) → NoneHolds k → judged (k ++ l) ≡ judged l
+pass-all [] l h = refl
+pass-all (t ∷ k) l h = pass (h .0) (record { is = pass-all k l (h .1) }) .is
+
+-- ---- from the refusal to the answer
+pub refuses : {A : Type 0} {l : List (ℕ × Bool)} {n : ℕ} → First l (number n) → (a : A) → refused n ≡ answer l a
+unfolding answer
+refuses q a = sym (ap (λ (v : Refusal). unless v a) (q .is))
+
+pub accepts : {A : Type 0} {l : List (ℕ × Bool)} → First l none → (a : A) → accepted a ≡ answer l a
+unfolding answer
+accepts q a = sym (ap (λ (v : Refusal). unless v a) (q .is))
+
+-- ---- from the refusal to the tests
+-- where there is none, no condition holds, and none of the rest refuses
+pub judged-none : (k l : List (ℕ × Bool)) → judged (k ++ l) ≡ none → NoneHolds k × (judged l ≡ none)
+unfolding judged
+judged-none [] l q = (tt, q)
+judged-none (t ∷ k) l q = go (t .1) refl q (judged-none k l)
+  where
+    go : (b : Bool) → t .1 ≡ b → cond b (number (t .0)) (judged (k ++ l)) ≡ none → (judged (k ++ l) ≡ none → NoneHolds k × (judged l ≡ none))
+        → NoneHolds (t ∷ k) × (judged l ≡ none)
+    go true i q ih = let z : _≡_ {A = ℕ} 0 1 = cc in absurd (omega arith)
+    go false i q ih = let r = ih q in ((i, r .0), r .1)
+
+-- ---- from the answer to the tests
+-- an accepted value is the answer's own, and no condition holds
+pub only-accepted : {A : Type 0} (l : List (ℕ × Bool)) (a b : A) → answer l a ≡ accepted b → NoneHolds l × (a ≡ b)
+unfolding answer judged
+only-accepted {A} [] a b q = (tt, cc)
+only-accepted {A} (t ∷ l) a b q = go (t .1) refl q (only-accepted l a b)
+  where
+    go : (c : Bool) → t .1 ≡ c → unless (cond c (number (t .0)) (judged l)) a ≡ accepted b → (answer l a ≡ accepted b → NoneHolds l × (a ≡ b))
+        → NoneHolds (t ∷ l) × (a ≡ b)
+    go true i q ih = let z : _≡_ {A = ℕ} 0 1 = cc in absurd (omega arith)
+    go false i q ih = let r = ih q in ((i, r .0), r .1)
+
+-- ---- tests joined
+-- neither of two holds
+pub or-false : (a b : Bool) → a || b ≡ false → (a ≡ false) × (b ≡ false)
+or-false true b q = absurd (true≢false q)
+or-false false b q = (refl, q)
+
+-- both of two hold
+pub and-true : (a b : Bool) → a && b ≡ true → (a ≡ true) × (b ≡ true)
+and-true true b e = (refl, e)
+and-true false b e = absurd (true≢false (sym e))
+
+-- a test turned round
+pub not-holds : {b : Bool} → b ≡ false → not b ≡ true
+not-holds q = ap not q
+
+pub not-fails : {b : Bool} → b ≡ true → not b ≡ false
+not-fails q = ap not q

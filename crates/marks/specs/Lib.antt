@@ -1,0 +1,3 @@
+-- What an answer says, and the laws of its refusals.
+pub mod Answers
+pub mod AnswerLaws
