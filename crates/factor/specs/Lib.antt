@@ -8,4 +8,3 @@ pub mod Accepted
 pub mod SetUp
 pub mod SetUpLaws
 pub mod Stored
-pub mod Answers

@@ -1,7 +1,10 @@
 -- What belongs to a precision n (document 01: "Limits and exponents that belong to a precision are named once, with the precision"). Definitions only. Assumes nothing.
-use mathlib.Core.Bool.{Bool, _||_, cond}
+use mathlib.Core.Bool.{Bool, _||_}
+use mathlib.Core.List.{[], _∷_}
 use Prim.Native.Nat.{ℕ, _-_, _^_, _≤_}
 use lib.Dec.{ltb, leb}
+use Rattle.marks.specs.Answers.{Outcome, refused, accepted, answer}
+use Rattle.factor.specs.declared.Precision.{Precision}
 use Rattle.factor.specs.declared.PrecisionAnswer.{PrecisionAnswer}
 use Rattle.factor.specs.declared.PrecisionAnswer.the-variants.{Accepted, Refused}
 
@@ -30,8 +33,13 @@ pub record Kept (n : ℕ) : Type 0 where
   pub most : n ≤ 24
 
 -- the precision, or refusal 11
-abbrev pub newPrecision : ℕ → PrecisionAnswer
-newPrecision n = cond (precisionOut n) (Refused 11) (Accepted (record { bits = n }))
+abbrev pub newPrecision : ℕ → Outcome Precision
+newPrecision n = answer ((11, precisionOut n) ∷ []) (record { bits = n })
+
+-- what each case of its answer says
+abbrev pub precisionSays : PrecisionAnswer → Outcome Precision
+precisionSays (Accepted p) = accepted p
+precisionSays (Refused k) = refused k
 
 -- refusal 17: a significand outside 2 ^ (n - 1) to 2 ^ n - 1
 abbrev pub significandOut : (n X : ℕ) → Bool

@@ -1,14 +1,17 @@
 -- Set-up of a factor, with the refusals 11 to 16 in document 01's order, and the check behind 31. Definitions only. Assumes nothing.
 use mathlib.Core.Path.{_≡_}
-use mathlib.Core.Bool.{Bool, false, not, _&&_, _||_, cond}
+use mathlib.Core.Bool.{Bool, false, not, _&&_, _||_}
+use mathlib.Core.List.{List, [], _∷_}
 use Prim.Native.Nat.{ℕ, suc, _^_, _≤_}
 use lib.Dec.{eqb, ltb, leb}
 use lib.IntN.{ℤ, pos, negsuc}
 use lib.Signed.{ltZ}
 use lib.Ieee
 use lib.Ieee.{Float, binary32, toBits}
+use Rattle.marks.specs.Answers.{Outcome, refused, accepted, answer}
 use Rattle.rounding.specs.Grid.{toEven}
 use Rattle.rounding.specs.Fraction.{Fraction}
+use Rattle.factor.specs.declared.Description.{Description}
 use Rattle.factor.specs.declared.Parts.{Parts}
 use Rattle.factor.specs.declared.Applied.{Applied}
 use Rattle.factor.specs.declared.Factor.{Factor}
@@ -46,29 +49,42 @@ sameLow p q = sameZ (p .low) (q .low) && eqb (p .places) (q .places)
 abbrev pub float32 : Fraction → Float
 float32 x = Ieee.round binary32 (x .minus) (x .num) (x .den)
 
--- the parts at the lower end, which are those of the upper end too
-unfoldable pub partsOf : (n L : ℕ) → Parts
+-- the parts at an end
+unfoldable pub partsOf : Description → (end : ℕ) → Parts
 unfolding partsAt
-partsOf n L = partsAt toEven n (scaleOf n) L
+partsOf d c = partsAt toEven (d .precision) (scaleOf (d .precision)) c
 
-unfoldable pub appliedOf : (n : ℕ) → ℤ → (L : ℕ) → Applied
+-- what a handheld applies: the parts at the lower end, which are those of the upper end too
+unfoldable pub appliedOf : Description → Applied
 unfolding Ieee.round
-appliedOf n k L = record { high = float32 (highPart toEven n (scaleOf n) L); low = float32 (lowPart toEven n (scaleOf n) L); scale = k }
+appliedOf d =
+    let n = d .precision in
+    record { high = float32 (highPart toEven n (scaleOf n) (d .lower)); low = float32 (lowPart toEven n (scaleOf n) (d .lower)); scale = d .scale }
 
-abbrev pub factorOf : (n : ℕ) → ℤ → (L U : ℕ) → Factor
-factorOf n k L U = record { precision = record { bits = n }; lower = L; upper = U; parts = partsOf n L; applied = appliedOf n k L }
+abbrev pub factorOf : Description → Factor
+factorOf d = record { precision = record { bits = d .precision }; lower = d .lower; upper = d .upper; parts = partsOf d (d .lower); applied = appliedOf d }
 
--- set-up: the first refusal whose condition holds, in the order of their numbers, else the factor
-unfoldable pub setUp : (n : ℕ) → ℤ → (L U : ℕ) → SetUp
+-- ---- set-up
+-- the conditions that refuse a description
+abbrev pub conditions : Description → List (ℕ × Bool)
+conditions d =
+    (11, precisionOut (d .precision))
+    ∷ (12, endOut (scaleOf (d .precision)) (d .lower) || endOut (scaleOf (d .precision)) (d .upper))
+    ∷ (13, ltb (d .upper) (d .lower))
+    ∷ (14, scaleOut (d .scale))
+    ∷ (15, not (sameHigh (partsOf d (d .lower)) (partsOf d (d .upper))))
+    ∷ (16, not (sameLow (partsOf d (d .lower)) (partsOf d (d .upper))))
+    ∷ []
+
+-- the factor, unless one of them holds
+unfoldable pub setUp : Description → Outcome Factor
 unfolding partsOf appliedOf
-setUp n k L U =
-    cond (precisionOut n) (Refused 11)
-    (cond (endOut (scaleOf n) L || endOut (scaleOf n) U) (Refused 12)
-    (cond (ltb U L) (Refused 13)
-    (cond (scaleOut k) (Refused 14)
-    (cond (not (sameHigh (partsOf n L) (partsOf n U))) (Refused 15)
-    (cond (not (sameLow (partsOf n L) (partsOf n U))) (Refused 16)
-    (Accepted (factorOf n k L U)))))))
+setUp d = answer (conditions d) (factorOf d)
+
+-- what each case of set-up's answer says
+abbrev pub outcomeOf : SetUp → Outcome Factor
+outcomeOf (Accepted f) = accepted f
+outcomeOf (Refused k) = refused k
 
 -- ---- the check behind 31
 -- floats are compared bit for bit
@@ -83,14 +99,18 @@ abbrev pub sameFactor : Factor → Factor → Bool
 sameFactor f g = sameHigh (f .parts) (g .parts) && (sameLow (f .parts) (g .parts) && sameApplied (f .applied) (g .applied))
 
 -- f is what a set-up gave
-abbrev pub given : Factor → SetUp → Bool
-given f (Accepted g) = sameFactor f g
-given f (Refused k) = false
+abbrev pub given : Factor → Outcome Factor → Bool
+given f (accepted g) = sameFactor f g
+given f (refused k) = false
+
+-- a factor as it would be described
+abbrev pub described : Factor → Description
+described f = record { precision = f .precision .bits; scale = f .applied .scale; lower = f .lower; upper = f .upper }
 
 -- 31 stands if this is false: the factor's stored parts are those that its ends, precision and scale set up, and those are not refused
 unfoldable pub intact : Factor → Bool
 unfolding setUp
-intact f = given f (setUp (f .precision .bits) (f .applied .scale) (f .lower) (f .upper))
+intact f = given f (setUp (described f))
 
 -- ---- what is known of a factor that was accepted
 pub record Sound (f : Factor) : Type 0 where
@@ -101,6 +121,6 @@ pub record Sound (f : Factor) : Type 0 where
   pub ordered : f .lower ≤ f .upper
   pub scale : scaleOut (f .applied .scale) ≡ false
   pub same : partsAt toEven (f .precision .bits) 62 (f .lower) ≡ partsAt toEven (f .precision .bits) 62 (f .upper)
-  pub parts : f .parts ≡ partsOf (f .precision .bits) (f .lower)
-  pub high-stored : toBits binary32 (f .applied .high) ≡ toBits binary32 (appliedOf (f .precision .bits) (f .applied .scale) (f .lower) .high)
-  pub low-stored : toBits binary32 (f .applied .low) ≡ toBits binary32 (appliedOf (f .precision .bits) (f .applied .scale) (f .lower) .low)
+  pub parts : f .parts ≡ partsOf (described f) (f .lower)
+  pub high-stored : toBits binary32 (f .applied .high) ≡ toBits binary32 (appliedOf (described f) .high)
+  pub low-stored : toBits binary32 (f .applied .low) ≡ toBits binary32 (appliedOf (described f) .low)

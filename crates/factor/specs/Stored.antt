@@ -12,6 +12,7 @@ use lib.Ieee
 use lib.Ieee.{binary32, isNan}
 use lib.Ieee.Exact.{HasValue}
 use lib.Ieee.Scale.{round-same}
+use Rattle.marks.specs.Answers.{accepted}
 use Rattle.rounding.specs.Apart.{apart}
 use Rattle.rounding.specs.Grid.{toEven}
 use Rattle.rounding.specs.Ieee.{round-itself}
@@ -25,7 +26,7 @@ use Rattle.factor.specs.Whole.{End, whole, step}
 use Rattle.factor.specs.LowForm.{Tells}
 use Rattle.factor.specs.PartsLaws.{bottom-is, high-counts, high-is, high-least, high-most, low-counts, low-kept, low-tells, whole-of-parts}
 use Rattle.factor.specs.declared.Factor.{Factor}
-use Rattle.factor.specs.declared.SetUp.the-variants.{Accepted}
+use Rattle.factor.specs.declared.Description.{Description}
 use Rattle.factor.specs.SetUp.{float32, partsOf, appliedOf, setUp}
 use Rattle.factor.specs.SetUpLaws.{setUp-sound}
 use Rattle.rounding.specs.Binary32.{value-number}
@@ -76,20 +77,6 @@ module _ (n : ℕ) (N : Kept n) (c : ℕ) (ce : End 62 c) where
 
   pub low-sign : lowPart toEven n 62 c .minus ≡ negative (p .low)
   low-sign = low-counts toEven n 62 P F c ce .sign ∙ ap (λ w. w .minus) (whole-of-parts toEven n 62 P F c ce)
-
-  -- so the floats are those of the kept parts
-  pub applied-from : (k : ℤ) → appliedOf n k c ≡ appliedFrom n k (partsOf n c)
-  unfolding appliedOf partsOf
-  applied-from k =
-      let h = highPart toEven n 62 c in
-      let l = lowPart toEven n 62 c in
-      let hc = high-counts toEven n 62 P F c ce in
-      let lc = low-counts toEven n 62 P F c ce in
-      let high : float32 h ≡ Ieee.round binary32 false (p .high) (2 ^ (n - 1)) =
-      ap (λ (b : Bool). Ieee.round binary32 b (h .num) (h .den)) (hc .sign) ∙ round-same binary32 false (h .num) (h .den) (p .high) (2 ^ (n - 1)) (hc .some) (pow-pos (n - 1)) high-over in
-      let low : float32 l ≡ Ieee.round binary32 (negative (p .low)) (natAbs (p .low)) (2 ^ p .places) =
-      ap (λ (b : Bool). Ieee.round binary32 b (l .num) (l .den)) low-sign ∙ round-same binary32 (negative (p .low)) (l .num) (l .den) (natAbs (p .low)) (2 ^ p .places) (lc .some) (pow-pos (p .places)) low-over in
-      λ i. record { high = high i; low = low i; scale = k }
 
   pub storable : Storable n p
   storable =
@@ -152,9 +139,31 @@ module _ (n : ℕ) (N : n ≤ 24) where
   pub in-floats : (s : Bool) (m q : ℕ) → q ≤ 125 + n → Ieee.round binary32 s (m * 2 ^ (24 - n) * 2 ^ (125 + n - q)) (2 ^ 149) ≡ Ieee.round binary32 s m (2 ^ q)
   in-floats s m q h = round-same binary32 s (m * 2 ^ (24 - n) * 2 ^ (125 + n - q)) (2 ^ 149) m (2 ^ q) (pow-pos 149) (pow-pos q) (sym (in-units m q h))
 
--- ---- the stored numbers have exactly the values Ch and Cl
-module _ (n : ℕ) (N : Kept n) (k : ℤ) (c : ℕ) (ce : End 62 c) where
-  pub stored-high : HasValue (appliedOf n k c .high) false (highPart toEven n 62 c .num) (highPart toEven n 62 c .den)
+-- ---- what is stored of a description
+module _ (d : Description) (N : Kept (d .precision)) (ce : End 62 (d .lower)) where
+  abbrev n : ℕ
+  n = d .precision
+
+  abbrev c : ℕ
+  c = d .lower
+
+  -- the floats are those of the kept parts
+  pub applied-from : appliedOf d ≡ appliedFrom n (d .scale) (partsOf d c)
+  unfolding appliedOf partsOf
+  applied-from =
+      let p = partsAt toEven n 62 c in
+      let h = highPart toEven n 62 c in
+      let l = lowPart toEven n 62 c in
+      let hc = high-counts toEven n 62 (P n N c ce) (F n N c ce) c ce in
+      let lc = low-counts toEven n 62 (P n N c ce) (F n N c ce) c ce in
+      let high : float32 h ≡ Ieee.round binary32 false (p .high) (2 ^ (n - 1)) =
+      ap (λ (b : Bool). Ieee.round binary32 b (h .num) (h .den)) (hc .sign) ∙ round-same binary32 false (h .num) (h .den) (p .high) (2 ^ (n - 1)) (hc .some) (pow-pos (n - 1)) (high-over n N c ce) in
+      let low : float32 l ≡ Ieee.round binary32 (negative (p .low)) (natAbs (p .low)) (2 ^ p .places) =
+      ap (λ (b : Bool). Ieee.round binary32 b (l .num) (l .den)) (low-sign n N c ce) ∙ round-same binary32 (negative (p .low)) (l .num) (l .den) (natAbs (p .low)) (2 ^ p .places) (lc .some) (pow-pos (p .places)) (low-over n N c ce) in
+      λ i. record { high = high i; low = low i; scale = d .scale }
+
+  -- and have exactly the values Ch and Cl
+  pub stored-high : HasValue (appliedOf d .high) false (highPart toEven n 62 c .num) (highPart toEven n 62 c .den)
   unfolding appliedOf
   stored-high =
       let x = highPart toEven n 62 c in
@@ -162,7 +171,7 @@ module _ (n : ℕ) (N : Kept n) (k : ℤ) (c : ℕ) (ce : End 62 c) where
       subst (λ (b : Bool). HasValue (Ieee.round binary32 b (x .num) (x .den)) false (x .num) (x .den)) (sym (t .sign))
       (stored-exactly n (N .most) false (x .num) (x .den) (partsAt toEven n 62 c .high) (n - 1) (t .some) (storable n N c ce .most) (omega arith) (omega arith) (high-over n N c ce))
 
-  pub stored-low : HasValue (appliedOf n k c .low) (lowPart toEven n 62 c .minus) (lowPart toEven n 62 c .num) (lowPart toEven n 62 c .den)
+  pub stored-low : HasValue (appliedOf d .low) (lowPart toEven n 62 c .minus) (lowPart toEven n 62 c .num) (lowPart toEven n 62 c .den)
   unfolding appliedOf
   stored-low = go (decLe (natAbs (partsAt toEven n 62 c .low)) 0)
     where
@@ -179,12 +188,13 @@ module _ (n : ℕ) (N : Kept n) (k : ℤ) (c : ℕ) (ce : End 62 c) where
           stored-exactly n (N .most) (lowPart toEven n 62 c .minus) (lowPart toEven n 62 c .num) (lowPart toEven n 62 c .den) (natAbs (partsAt toEven n 62 c .low)) (partsAt toEven n 62 c .places) (low-counts toEven n 62 (P n N c ce) (F n N c ce) c ce .some) (le-of-lt (s .some m .most)) (s .deep m) (omega (arith, s .shallow)) (low-over n N c ce)
 
 -- so what set-up stores are numbers
-pub accepted-numbers : (n : ℕ) (k : ℤ) (L U : ℕ) (f : Factor) → setUp n k L U ≡ Accepted f → T (not (isNan (f .applied .high))) × T (not (isNan (f .applied .low)))
-accepted-numbers n k L U f e =
-    let t = setUp-sound n k L U f e in
-    let kept : Kept n = record { least = t .1 .fewest; most = t .1 .most } in
-    let end = t .1 .lower-end in
-    subst (λ (g : Factor). T (not (isNan (g .applied .high))) × T (not (isNan (g .applied .low)))) (sym (t .0)) (
-      value-number (appliedOf n k L .high) false (highPart toEven n 62 L .num) (highPart toEven n 62 L .den) (stored-high n kept k L end),
-      value-number (appliedOf n k L .low) (lowPart toEven n 62 L .minus) (lowPart toEven n 62 L .num) (lowPart toEven n 62 L .den) (stored-low n kept k L end),
+pub accepted-numbers : (d : Description) (f : Factor) → setUp d ≡ accepted f → T (not (isNan (f .applied .high))) × T (not (isNan (f .applied .low)))
+accepted-numbers d f e =
+    let t = setUp-sound d f e in
+    let kept : Kept (d .precision) = record { least = t .1 .fewest; most = t .1 .most } in
+    let h = highPart toEven (d .precision) 62 (d .lower) in
+    let l = lowPart toEven (d .precision) 62 (d .lower) in
+    subst (λ (g : Factor). T (not (isNan (g .applied .high))) × T (not (isNan (g .applied .low)))) (t .0) (
+      value-number (appliedOf d .high) false (h .num) (h .den) (stored-high d kept (t .1 .lower-end)),
+      value-number (appliedOf d .low) (l .minus) (l .num) (l .den) (stored-low d kept (t .1 .lower-end)),
     )

@@ -3,7 +3,7 @@
 use rounding::TieRule;
 ghost use mathlib.Core.Path.{_≡_};
 ghost use Prim.Native.Nat.{_+_, _-_, _*_, _<_, _≤_, _^_};
-ghost use mathlib.Core.Bool.{false, not};
+ghost use mathlib.Core.Bool.{false, not, _||_};
 ghost use lib.Dec.{T, ltb};
 ghost use lib.Ieee;
 ghost use lib.Ieee.{binary32, isNan};
@@ -11,12 +11,19 @@ ghost use lib.IntN.{natAbs};
 ghost use Rattle.rounding.specs.Apart.{apart};
 ghost use Rattle.rounding.specs.Grid.{toEven};
 ghost use Rattle.rounding.specs.Signed.{negative, signedOf};
-ghost use Rattle.factor.specs.Precision.{Kept, newPrecision, leastOf, mostOf};
+ghost use Rattle.factor.specs.Precision.{Kept, precisionOut, newPrecision, precisionSays, leastOf, mostOf};
 ghost use Rattle.factor.specs.Whole.{End, partsFrom};
 ghost use Rattle.factor.specs.Parts.{partsAt};
-ghost use Rattle.factor.specs.SetUp.{endOut, scaleOut, sameLow, sameFloat, sameApplied, sameFactor, setUp, intact};
-ghost use Rattle.factor.specs.Answers.{precisionOutcome, precisionSaid, outcomeOf, said};
+ghost use Rattle.factor.specs.SetUp.{endOut, scaleOut, sameLow, sameFloat, sameApplied, sameFactor, setUp, outcomeOf, intact};
 ghost use Rattle.factor.specs.Stored.{LowStorable, Storable, appliedFrom};
+
+// A factor as an office describes it: precision, scale and both ends, none of them judged yet.
+pub struct Description {
+    pub precision: u32,
+    pub scale: i32,
+    pub lower: u64,
+    pub upper: u64,
+}
 
 // A precision n: how many bits a significand has. What belongs to a precision is named here, once.
 pub struct Precision {
@@ -76,15 +83,21 @@ impl Precision {
     // A search takes at most so many rounds.
     pub const ROUNDS: u64 = 64;
 
-    // A precision, or refusal 11.
-    pub fn new(bits: u32) -> PrecisionAnswer
-        ensures { λ r. ⌜ r ≡ newPrecision bits ⌝ }
-        ensures { λ r. ⌜ precisionOutcome r ≡ precisionSaid bits ⌝ }
+    // Refusal 11: precision not 4 to 24.
+    fn is_out(bits: u32) -> bool
+        ensures { λ r. ⌜ r ≡ precisionOut bits ⌝ }
     {
         if bits < Precision::LEAST {
-            return PrecisionAnswer::Refused(11);
+            return true;
         }
-        if Precision::MOST < bits {
+        Precision::MOST < bits
+    }
+
+    // A precision, or refusal 11.
+    pub fn new(bits: u32) -> PrecisionAnswer
+        ensures { λ r. ⌜ precisionSays r ≡ newPrecision bits ⌝ }
+    {
+        if Precision::is_out(bits) {
             return PrecisionAnswer::Refused(11);
         }
         PrecisionAnswer::Accepted(Precision { bits })
@@ -243,42 +256,49 @@ fn same_low(p: Parts, q: Parts) -> bool
     false
 }
 
-// Set-up from a precision, a scale and two ends: the factor, or the first refusal whose condition holds.
-pub fn set_up(precision: u32, scale: i32, lower: u64, upper: u64) -> SetUp
-    ensures { λ r. ⌜ r ≡ setUp precision scale lower upper ⌝ }
-    ensures { λ r. ⌜ outcomeOf r ≡ said precision scale lower upper ⌝ }
+// Refusal 12: one end or the other.
+fn ends_out(lower: u64, upper: u64) -> bool
+    ensures { λ r. ⌜ r ≡ endOut 62 lower || endOut 62 upper ⌝ }
 {
-    let PrecisionAnswer::Accepted(p) = Precision::new(precision) else {
-        return SetUp::Refused(11);
-    };
     if end_out(lower) {
+        return true;
+    }
+    end_out(upper)
+}
+
+// Set-up: the factor, or the first refusal whose condition holds.
+pub fn set_up(d: Description) -> SetUp
+    ensures { λ r. ⌜ outcomeOf r ≡ setUp d ⌝ }
+{
+    if Precision::is_out(d.precision) {
+        return SetUp::Refused(11);
+    }
+    if ends_out(d.lower, d.upper) {
         return SetUp::Refused(12);
     }
-    if end_out(upper) {
-        return SetUp::Refused(12);
-    }
-    if upper < lower {
+    if d.upper < d.lower {
         return SetUp::Refused(13);
     }
-    if scale_out(scale) {
+    if scale_out(d.scale) {
         return SetUp::Refused(14);
     }
-    let parts = parts_at(p, lower);
-    let other = parts_at(p, upper);
+    let precision = Precision { bits: d.precision };
+    let parts = parts_at(precision, d.lower);
+    let other = parts_at(precision, d.upper);
     if parts.high != other.high {
         return SetUp::Refused(15);
     }
-    if same_low(parts, other) {
-        let stored = stored_parts(p, parts, scale);
-        return SetUp::Accepted(Factor {
-            precision: p,
-            lower,
-            upper,
-            parts,
-            applied: stored,
-        });
+    if !same_low(parts, other) {
+        return SetUp::Refused(16);
     }
-    SetUp::Refused(16)
+    let applied = stored_parts(precision, parts, d.scale);
+    SetUp::Accepted(Factor {
+        precision,
+        lower: d.lower,
+        upper: d.upper,
+        parts,
+        applied,
+    })
 }
 
 // Whether two floats are the same bit for bit, the second being a number.
@@ -326,9 +346,13 @@ fn same_factor(f: Factor, g: Factor) -> bool
 pub fn is_intact(f: Factor) -> bool
     ensures { λ r. ⌜ r ≡ intact f ⌝ }
 {
-    let p = f.precision;
-    let a = f.applied;
-    match set_up(p.bits, a.scale, f.lower, f.upper) {
+    let own = Description {
+        precision: f.precision.bits,
+        scale: f.applied.scale,
+        lower: f.lower,
+        upper: f.upper,
+    };
+    match set_up(own) {
         SetUp::Accepted(g) => same_factor(f, g),
         SetUp::Refused(_) => false,
     }

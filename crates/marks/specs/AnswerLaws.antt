@@ -64,6 +64,16 @@ only-accepted {A} (t ∷ l) a b q = go (t .1) refl q (only-accepted l a b)
     go true i q ih = let z : _≡_ {A = ℕ} 0 1 = cc in absurd (omega arith)
     go false i q ih = let r = ih q in ((i, r .0), r .1)
 
+-- what holds of every refusal, and of the value where no condition holds, holds of the answer
+pub of-answer : {A : Type 0} (P : Outcome A → Type 0) (l : List (ℕ × Bool)) (a : A) → ((n : ℕ) → P (refused n)) → (NoneHolds l → P (accepted a)) → P (answer l a)
+unfolding answer judged
+of-answer {A} P [] a out through = through tt
+of-answer {A} P (t ∷ l) a out through = go (t .1) refl (λ h. of-answer P l a out h)
+  where
+    go : (b : Bool) → t .1 ≡ b → ((NoneHolds l → P (accepted a)) → P (answer l a)) → P (unless (cond b (number (t .0)) (judged l)) a)
+    go true i ih = out (t .0)
+    go false i ih = ih (λ h. through (i, h))
+
 -- ---- tests joined
 -- neither of two holds
 pub or-false : (a b : Bool) → a || b ≡ false → (a ≡ false) × (b ≡ false)

@@ -1,7 +1,9 @@
 -- The answer to a multiplication (document 01, "The product" and the refusals 31 and 17), and what each of its cases says. Definitions only. Assumes nothing.
-use mathlib.Core.Bool.{not, cond}
+use mathlib.Core.Bool.{Bool, not}
+use mathlib.Core.List.{List, [], _∷_}
 use Prim.Native.Nat.{ℕ}
 use Rattle.marks.specs.declared.Mark.{Mark}
+use Rattle.marks.specs.Answers.{Outcome, refused, accepted, answer, Marked}
 use Rattle.factor.specs.declared.Factor.{Factor}
 use Rattle.factor.specs.Precision.{significandOut}
 use Rattle.factor.specs.SetUp.{intact}
@@ -11,42 +13,27 @@ use Rattle.product.specs.Product.{product, productBy}
 use Rattle.product.specs.Marks.{mark, markBy, SaysBy}
 
 -- ---- the answer
--- a product in the case of its mark
-abbrev pub answered : Mark → Product → ProductAnswer
-answered Mark.Right v = ProductAnswer.Right v
-answered Mark.Open v = ProductAnswer.Open v
-answered Mark.Wrong v = ProductAnswer.Wrong v
+-- the conditions that refuse a significand: 31 by the factor, then 17
+abbrev pub conditions : Factor → ℕ → List (ℕ × Bool)
+conditions f X = (31, not (intact f)) ∷ (17, significandOut (f .precision .bits) X) ∷ []
 
--- refusal 31 before refusal 17, else the product with its mark
-unfoldable pub multiplied : Factor → ℕ → ProductAnswer
+-- a value, whoever made it, with its mark
+abbrev pub marked : Factor → ℕ → Product → Marked Product
+marked f X v = record { mark = markBy f X v; value = v }
+
+-- the product with its mark, unless one of them holds
+unfoldable pub multiplied : Factor → ℕ → Outcome (Marked Product)
 unfolding intact product mark
-multiplied f X =
-    cond (not (intact f)) (ProductAnswer.Refused 31)
-    (cond (significandOut (f .precision .bits) X) (ProductAnswer.Refused 17)
-    (let v = productBy f X in answered (markBy f X v) v))
+multiplied f X = answer (conditions f X) (marked f X (productBy f X))
 
--- ---- what a case says: a refusal its number; any other its mark, the significand S and the binade b
-pub data Outcome : Type 0 where
-  refusal : (number : ℕ) → Outcome
-  marked : (mark : Mark) (S b : ℕ) → Outcome
-
-abbrev pub outcomeOf : ProductAnswer → Outcome
-outcomeOf (ProductAnswer.Right v) = marked Mark.Right (v .significand) (v .binade)
-outcomeOf (ProductAnswer.Open v) = marked Mark.Open (v .significand) (v .binade)
-outcomeOf (ProductAnswer.Wrong v) = marked Mark.Wrong (v .significand) (v .binade)
-outcomeOf (ProductAnswer.Refused k) = refusal k
-
--- what the answer says: 31 before 17, else the mark, S and b
-unfoldable pub said : Factor → ℕ → Outcome
-unfolding intact product mark
-said f X =
-    cond (not (intact f)) (refusal 31)
-    (cond (significandOut (f .precision .bits) X) (refusal 17)
-    (let v = productBy f X in marked (markBy f X v) (v .significand) (v .binade)))
+-- what each case of the answer says: a refusal its number; any other its mark, and the product with the significand S and the binade b
+abbrev pub outcomeOf : ProductAnswer → Outcome (Marked Product)
+outcomeOf (ProductAnswer.Right v) = accepted (record { mark = Mark.Right; value = v })
+outcomeOf (ProductAnswer.Open v) = accepted (record { mark = Mark.Open; value = v })
+outcomeOf (ProductAnswer.Wrong v) = accepted (record { mark = Mark.Wrong; value = v })
+outcomeOf (ProductAnswer.Refused k) = refused k
 
 -- ---- demand 2 of an answer: what its mark says of every fraction between the factor's ends; a refusal says nothing of them
-abbrev pub Tells : Factor → ℕ → ProductAnswer → Type 0
-Tells f X (ProductAnswer.Right v) = SaysBy f X v Mark.Right
-Tells f X (ProductAnswer.Open v) = SaysBy f X v Mark.Open
-Tells f X (ProductAnswer.Wrong v) = SaysBy f X v Mark.Wrong
-Tells f X (ProductAnswer.Refused k) = Unit {0}
+abbrev pub Tells : Factor → ℕ → Outcome (Marked Product) → Type 0
+Tells f X (accepted a) = SaysBy f X (a .value) (a .mark)
+Tells f X (refused k) = Unit {0}

@@ -1,7 +1,6 @@
 -- Demand 2 for every accepted factor and every significand in range: what the parts and the two steps are, and what the mark tells of every fraction between the ends.
 -- Assumes nothing.
-use mathlib.Core.Path.{_≡_, refl, sym, ap, _∙_, subst}
-use mathlib.Core.Bool.{Bool, true, false}
+use mathlib.Core.Path.{_≡_, sym, ap, _∙_, subst}
 use Prim.Native.Nat.{ℕ, _-_, _*_, _^_, _≤_, _<_}
 use native.Mathlib.Nat.{mul-pos, le-trans, le-of-lt, eq-of-mul-eq-mul-right}
 use native.Mathlib.Omega.{arith}
@@ -9,6 +8,7 @@ use lib.Pow.{pow-pos}
 use lib.IntN.{natAbs}
 use lib.Ieee.{up}
 use Rattle.marks.specs.declared.Mark.{Mark}
+use Rattle.marks.specs.AnswerLaws.{of-answer}
 use Rattle.rounding.specs.Grid.{Rule, toEven}
 use Rattle.rounding.specs.Round.{rounded}
 use Rattle.rounding.specs.RoundLaws.{HasBits}
@@ -17,20 +17,19 @@ use Rattle.rounding.specs.Fraction.{Fraction, times, less, RN, Same}
 use Rattle.factor.specs.declared.Parts.{Parts}
 use Rattle.factor.specs.declared.Factor.{Factor}
 use Rattle.factor.specs.Parts.{partsAt, highPart, lowPart}
-use Rattle.factor.specs.Precision.{Kept, significandOut}
+use Rattle.factor.specs.Precision.{Kept}
 use Rattle.factor.specs.PartsLaws.{high-counts, low-counts}
 use Rattle.factor.specs.Accepted.{Between, high-everywhere, rest-counts-C, low-everywhere}
 use Rattle.factor.specs.Stored.{high-over, low-over, low-sign}
 use Rattle.factor.specs.Whole.{End}
-use Rattle.factor.specs.SetUp.{partsOf, intact, Sound}
-use Rattle.factor.specs.SetUpLaws.{intact-sound}
+use Rattle.factor.specs.SetUp.{partsOf, Sound}
 use Rattle.product.specs.declared.Product.{Product}
 use Rattle.product.specs.Product.{argument, high, low, first, fused, second, product, productBy, valueOf}
 use Rattle.product.specs.Marks.{markBy, SaysBy}
 use Rattle.product.specs.ProductLaws.{fused-some, product-is, product-value}
 use Rattle.product.specs.MarkLaws.{mark-says, mark-only}
-use Rattle.product.specs.Answer.{answered, multiplied, Tells}
-use Rattle.product.specs.AnswerLaws.{significand-in, answer-31, answer-17, answer-product}
+use Rattle.product.specs.Answer.{conditions, marked, multiplied, Tells}
+use Rattle.product.specs.AnswerLaws.{let-through}
 
 -- RN of x is x rounded to nearest in the sense of IEEE 754-2019, 4.3.1: it has n bits, no number of n bits is nearer, and half way between two the rule decides
 abbrev pub ToNearest : Rule → (n : ℕ) → Fraction → Type 0
@@ -141,16 +140,7 @@ module _ (f : Factor) (s : Sound f) (X : ℕ) (x : HasBits (f .precision .bits) 
 
 -- so every answer to a multiplication tells the truth, whatever the factor and the significand
 pub answer-tells : (f : Factor) (X : ℕ) → Tells f X (multiplied f X)
-answer-tells f X = go (intact f) (significandOut (f .precision .bits) X) refl refl
-  where
-    of-mark : (m : Mark) (v : Product) → SaysBy f X v m → Tells f X (answered m v)
-    of-mark Mark.Right v t = t
-    of-mark Mark.Open v t = t
-    of-mark Mark.Wrong v t = t
-
-    go : (a b : Bool) → intact f ≡ a → significandOut (f .precision .bits) X ≡ b → Tells f X (multiplied f X)
-    go false b p q = subst (Tells f X) (sym (answer-31 f X p)) tt
-    go true true p q = subst (Tells f X) (sym (answer-17 f X p q)) tt
-    go true false p q =
-        subst (Tells f X) (sym (answer-product f X p q))
-        (of-mark (markBy f X (productBy f X)) (productBy f X) (mark-tells f (intact-sound f p) X (significand-in (f .precision .bits) X q)))
+unfolding multiplied
+answer-tells f X =
+    of-answer (Tells f X) (conditions f X) (marked f X (productBy f X)) (λ k. tt)
+    (λ h. let t = let-through f X h in mark-tells f (t .0) X (t .1))

@@ -7,6 +7,7 @@ use rounding::TieRule;
 use wide::Wide;
 ghost use mathlib.Core.Path.{_≡_};
 ghost use Prim.Native.Nat.{_+_, _-_, _*_, _<_, _≤_, _^_};
+ghost use Rattle.marks.specs.Answers.{accepted};
 ghost use Rattle.rounding.specs.Grid.{toEven};
 ghost use Rattle.rounding.specs.Unit.{rn};
 ghost use Rattle.rounding.specs.RoundLaws.{HasBits};
@@ -17,7 +18,7 @@ ghost use Rattle.factor.specs.SetUp.{Sound};
 ghost use Rattle.product.specs.Product.{productBy};
 ghost use Rattle.product.specs.Marks.{markBy};
 ghost use Rattle.product.specs.Units.{firstUnits, fusedUnits, roundedUnits, markUnits, PartsAtEnd};
-ghost use Rattle.product.specs.Answer.{answered, multiplied, outcomeOf, said};
+ghost use Rattle.product.specs.Answer.{multiplied, outcomeOf};
 
 // A product from 1 to below 4: a significand of n bits, and its binade, 0 for [1, 2) and 1 for [2, 4).
 pub struct Product {
@@ -161,7 +162,7 @@ pub fn significand_out(p: Precision, x: u64) -> bool
 
 // A product in the case of its mark.
 fn answer(m: Mark, v: Product) -> ProductAnswer
-    ensures { λ r. ⌜ r ≡ answered m v ⌝ }
+    ensures { λ r. ⌜ outcomeOf r ≡ accepted (record { mark = m; value = v }) ⌝ }
 {
     match m {
         Mark::Right => ProductAnswer::Right(v),
@@ -172,16 +173,15 @@ fn answer(m: Mark, v: Product) -> ProductAnswer
 
 // Multiplies a significand: the product with its mark, or refusal 31 for the factor, or 17 for the significand.
 pub fn multiply(f: Factor, x: u64) -> ProductAnswer
-    ensures { λ r. ⌜ r ≡ multiplied f x ⌝ }
-    ensures { λ r. ⌜ outcomeOf r ≡ said f x ⌝ }
+    ensures { λ r. ⌜ outcomeOf r ≡ multiplied f x ⌝ }
 {
-    if factor::is_intact(f) {
-        let p = f.precision;
-        if significand_out(p, x) {
-            return ProductAnswer::Refused(17);
-        }
-        let v = product_of(f, x);
-        return answer(mark_of(f, x, v), v);
+    if !factor::is_intact(f) {
+        return ProductAnswer::Refused(31);
     }
-    ProductAnswer::Refused(31)
+    let p = f.precision;
+    if significand_out(p, x) {
+        return ProductAnswer::Refused(17);
+    }
+    let v = product_of(f, x);
+    answer(mark_of(f, x, v), v)
 }

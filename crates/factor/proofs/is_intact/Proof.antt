@@ -4,7 +4,8 @@ use lib.IntN.{ℤ}
 use mir.Syntax.{w32}
 use mir.Val.{toZ, ofZ}
 use borrow.Author.Needs.{needs}
-use Rattle.factor.specs.SetUp.{given, setUp, intact}
+use Rattle.factor.specs.declared.Description.{Description}
+use Rattle.factor.specs.SetUp.{given, described, setUp, outcomeOf, intact}
 use Rattle.factor.specs.Stored.{accepted-numbers}
 use Rattle.factor.proofs.is_intact.Statement.{statement}
 use Rattle.factor.proofs.is_intact.Tie as tie
@@ -16,18 +17,17 @@ enum-known-g : tie.Need-enum-known-g
 enum-known-g c = search needs
 
 -- what the factor's own figures set up
-set-up-is : (c : tie.After-set-up) → let f = c .before .before .before .before .args .f in c .set-up .result ≡ setUp (f .precision .bits) (f .applied .scale) (f .lower) (f .upper)
+set-up-is : (c : tie.After-set-up) → let f = c .before .before .args .f in outcomeOf (c .set-up .result) ≡ setUp (described f)
 set-up-is c =
-    let f = c .before .before .before .before .args .f in
+    let f = c .before .before .args .f in
     let same : toZ w32 (ofZ w32 (f .applied .scale)) ≡ f .applied .scale = search needs in
-    c .set-up .ensures .0 ∙ ap (λ (k : ℤ). setUp (f .precision .bits) k (f .lower) (f .upper)) same
+    c .set-up .ensures ∙ ap (λ (k : ℤ). setUp (record { precision = f .precision .bits; scale = k; lower = f .lower; upper = f .upper })) same
 
 same-factor-requires : tie.Need-same-factor-requires
 same-factor-requires c κs =
     let s = c .before .before .before in
-    let f = s .before .before .before .before .args .f in
-    let g = c .before .g .given .0 .0 in
-    accepted-numbers (f .precision .bits) (f .applied .scale) (f .lower) (f .upper) g (sym (set-up-is s) ∙ c .before .g .given .1)
+    let f = s .before .before .args .f in
+    accepted-numbers (described f) (c .before .g .given .0 .0) (sym (set-up-is s) ∙ ap outcomeOf (c .before .g .given .1))
 
 enum-told : tie.Need-enum-told
 enum-told c = search needs
@@ -36,15 +36,15 @@ returns : tie.Need-returns
 unfolding intact
 returns c =
     let s = c .before .before .before .before in
-    let f = s .before .before .before .before .args .f in
-    c .same-factor .ensures ∙ ap (given f) (sym (c .before .before .g .given .1) ∙ set-up-is s)
+    let f = s .before .before .args .f in
+    c .same-factor .ensures ∙ ap (given f) (sym (ap outcomeOf (c .before .before .g .given .1)) ∙ set-up-is s)
 
 returns-2 : tie.Need-returns-2
 unfolding intact
 returns-2 c =
     let s = c .before .before in
-    let f = s .before .before .before .before .args .f in
-    ap (given f) (sym (c .enum-told .given .1) ∙ set-up-is s)
+    let f = s .before .before .args .f in
+    ap (given f) (sym (ap outcomeOf (c .enum-told .given .1)) ∙ set-up-is s)
 
 pub is-intact-spec : {M : Type 1} → statement M
 is-intact-spec = tie.close (tie.spec set-up-requires enum-known-g same-factor-requires enum-told returns returns-2)

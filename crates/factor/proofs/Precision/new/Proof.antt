@@ -1,17 +1,18 @@
 -- `factor::Precision::new` meets its contract. Assumes nothing.
-use borrow.Author.Tests.{lt-ltb, le-ltb}
-use Rattle.factor.specs.Answers.{precision-told}
+use mathlib.Core.Path.{sym, _∙_}
+use borrow.Author.Needs.{needs}
+use Rattle.marks.specs.AnswerLaws.{pass, stop, end, refuses, accepts}
 use Rattle.factor.proofs.Precision.new.Statement.{statement}
 use Rattle.factor.proofs.Precision.new.Tie as tie
 
+is-out-requires : tie.Need-is-out-requires
+is-out-requires c κs = search needs
+
 returns : tie.Need-returns
-returns c = precision-told (c .before .args .bits) _ (simp (lt-ltb _ _ (c .if1 .taken)))
+returns c = refuses (stop (sym (c .before .is-out .ensures) ∙ c .if1 .taken)) _
 
 returns-2 : tie.Need-returns-2
-returns-2 c = precision-told (c .before .before .args .bits) _ (simp (le-ltb _ _ (c .before .if1 .left), lt-ltb _ _ (c .if2 .taken)))
-
-returns-3 : tie.Need-returns-3
-returns-3 c = precision-told (c .before .before .args .bits) _ (simp (le-ltb _ _ (c .before .if1 .left), le-ltb _ _ (c .if2 .left)))
+returns-2 c = accepts (pass (sym (c .before .is-out .ensures) ∙ c .if1 .left) end) _
 
 pub new-spec : {M : Type 1} → statement M
-new-spec = tie.close (tie.spec returns returns-2 returns-3)
+new-spec = tie.close (tie.spec is-out-requires returns returns-2)
