@@ -4,7 +4,8 @@ use mathlib.Core.Bool.{Bool, true, false, cond, not, _&&_, _||_, true≢false}
 use mathlib.Core.List.{List, [], _∷_, _++_}
 use Prim.Native.Nat.{ℕ}
 use native.Mathlib.Omega.{arith}
-use Rattle.marks.specs.Answers.{Refusal, number, none, judged, NoneHolds, Outcome, refused, accepted, unless, answer}
+use Rattle.marks.specs.declared.Mark.{Mark}
+use Rattle.marks.specs.Answers.{Refusal, number, none, judged, NoneHolds, Outcome, refused, accepted, unless, answer, Marked}
 
 -- ---- from the tests to the refusal
 -- v is what the first condition that holds says
@@ -93,6 +94,10 @@ of-answer {A} P (t ∷ l) a out through = go (t .1) refl (λ h. of-answer P l a 
     go : (b : Bool) → t .1 ≡ b → ((NoneHolds l → P (accepted a)) → P (answer l a)) → P (unless (cond b (number (t .0)) (judged l)) a)
     go true i ih = out (t .0)
     go false i ih = ih (λ h. through (i, h))
+
+-- ---- a value in the case of its mark
+pub of-mark : {A : Type 0} {m k : Mark} → m ≡ k → (a : A) → _≡_ {A = Outcome (Marked A)} (accepted (record { mark = k; value = a })) (accepted (record { mark = m; value = a }))
+of-mark e a = ap (λ (k : Mark). accepted (record { mark = k; value = a })) (sym e)
 
 -- ---- tests joined
 -- neither of two holds
