@@ -5,7 +5,7 @@ use Prim.Native.Nat.{ℕ}
 use Prim.Native.Char.{code}
 use Prim.Native.String.{String, [], _∷_}
 use lib.IntN.{ℤ, pos, negsuc}
-use Rattle.marks.specs.Answers.{judged, Outcome, refused, accepted, answer}
+use Rattle.marks.specs.Answers.{Outcome, refused, accepted, answer}
 use Rattle.factor.specs.declared.Description.{Description}
 use Rattle.frame.specs.declared.Report.{Report}
 use Rattle.frame.specs.Digits.{digitByte, digits, digitValue, valueAfter, fieldAt}
@@ -14,7 +14,7 @@ use Rattle.frame.specs.Report.{wordLine, reportLine, refusalLine}
 
 -- the bytes of a text; the line below names what a line has to unfold to compute
 bytes : String → List ℕ
-unfolding judged answer digitByte digits digitValue valueAfter fieldAt spaced frameOf wordLine reportLine refusalLine
+unfolding answer digitByte digits digitValue valueAfter fieldAt spaced frameOf wordLine reportLine refusalLine
 bytes [] = []ᴸ
 bytes (c ∷ s) = code c ∷ᴸ bytes s
 
