@@ -1,10 +1,10 @@
 -- `stream::judge` meets its contract: 24 is judged first. Assumes nothing.
-use mathlib.Core.Path.{_≡_, sym, ap, _∙_}
+use mathlib.Core.Path.{sym, ap, _∙_}
 use borrow.Author.Needs.{needs}
 use Rattle.marks.specs.Answers.{Outcome, andThen}
 use Rattle.factor.specs.declared.Description.{Description}
 use Rattle.factor.specs.SetUp.{setUp}
-use Rattle.frame.specs.Frame.{frameOf, outcomeOf}
+use Rattle.frame.specs.Frame.{outcomeOf}
 use Rattle.stream.specs.Output.{judgedLine}
 use Rattle.stream.proofs.judge.Statement.{statement}
 use Rattle.stream.proofs.judge.Tie as tie
