@@ -4,7 +4,8 @@ use mathlib.Core.Bool.{Bool, true, false, cond, not, _&&_, _||_, true≢false}
 use mathlib.Core.List.{List, [], _∷_, _++_}
 use Prim.Native.Nat.{ℕ}
 use native.Mathlib.Omega.{arith}
-use Rattle.marks.specs.Answers.{Refusal, number, none, judged, NoneHolds, Outcome, refused, accepted, unless, answer}
+use Rattle.marks.specs.declared.Mark.{Mark}
+use Rattle.marks.specs.Answers.{Refusal, number, none, judged, NoneHolds, Outcome, refused, accepted, unless, answer, Marked}
 
 -- ---- from the tests to the refusal
 -- v is what the first condition that holds says
@@ -40,6 +41,11 @@ pub accepts : {A : Type 0} {l : List (ℕ × Bool)} → First l none → (a : A)
 unfolding answer
 accepts q a = sym (ap (λ (v : Refusal). unless v a) (q .is))
 
+-- where none of a list holds, the rest answers
+pub rest-answers : {A : Type 0} (k l : List (ℕ × Bool)) → NoneHolds k → (a : A) → answer (k ++ l) a ≡ answer l a
+unfolding answer
+rest-answers k l h a = ap (λ (v : Refusal). unless v a) (pass-all k l h)
+
 -- ---- from the refusal to the tests
 -- where there is none, no condition holds, and none of the rest refuses
 pub judged-none : (k l : List (ℕ × Bool)) → judged (k ++ l) ≡ none → NoneHolds k × (judged l ≡ none)
@@ -51,6 +57,11 @@ judged-none (t ∷ k) l q = go (t .1) refl q (judged-none k l)
         → NoneHolds (t ∷ k) × (judged l ≡ none)
     go true i q ih = let z : _≡_ {A = ℕ} 0 1 = cc in absurd (omega arith)
     go false i q ih = let r = ih q in ((i, r .0), r .1)
+
+-- none of two lists holds
+pub none-apart : (k l : List (ℕ × Bool)) → NoneHolds (k ++ l) → NoneHolds k × NoneHolds l
+none-apart [] l h = (tt, h)
+none-apart (t ∷ k) l h = let r = none-apart k l (h .1) in ((h .0, r .0), r .1)
 
 -- ---- from the answer to the tests
 -- an accepted value is the answer's own, and no condition holds
@@ -64,6 +75,16 @@ only-accepted {A} (t ∷ l) a b q = go (t .1) refl q (only-accepted l a b)
     go true i q ih = let z : _≡_ {A = ℕ} 0 1 = cc in absurd (omega arith)
     go false i q ih = let r = ih q in ((i, r .0), r .1)
 
+-- a refusal by the first conditions is that of all, whatever the value
+pub refused-first : {A B : Type 0} (k l : List (ℕ × Bool)) (a : A) (b : B) (n : ℕ) → refused n ≡ answer k a → refused n ≡ answer (k ++ l) b
+unfolding answer judged
+refused-first {A} {B} [] l a b n q = let z : _≡_ {A = ℕ} 0 1 = cc in absurd (omega arith)
+refused-first {A} {B} (t ∷ k) l a b n q = go (t .1) q (refused-first k l a b n)
+  where
+    go : (c : Bool) → refused n ≡ unless (cond c (number (t .0)) (judged k)) a → (refused n ≡ answer k a → refused n ≡ answer (k ++ l) b) → refused n ≡ unless (cond c (number (t .0)) (judged (k ++ l))) b
+    go true q ih = let e : n ≡ t .0 = cc in ap refused e
+    go false q ih = ih q
+
 -- what holds of every refusal, and of the value where no condition holds, holds of the answer
 pub of-answer : {A : Type 0} (P : Outcome A → Type 0) (l : List (ℕ × Bool)) (a : A) → ((n : ℕ) → P (refused n)) → (NoneHolds l → P (accepted a)) → P (answer l a)
 unfolding answer judged
@@ -73,6 +94,10 @@ of-answer {A} P (t ∷ l) a out through = go (t .1) refl (λ h. of-answer P l a 
     go : (b : Bool) → t .1 ≡ b → ((NoneHolds l → P (accepted a)) → P (answer l a)) → P (unless (cond b (number (t .0)) (judged l)) a)
     go true i ih = out (t .0)
     go false i ih = ih (λ h. through (i, h))
+
+-- ---- a value in the case of its mark
+pub of-mark : {A : Type 0} {m k : Mark} → m ≡ k → (a : A) → _≡_ {A = Outcome (Marked A)} (accepted (record { mark = k; value = a })) (accepted (record { mark = m; value = a }))
+of-mark e a = ap (λ (k : Mark). accepted (record { mark = k; value = a })) (sym e)
 
 -- ---- tests joined
 -- neither of two holds

@@ -1,25 +1,27 @@
--- Each answer to a reading under its condition, what it says in document 01's terms, and that every product is plus zero or an exact normal number. Assumes nothing.
+-- Readings that are let through to their product, what they are answered with, and that every product is plus zero or an exact normal number. Assumes nothing.
 use mathlib.Core.Path.{_≡_, refl, sym, ap, _∙_, subst}
-use mathlib.Core.Bool.{Bool, true, false, not, cond}
+use mathlib.Core.Bool.{Bool, true, false, not, _&&_, true≢false}
 use mathlib.Core.Logic.{_⊎_, inl, inr}
-use Prim.Native.Nat.{ℕ, _+_, _*_, _^_}
+use mathlib.Core.List.{[], _∷_}
+use Prim.Native.Nat.{ℕ, _+_, _*_, _^_, _≤_, _<_}
 use native.Mathlib.Omega.{arith}
 use lib.Dec.{eqb}
 use lib.IntN.{ℤ, pos, _+ℤ_}
 use lib.Ieee.{Float, nan, binary32, toBits, up, down}
 use lib.Ieee.Exact.{HasValue}
-use borrow.Author.Tests.{eqb-true}
+use borrow.Author.Tests.{eqb-true, eqb-false, not-false}
 use Rattle.marks.specs.declared.Mark.{Mark}
+use Rattle.marks.specs.Answers.{NoneHolds, Outcome, refused, accepted, answer, Marked}
+use Rattle.marks.specs.AnswerLaws.{pass, end, accepts, rest-answers, none-apart, only-accepted, refused-first, of-answer}
 use Rattle.rounding.specs.RoundLaws.{HasBits}
 use Rattle.factor.specs.declared.Factor.{Factor}
-use Rattle.factor.specs.SetUp.{intact, Sound}
+use Rattle.factor.specs.SetUp.{intact}
 use Rattle.factor.specs.SetUpLaws.{intact-sound}
 use Rattle.product.specs.declared.Product.{Product}
 use Rattle.product.specs.Product.{productBy}
-use Rattle.product.specs.Marks.{markBy}
 use Rattle.product.specs.SoundLaws.{sound-product}
-use Rattle.reading.specs.declared.ReadingAnswer.{ReadingAnswer}
-use Rattle.reading.specs.Reading.{signOf, endless, zeroBits, subnormal, significandOf, exponentOf, exponentOut, numberOf, plusZero, answered, normalProduct, applied, refusal, marked, Outcome, outcomeOf, normalSaid, said}
+use Rattle.reading.specs.declared.Taken.{Taken}
+use Rattle.reading.specs.Reading.{signOf, fieldOf, digitsOf, endless, zeroBits, significandOf, unreadable, numberOf, raised, outside, finished, plusZero, conditions, numbered, answered, applied, takenOf}
 use Rattle.reading.specs.Exponents.{let-through}
 use Rattle.reading.specs.ReadingLaws.{NormalFloat, number-value, number-normal}
 
@@ -27,154 +29,91 @@ use Rattle.reading.specs.ReadingLaws.{NormalFloat, number-value, number-
 pub significand-bits : (b : ℕ) → HasBits 24 (significandOf b)
 significand-bits b = record { least = omega arith; most = omega arith }
 
--- ---- a normal reading, v being the product of its significand
-module _ (f : Factor) (b : ℕ) where
-  abbrev X : ℕ
-  X = significandOf b
-
-  abbrev e : ℤ
-  e = exponentOf b +ℤ f .applied .scale
-
-  module _ (v : Product) (is : v ≡ productBy f X) where
-    pub normal-23 : exponentOut (e +ℤ pos (v .binade)) ≡ true → normalProduct f b ≡ ReadingAnswer.Refused 23
-    unfolding normalProduct
-    normal-23 h = let g : exponentOut (e +ℤ pos (productBy f X .binade)) ≡ true = ap (λ (z : Product). exponentOut (e +ℤ pos (z .binade))) (sym is) ∙ h in
-        ap (λ (o : Bool). cond o (ReadingAnswer.Refused 23) (answered (markBy f X (productBy f X)) (numberOf (signOf b) (productBy f X) e))) g
-
-    pub normal-number : exponentOut (e +ℤ pos (v .binade)) ≡ false → normalProduct f b ≡ answered (markBy f X v) (numberOf (signOf b) v e)
-    unfolding normalProduct
-    normal-number h =
-        let g : exponentOut (e +ℤ pos (productBy f X .binade)) ≡ false = ap (λ (z : Product). exponentOut (e +ℤ pos (z .binade))) (sym is) ∙ h in
-        let a : normalProduct f b ≡ answered (markBy f X (productBy f X)) (numberOf (signOf b) (productBy f X) e) =
-        ap (λ (o : Bool). cond o (ReadingAnswer.Refused 23) (answered (markBy f X (productBy f X)) (numberOf (signOf b) (productBy f X) e))) g in
-        a ∙ ap (λ (z : Product). answered (markBy f X z) (numberOf (signOf b) z e)) (sym is)
-
--- ---- all readings
-module _ (f : Factor) (x : Float) where
-  abbrev b : ℕ
-  b = toBits binary32 x
-
-  pub answer-31 : intact f ≡ false → applied f x ≡ ReadingAnswer.Refused 31
-  unfolding applied
-  answer-31 i = rw i
-
-  module _ (i : intact f ≡ true) where
-    pub answer-20 : eqb (f .precision .bits) 24 ≡ false → applied f x ≡ ReadingAnswer.Refused 20
-    unfolding applied
-    answer-20 n = rw (i, n)
-
-    module _ (n : eqb (f .precision .bits) 24 ≡ true) where
-      pub answer-21 : endless b ≡ true → applied f x ≡ ReadingAnswer.Refused 21
-      unfolding applied
-      answer-21 p = rw (i, n, p)
-
-      pub answer-zero : endless b ≡ false → zeroBits b ≡ true → applied f x ≡ ReadingAnswer.Right plusZero
-      unfolding applied
-      answer-zero p q = rw (i, n, p, q)
-
-      pub answer-22 : endless b ≡ false → zeroBits b ≡ false → subnormal b ≡ true → applied f x ≡ ReadingAnswer.Refused 22
-      unfolding applied
-      answer-22 p q r = rw (i, n, p, q, r)
-
-      pub answer-normal : endless b ≡ false → zeroBits b ≡ false → subnormal b ≡ false → applied f x ≡ normalProduct f b
-      unfolding applied
-      answer-normal p q r = rw (i, n, p, q, r)
-
 -- a NaN is refused with the infinities
 pub nan-endless : endless (toBits binary32 nan) ≡ true
 unfolding toBits
 nan-endless = refl
 
--- ---- what the answer says: the number of the refusal, or the mark and the product
-says-mark : (m : Mark) (y : Float) → outcomeOf (answered m y) ≡ marked m y
-says-mark Mark.Right y = refl
-says-mark Mark.Open y = refl
-says-mark Mark.Wrong y = refl
+-- ---- readings that are let through to their product
+module _ (f : Factor) (b : ℕ) (h : NoneHolds (unreadable f b)) where
+  -- the factor is intact, and of precision 24
+  pub is-intact : intact f ≡ true
+  is-intact = not-false _ (h .0)
 
-normal-says : (f : Factor) (b : ℕ) → outcomeOf (normalProduct f b) ≡ normalSaid f b
-unfolding normalSaid
-normal-says f b = go (exponentOut (e f b +ℤ pos (productBy f (significandOf b) .binade))) refl
-  where
-    v : Product
-    v = productBy f (significandOf b)
+  pub is-24 : f .precision .bits ≡ 24
+  is-24 = eqb-true (f .precision .bits) 24 (not-false _ (h .1 .0))
 
-    go : (o : Bool) → exponentOut (e f b +ℤ pos (v .binade)) ≡ o
-        → outcomeOf (normalProduct f b) ≡ cond (exponentOut (e f b +ℤ pos (v .binade))) (refusal 23) (marked (markBy f (significandOf b) v) (numberOf (signOf b) v (e f b)))
-    go true h = ap outcomeOf (normal-23 f b v refl h) ∙ sym (ap (λ (o : Bool). cond o (refusal 23) (marked (markBy f (significandOf b) v) (numberOf (signOf b) v (e f b)))) h)
-    go false h =
-        ap outcomeOf (normal-number f b v refl h) ∙ says-mark (markBy f (significandOf b) v) (numberOf (signOf b) v (e f b)) ∙ sym (ap (λ (o : Bool). cond o (refusal 23) (marked (markBy f (significandOf b) v) (numberOf (signOf b) v (e f b)))) h)
+  -- a zero is answered with plus zero
+  pub zero-answered : (v : Product) → zeroBits b ≡ true → accepted (record { mark = Mark.Right; value = plusZero }) ≡ answered f b v
+  unfolding answered
+  zero-answered v z = rw z (accepts (pass refl end) _ ∙ sym (rest-answers (unreadable f b) _ h _))
 
-pub applied-says : (f : Factor) (x : Float) → outcomeOf (applied f x) ≡ said f x
-unfolding applied said
-applied-says f x = go (intact f) (eqb (f .precision .bits) 24) (endless c) (zeroBits c) (subnormal c)
-  where
-    c : ℕ
-    c = toBits binary32 x
+  -- and any other with what becomes of its value
+  pub normal-answered : (v : Product) → zeroBits b ≡ false → finished f b v ≡ answered f b v
+  unfolding answered finished
+  normal-answered v z = rw z (sym (rest-answers (unreadable f b) _ h _))
 
-    go : (i n p q r : Bool)
-        → outcomeOf (cond (not i) (ReadingAnswer.Refused 31) (cond (not n) (ReadingAnswer.Refused 20) (cond p (ReadingAnswer.Refused 21) (cond q (ReadingAnswer.Right plusZero) (cond r (ReadingAnswer.Refused 22) (normalProduct f c))))))
-        ≡ cond (not i) (refusal 31) (cond (not n) (refusal 20) (cond p (refusal 21) (cond q (marked Mark.Right plusZero) (cond r (refusal 22) (normalSaid f c)))))
-    go false n p q r = refl
-    go true false p q r = refl
-    go true true true q r = refl
-    go true true false true r = refl
-    go true true false false true = refl
-    go true true false false false = normal-says f c
+  -- its field is a normal number's, unless it is a zero
+  pub normal-field : zeroBits b ≡ false → (1 ≤ fieldOf b) × (fieldOf b < 255)
+  normal-field z = go (eqb (fieldOf b) 0) (eqb (digitsOf b) 0) refl refl z (h .1 .1 .1 .0)
+    where
+      go : (p q : Bool) → eqb (fieldOf b) 0 ≡ p → eqb (digitsOf b) 0 ≡ q → p && q ≡ false → p && not q ≡ false → (1 ≤ fieldOf b) × (fieldOf b < 255)
+      go true true i j u w = absurd (true≢false u)
+      go true false i j u w = absurd (true≢false w)
+      go false q i j u w =
+          let k = eqb-false (fieldOf b) 0 i in
+          let e = eqb-false (fieldOf b) 255 (h .1 .1 .0) in
+          (omega arith, omega arith)
 
--- an answer, and what it says
-pub told : (f : Factor) (x : Float) (r : ReadingAnswer) → r ≡ applied f x → (r ≡ applied f x) × (outcomeOf r ≡ said f x)
-told f x r e = (e, ap outcomeOf e ∙ applied-says f x)
+-- ---- a reading as it was taken
+module _ (f : Factor) (x : Float) (t : Taken) (is : takenOf t ≡ answer (unreadable f (toBits binary32 x)) (toBits binary32 x)) where
+  pub taken-bits : (b : ℕ) → t ≡ Taken.Bits b → NoneHolds (unreadable f b) × (answered f b (productBy f (significandOf b)) ≡ applied f x)
+  unfolding applied
+  taken-bits b e =
+      let r = only-accepted (unreadable f (toBits binary32 x)) (toBits binary32 x) b (sym is ∙ ap takenOf e) in (
+        subst (λ (b : ℕ). NoneHolds (unreadable f b)) (r .1) (r .0),
+        ap (λ (b : ℕ). answered f b (productBy f (significandOf b))) (sym (r .1)),
+      )
+
+  pub taken-refused : (k : ℕ) → t ≡ Taken.Refused k → refused k ≡ applied f x
+  unfolding applied answered
+  taken-refused k e = refused-first (unreadable f (toBits binary32 x)) _ _ _ k (sym (ap takenOf e) ∙ is)
 
 -- ---- the product of a normal reading b: exactly sign * u2 * 2 ^ (e + k), and a normal number
 pub record Exactly (f : Factor) (b : ℕ) (y : Float) : Type 0 where
-  pub value : HasValue y (signOf b) (productBy f (significandOf b) .significand * 2 ^ productBy f (significandOf b) .binade * up (exponentOf b +ℤ f .applied .scale)) (2 ^ 23 * down (exponentOf b +ℤ f .applied .scale))
+  pub value : HasValue y (signOf b) (productBy f (significandOf b) .significand * 2 ^ productBy f (significandOf b) .binade * up (raised f b)) (2 ^ 23 * down (raised f b))
   pub normal : NormalFloat y
 
 module _ (f : Factor) (i : intact f ≡ true) (n : f .precision .bits ≡ 24) (b : ℕ) where
-  s : Sound f
-  s = intact-sound f i
+  abbrev v : Product
+  v = productBy f (significandOf b)
 
-  v-bits : HasBits 24 (productBy f (significandOf b) .significand)
-  v-bits = subst (λ (n : ℕ). HasBits n (productBy f (significandOf b) .significand)) n (sound-product f s (significandOf b) (subst (λ (n : ℕ). HasBits n (significandOf b)) (sym n) (significand-bits b)) .bits)
+  v-bits : HasBits 24 (v .significand)
+  v-bits = subst (λ (n : ℕ). HasBits n (v .significand)) n (sound-product f (intact-sound f i) (significandOf b) (subst (λ (n : ℕ). HasBits n (significandOf b)) (sym n) (significand-bits b)) .bits)
 
-  pub number-exactly : exponentOut (e f b +ℤ pos (productBy f (significandOf b) .binade)) ≡ false → Exactly f b (numberOf (signOf b) (productBy f (significandOf b)) (e f b))
+  pub number-exactly : outside f b v ≡ false → Exactly f b (numberOf (signOf b) v (raised f b))
   number-exactly h =
-      let v = productBy f (significandOf b) in
-      let t = let-through (e f b +ℤ pos (v .binade)) h in
-      record { value = number-value (signOf b) v (e f b) v-bits (t .0) (t .1) (t .2) (t .3); normal = number-normal (signOf b) v (e f b) v-bits (t .0) (t .1) (t .2) (t .3) }
+      let t = let-through (raised f b +ℤ pos (v .binade)) h in
+      record { value = number-value (signOf b) v (raised f b) v-bits (t .0) (t .1) (t .2) (t .3); normal = number-normal (signOf b) v (raised f b) v-bits (t .0) (t .1) (t .2) (t .3) }
 
 -- what an answer's product is: of a zero plus zero, and right; of any other reading exact; a refusal has none
-abbrev pub ProductOf : Factor → ℕ → Outcome → Type 0
-ProductOf f b (refusal k) = Unit {0}
-ProductOf f b (marked m y) = ((zeroBits b ≡ true) × (m ≡ Mark.Right) × (y ≡ plusZero)) ⊎ ((zeroBits b ≡ false) × Exactly f b y)
+abbrev pub ProductOf : Factor → ℕ → Outcome (Marked Float) → Type 0
+ProductOf f b (refused k) = Unit {0}
+ProductOf f b (accepted a) = ((zeroBits b ≡ true) × (a .mark ≡ Mark.Right) × (a .value ≡ plusZero)) ⊎ ((zeroBits b ≡ false) × Exactly f b (a .value))
 
-module _ (f : Factor) (x : Float) where
-  normal-product : intact f ≡ true → f .precision .bits ≡ 24 → zeroBits (toBits binary32 x) ≡ false → ProductOf f (toBits binary32 x) (outcomeOf (normalProduct f (toBits binary32 x)))
-  unfolding normalSaid
-  normal-product i n z = subst (ProductOf f c) (sym (normal-says f c)) (go (exponentOut (e f c +ℤ pos (v .binade))) refl)
-    where
-      c : ℕ
-      c = toBits binary32 x
+pub applied-product : (f : Factor) (x : Float) → ProductOf f (toBits binary32 x) (applied f x)
+unfolding applied answered
+applied-product f x = of-answer (ProductOf f b) (conditions f b v) (numbered f b v) (λ k. tt) (λ h. go (zeroBits b) refl h)
+  where
+    b : ℕ
+    b = toBits binary32 x
 
-      v : Product
-      v = productBy f (significandOf c)
+    v : Product
+    v = productBy f (significandOf b)
 
-      go : (o : Bool) → exponentOut (e f c +ℤ pos (v .binade)) ≡ o → ProductOf f c (cond o (refusal 23) (marked (markBy f (significandOf c) v) (numberOf (signOf c) v (e f c))))
-      go true h = tt
-      go false h = inr (z, number-exactly f i n c h)
-
-  pub applied-product : ProductOf f (toBits binary32 x) (outcomeOf (applied f x))
-  unfolding applied
-  applied-product = go (intact f) (eqb (f .precision .bits) 24) (endless c) (zeroBits c) (subnormal c) refl refl refl
-    where
-      c : ℕ
-      c = toBits binary32 x
-
-      go : (i n p q r : Bool) → intact f ≡ i → eqb (f .precision .bits) 24 ≡ n → zeroBits c ≡ q
-          → ProductOf f c (outcomeOf (cond (not i) (ReadingAnswer.Refused 31) (cond (not n) (ReadingAnswer.Refused 20) (cond p (ReadingAnswer.Refused 21) (cond q (ReadingAnswer.Right plusZero) (cond r (ReadingAnswer.Refused 22) (normalProduct f c)))))))
-      go false n p q r x y z = tt
-      go true false p q r x y z = tt
-      go true true true q r x y z = tt
-      go true true false true r x y z = inl (z, refl, refl)
-      go true true false false true x y z = tt
-      go true true false false false x y z = normal-product x (eqb-true (f .precision .bits) 24 y) z
+    go : (z : Bool) → zeroBits b ≡ z → NoneHolds (conditions f b v) → ProductOf f b (accepted (numbered f b v))
+    go true z h = rw z (inl (refl, refl, refl))
+    go false z h =
+        let t = none-apart (unreadable f b) ((23, not (zeroBits b) && outside f b v) ∷ []) h in
+        let o : outside f b v ≡ false = rw z at (t .1 .0) in
+        rw z (inr (refl, number-exactly f (is-intact f b (t .0)) (is-24 f b (t .0)) b o))

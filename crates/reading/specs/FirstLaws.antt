@@ -27,7 +27,7 @@ use Rattle.factor.specs.declared.Parts.{Parts}
 use Rattle.factor.specs.Parts.{lowPart, partsAt}
 use Rattle.factor.specs.Whole.{Whole, whole, wholeOf}
 use Rattle.factor.specs.PartsLaws.{low-counts, whole-of-parts}
-use Rattle.factor.specs.SetUp.{Sound, partsOf, appliedOf}
+use Rattle.factor.specs.SetUp.{Sound, partsOf, appliedOf, described}
 use Rattle.factor.specs.Stored.{stored-low, low-over}
 use Rattle.product.specs.Units.{firstUnits, PartsAtEnd}
 use Rattle.product.specs.SoundLaws.{sound-precision, sound-parts}
@@ -87,18 +87,17 @@ module _ (f : Factor) (s : Sound f) (n : f .precision .bits ≡ 24) where
   unfolding appliedOf partsOf
   low-number h =
       let b = f .precision .bits in
-      let k = f .applied .scale in
       let L = f .lower in
       let N = sound-precision f s in
       let x = lowPart toEven b 62 L in
-      let stored = appliedOf b k L .low in
+      let stored = appliedOf (described f) .low in
       let same : f .applied .low ≡ stored = sym (ofBits-toBits binary32 (f .applied .low) h) ∙ ap (ofBits binary32) (s .low-stored) ∙ ofBits-toBits binary32 stored (round-fits binary32 (x .minus) (x .num) (x .den)) in
       let c = low-counts toEven b 62 (omega (arith, N .least)) (omega (arith, N .most)) L (s .lower-end) in
       let p = partsAt toEven b 62 L in
       let sign : x .minus ≡ negative (p .low) = c .sign ∙ ap (λ (z : Whole). z .minus) (whole-of-parts toEven b 62 (omega (arith, N .least)) (omega (arith, N .most)) L (s .lower-end)) in
       let v : HasValue stored (negative (p .low)) (natAbs (p .low)) (2 ^ p .places) =
       subst (λ (z : Bool). HasValue stored z (natAbs (p .low)) (2 ^ p .places)) sign
-      (revalue stored (x .minus) (x .num) (x .den) (natAbs (p .low)) (2 ^ p .places) (c .some) (low-over b N L (s .lower-end)) (stored-low b N k L (s .lower-end))) in
+      (revalue stored (x .minus) (x .num) (x .den) (natAbs (p .low)) (2 ^ p .places) (c .some) (low-over b N L (s .lower-end)) (stored-low (described f) N (s .lower-end))) in
       subst (λ (z : Float). HasValue z (negative (f .parts .low)) m (2 ^ q)) (sym same) (subst (λ (z : Parts). HasValue stored (negative (z .low)) (natAbs (z .low)) (2 ^ z .places)) (sym (s .parts)) v)
 
   module _ (X : ℕ) (xb : HasBits 24 X) where

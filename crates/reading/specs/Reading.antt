@@ -1,5 +1,6 @@
 -- A binary32 reading times a factor (document 01, "Binary32" and the refusals 31, 20, 21, 22, 23). Definitions only. Assumes nothing.
 use mathlib.Core.Bool.{Bool, false, not, _&&_, _||_, cond}
+use mathlib.Core.List.{List, [], _∷_, _++_}
 use Prim.Native.Nat.{ℕ, _+_, _*_, _/_, _%_, _^_}
 use lib.Dec.{eqb, leb}
 use lib.IntN.{ℤ, pos, negsuc, _+ℤ_}
@@ -7,12 +8,15 @@ use lib.Signed.{ltZ}
 use lib.Ieee
 use lib.Ieee.{Float, fin, binary32, toBits, minus, up, down}
 use Rattle.marks.specs.declared.Mark.{Mark}
+use Rattle.marks.specs.Answers.{Outcome, refused, accepted, answer, Marked}
 use Rattle.factor.specs.declared.Factor.{Factor}
 use Rattle.factor.specs.SetUp.{intact}
 use Rattle.product.specs.declared.Product.{Product}
 use Rattle.product.specs.Product.{product, productBy}
-use Rattle.product.specs.Marks.{mark, markBy}
+use Rattle.product.specs.Marks.{mark}
+use Rattle.product.specs.Answer.{marked}
 use Rattle.reading.specs.declared.ReadingAnswer.{ReadingAnswer}
+use Rattle.reading.specs.declared.Taken.{Taken}
 
 -- ---- a reading by its bit pattern b: the sign, the exponent's field, and the 23 digits below the leading one
 abbrev pub signOf : ℕ → Bool
@@ -43,73 +47,67 @@ significandOf b = 8388608 + digitsOf b
 abbrev pub exponentOf : ℕ → ℤ
 exponentOf b = minus (fieldOf b) 127
 
--- ---- the product
+-- the conditions that refuse a reading before its product: state comes before input
+abbrev pub unreadable : Factor → ℕ → List (ℕ × Bool)
+unreadable f b = (31, not (intact f)) ∷ (20, not (eqb (f .precision .bits) 24)) ∷ (21, endless b) ∷ (22, subnormal b) ∷ []
+
+-- ---- a value of its significand, whoever made it, as a binary32 number
 -- 23: an exponent outside -126 to 127
 abbrev pub exponentOut : ℤ → Bool
 exponentOut e = ltZ e (negsuc 125) || ltZ (pos 127) e
 
--- u2 * 2 ^ e with a sign, as a binary32 number
+-- v * 2 ^ e with a sign, as a binary32 number
 unfoldable pub numberOf : Bool → Product → ℤ → Float
 unfolding Ieee.round
 numberOf s v e = Ieee.round binary32 s (v .significand * 2 ^ v .binade * up e) (2 ^ 23 * down e)
 
+-- the reading's exponent plus k; the binade comes on top
+abbrev pub raised : Factor → ℕ → ℤ
+raised f b = exponentOf b +ℤ f .applied .scale
+
+-- 23 of a value
+abbrev pub outside : Factor → ℕ → Product → Bool
+outside f b v = exponentOut (raised f b +ℤ pos (v .binade))
+
+-- sign and exponent put on a value with its mark
+abbrev pub putOn : Factor → ℕ → Marked Product → Marked Float
+putOn f b a = record { mark = a .mark; value = numberOf (signOf b) (a .value) (raised f b) }
+
+-- what becomes of a normal reading's value: 23, or the number with its mark
+unfoldable pub finished : Factor → ℕ → Product → Outcome (Marked Float)
+unfolding mark numberOf
+finished f b v = answer ((23, outside f b v) ∷ []) (putOn f b (marked f (significandOf b) v))
+
+-- ---- the answer
 abbrev pub plusZero : Float
 plusZero = fin false 0 (pos 0)
 
--- a product in the case of its mark
-abbrev pub answered : Mark → Float → ReadingAnswer
-answered Mark.Right y = ReadingAnswer.Right y
-answered Mark.Open y = ReadingAnswer.Open y
-answered Mark.Wrong y = ReadingAnswer.Wrong y
+-- all conditions that refuse it; a zero has no exponent
+abbrev pub conditions : Factor → ℕ → Product → List (ℕ × Bool)
+conditions f b v = unreadable f b ++ (23, not (zeroBits b) && outside f b v) ∷ []
 
--- a normal reading: the product of its significand, with sign and exponent (the reading's plus k plus the binade) put on
-unfoldable pub normalProduct : Factor → ℕ → ReadingAnswer
-unfolding product mark numberOf
-normalProduct f b =
-    let X = significandOf b in
-    let v = productBy f X in
-    let e = exponentOf b +ℤ f .applied .scale in
-    cond (exponentOut (e +ℤ pos (v .binade))) (ReadingAnswer.Refused 23) (answered (markBy f X v) (numberOf (signOf b) v e))
+-- a zero gives plus zero, right; any other reading the number with its mark
+abbrev pub numbered : Factor → ℕ → Product → Marked Float
+numbered f b v = cond (zeroBits b) (record { mark = Mark.Right; value = plusZero }) (putOn f b (marked f (significandOf b) v))
 
--- ---- the answer: the first refusal whose condition holds, in the order 31, 20, 21, 22, 23, else the product with its mark
-unfoldable pub applied : Factor → Float → ReadingAnswer
-unfolding intact normalProduct
-applied f x =
-    let b = toBits binary32 x in
-    cond (not (intact f)) (ReadingAnswer.Refused 31)
-    (cond (not (eqb (f .precision .bits) 24)) (ReadingAnswer.Refused 20)
-    (cond (endless b) (ReadingAnswer.Refused 21)
-    (cond (zeroBits b) (ReadingAnswer.Right plusZero)
-    (cond (subnormal b) (ReadingAnswer.Refused 22)
-    (normalProduct f b)))))
+-- the answer to a reading b of whose significand a device makes v
+unfoldable pub answered : Factor → ℕ → Product → Outcome (Marked Float)
+unfolding intact mark numberOf
+answered f b v = answer (conditions f b v) (numbered f b v)
 
--- ---- what a case says: a refusal its number; any other its mark and the product as a binary32 number
-pub data Outcome : Type 0 where
-  refusal : (number : ℕ) → Outcome
-  marked : (mark : Mark) (product : Float) → Outcome
+-- the answer of the two-step device
+unfoldable pub applied : Factor → Float → Outcome (Marked Float)
+unfolding product answered
+applied f x = let b = toBits binary32 x in answered f b (productBy f (significandOf b))
 
-abbrev pub outcomeOf : ReadingAnswer → Outcome
-outcomeOf (ReadingAnswer.Right y) = marked Mark.Right y
-outcomeOf (ReadingAnswer.Open y) = marked Mark.Open y
-outcomeOf (ReadingAnswer.Wrong y) = marked Mark.Wrong y
-outcomeOf (ReadingAnswer.Refused k) = refusal k
+-- what each case of the answer says: a refusal its number; any other its mark and the product as a binary32 number
+abbrev pub outcomeOf : ReadingAnswer → Outcome (Marked Float)
+outcomeOf (ReadingAnswer.Right y) = accepted (record { mark = Mark.Right; value = y })
+outcomeOf (ReadingAnswer.Open y) = accepted (record { mark = Mark.Open; value = y })
+outcomeOf (ReadingAnswer.Wrong y) = accepted (record { mark = Mark.Wrong; value = y })
+outcomeOf (ReadingAnswer.Refused k) = refused k
 
--- what the answer to a normal reading says: 23, or the mark and the number
-unfoldable pub normalSaid : Factor → ℕ → Outcome
-unfolding product mark numberOf
-normalSaid f b =
-    let v = productBy f (significandOf b) in
-    let e = exponentOf b +ℤ f .applied .scale in
-    cond (exponentOut (e +ℤ pos (v .binade))) (refusal 23) (marked (markBy f (significandOf b) v) (numberOf (signOf b) v e))
-
--- what the answer says: 31, 20, 21, 22 and 23 in this order; of a zero, plus zero, right; else the mark and the number
-unfoldable pub said : Factor → Float → Outcome
-unfolding intact normalSaid
-said f x =
-    let b = toBits binary32 x in
-    cond (not (intact f)) (refusal 31)
-    (cond (not (eqb (f .precision .bits) 24)) (refusal 20)
-    (cond (endless b) (refusal 21)
-    (cond (zeroBits b) (marked Mark.Right plusZero)
-    (cond (subnormal b) (refusal 22)
-    (normalSaid f b)))))
+-- and of a reading that is judged before its product: a refusal its number, or the reading's bits
+abbrev pub takenOf : Taken → Outcome ℕ
+takenOf (Taken.Bits b) = accepted b
+takenOf (Taken.Refused k) = refused k

@@ -1,18 +1,21 @@
 // A binary32 reading times a factor (document 01, "Binary32"): the product with its mark, or a refusal.
 use factor::Factor;
 use marks::Mark;
+use product::Product;
 ghost use mathlib.Core.Path.{_≡_};
 ghost use mathlib.Core.Bool.{false, not};
 ghost use Prim.Native.Nat.{_+_, _*_, _<_, _≤_, _^_};
 ghost use lib.Dec.{T};
 ghost use lib.IntN.{pos, _+ℤ_};
 ghost use lib.Ieee.{binary32, isNan, toBits};
+ghost use Rattle.marks.specs.Answers.{accepted, answer};
 ghost use Rattle.rounding.specs.Grid.{toEven};
 ghost use Rattle.rounding.specs.RoundLaws.{HasBits};
 ghost use Rattle.factor.specs.Whole.{wholeOf};
 ghost use Rattle.factor.specs.SetUp.{scaleOut, Sound};
+ghost use Rattle.product.specs.Product.{productBy};
 ghost use Rattle.product.specs.Units.{firstUnits};
-ghost use Rattle.reading.specs.Reading.{fieldOf, answered, normalProduct, applied, outcomeOf, said};
+ghost use Rattle.reading.specs.Reading.{fieldOf, significandOf, unreadable, finished, applied, outcomeOf, takenOf};
 ghost use Rattle.reading.specs.Units.{InUnits, unitsOf};
 
 // A binary32 number's bits: the weight of the sign, and that of the exponent's field, which the leading digit has too.
@@ -41,6 +44,12 @@ pub enum ReadingAnswer {
     Right(f32),
     Open(f32),
     Wrong(f32),
+    Refused(u32),
+}
+
+// A reading before its product: its bits, or a refusal: 31, 20, 21 or 22.
+pub enum Taken {
+    Bits(u32),
     Refused(u32),
 }
 
@@ -75,7 +84,7 @@ fn lifted(scale: i32) -> u32
 
 // A product in the case of its mark.
 fn answer(m: Mark, y: f32) -> ReadingAnswer
-    ensures { λ r. ⌜ r ≡ answered m y ⌝ }
+    ensures { λ r. ⌜ outcomeOf r ≡ accepted (record { mark = m; value = y }) ⌝ }
 {
     match m {
         Mark::Right => ReadingAnswer::Right(y),
@@ -84,13 +93,11 @@ fn answer(m: Mark, y: f32) -> ReadingAnswer
     }
 }
 
-// A normal reading by its bits: the product of its significand, with sign and exponent put on last. 23 is judged whatever the mark.
-fn normal(f: Factor, bits: u32) -> ReadingAnswer
-    requires { ⌜ Sound f × (f .precision .bits ≡ 24) × (1 ≤ fieldOf bits) × (fieldOf bits < 255) ⌝ }
-    ensures { λ r. ⌜ r ≡ normalProduct f bits ⌝ }
+// What becomes of a value of a normal reading's significand, whoever made it: sign and exponent are put on last, and 23 is judged whatever the mark.
+pub fn finish(f: Factor, bits: u32, v: Product) -> ReadingAnswer
+    requires { ⌜ Sound f × (f .precision .bits ≡ 24) × (1 ≤ fieldOf bits) × (fieldOf bits < 255) × HasBits 24 (v .significand) × (v .binade ≤ 1) ⌝ }
+    ensures { λ r. ⌜ outcomeOf r ≡ finished f bits v ⌝ }
 {
-    let x = LEADING + bits % LEADING;
-    let v = product::second_step(f, x as u64, first_step(f, x));
     let place = bits % SIGN / LEADING + lifted(f.applied.scale) + v.binade;
     if place < LEAST_PLACE {
         return ReadingAnswer::Refused(23);
@@ -99,33 +106,56 @@ fn normal(f: Factor, bits: u32) -> ReadingAnswer
         return ReadingAnswer::Refused(23);
     }
     let y = factor::float_of(SIGN <= bits, place - LEAST_PLACE, v.significand as u32);
+    let x = LEADING + bits % LEADING;
     answer(product::mark_of(f, x as u64, v), y)
+}
+
+// What a reading is judged to be before its product: the first of the refusals 31, 20, 21 and 22 whose condition holds, or a zero or a normal number by its bits.
+pub fn take(f: Factor, reading: f32) -> Taken
+    ensures { λ r. ⌜ takenOf r ≡ answer (unreadable f (toBits binary32 reading)) (toBits binary32 reading) ⌝ }
+{
+    if !factor::is_intact(f) {
+        return Taken::Refused(31);
+    }
+    if f.precision.bits != BITS {
+        return Taken::Refused(20);
+    }
+    if reading != reading {
+        return Taken::Refused(21);
+    }
+    let bits = f32::to_bits(reading);
+    let field = bits % SIGN / LEADING;
+    if field == ENDLESS {
+        return Taken::Refused(21);
+    }
+    if field == 0 {
+        if bits % LEADING != 0 {
+            return Taken::Refused(22);
+        }
+    }
+    Taken::Bits(bits)
+}
+
+// The two steps of a normal reading's significand.
+fn two_steps(f: Factor, bits: u32) -> Product
+    requires { ⌜ Sound f × (f .precision .bits ≡ 24) ⌝ }
+    ensures { λ r. ⌜ r ≡ productBy f (significandOf bits) ⌝ }
+{
+    let x = LEADING + bits % LEADING;
+    product::second_step(f, x as u64, first_step(f, x))
 }
 
 // Multiplies a reading: the product with its mark, or the first of the refusals 31, 20, 21, 22 and 23 whose condition holds.
 pub fn read(f: Factor, reading: f32) -> ReadingAnswer
-    ensures { λ r. ⌜ r ≡ applied f reading ⌝ }
-    ensures { λ r. ⌜ outcomeOf r ≡ said f reading ⌝ }
+    ensures { λ r. ⌜ outcomeOf r ≡ applied f reading ⌝ }
 {
-    if factor::is_intact(f) {
-        if f.precision.bits != BITS {
-            return ReadingAnswer::Refused(20);
-        }
-        if reading != reading {
-            return ReadingAnswer::Refused(21);
-        }
-        let bits = f32::to_bits(reading);
-        let field = bits % SIGN / LEADING;
-        if field == ENDLESS {
-            return ReadingAnswer::Refused(21);
-        }
-        if field == 0 {
-            if bits % LEADING == 0 {
+    match take(f, reading) {
+        Taken::Refused(number) => ReadingAnswer::Refused(number),
+        Taken::Bits(bits) => {
+            if bits % SIGN == 0 {
                 return ReadingAnswer::Right(f32::from_bits(0));
             }
-            return ReadingAnswer::Refused(22);
+            finish(f, bits, two_steps(f, bits))
         }
-        return normal(f, bits);
     }
-    ReadingAnswer::Refused(31)
 }

@@ -1,8 +1,6 @@
 -- `reading::answer` meets its contract, case by case. Assumes nothing.
-use mathlib.Core.Path.{sym, ap}
 use borrow.Author.Needs.{needs}
-use Rattle.marks.specs.declared.Mark.{Mark}
-use Rattle.reading.specs.Reading.{answered}
+use Rattle.marks.specs.AnswerLaws.{of-mark}
 use Rattle.reading.proofs.answer.Statement.{statement}
 use Rattle.reading.proofs.answer.Tie as tie
 
@@ -16,13 +14,13 @@ enum-told-3 : tie.Need-enum-told-3
 enum-told-3 c = search needs
 
 returns : tie.Need-returns
-returns c = ap (λ (k : Mark). answered k (c .before .before .args .y)) (sym (c .enum-told .given .1))
+returns c = of-mark (c .enum-told .given .1) _
 
 returns-2 : tie.Need-returns-2
-returns-2 c = ap (λ (k : Mark). answered k (c .before .before .args .y)) (sym (c .enum-told2 .given .1))
+returns-2 c = of-mark (c .enum-told2 .given .1) _
 
 returns-3 : tie.Need-returns-3
-returns-3 c = ap (λ (k : Mark). answered k (c .before .before .args .y)) (sym (c .enum-told3 .given .1))
+returns-3 c = of-mark (c .enum-told3 .given .1) _
 
 pub answer-spec : {M : Type 1} → statement M
 answer-spec = tie.close (tie.spec enum-told enum-told-2 enum-told-3 returns returns-2 returns-3)

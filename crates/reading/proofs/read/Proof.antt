@@ -1,139 +1,120 @@
--- `reading::read` meets its contract: the refusals in their order, and what they let through. Assumes nothing.
-use mathlib.Core.Path.{_≡_, refl, sym, ap, _∙_}
-use mathlib.Core.Bool.{true, false}
-use Prim.Native.Nat.{ℕ, _≤_, _<_}
+-- `reading::read` meets its contract: refused, a zero, or the two steps and what becomes of them. Assumes nothing.
+use mathlib.Core.Path.{_≡_, refl, sym, ap, _∙_, subst}
+use mathlib.Core.Bool.{Bool, true, false, _&&_}
+use Prim.Native.Nat.{ℕ, _%_}
 use native.Mathlib.Omega.{arith}
 use lib.Dec.{eqb}
 use lib.Ieee
-use lib.Ieee.{Float, binary32, toBits, ofBits, ofFields, nanBits}
+use lib.Ieee.{Float, binary32, ofBits, ofFields, nanBits}
 use borrow.Author.Needs.{needs}
-use borrow.Author.Tests.{eq-eqb, ne-eqb}
-use Rattle.rounding.specs.Binary32.{no-nan, is-nan}
-use Rattle.factor.specs.SetUp.{intact}
+use borrow.Author.Tests.{eq-eqb, eqb-true}
+use Rattle.marks.specs.declared.Mark.{Mark}
+use Rattle.marks.specs.Answers.{NoneHolds, accepted}
+use Rattle.rounding.specs.RoundLaws.{HasBits}
+use Rattle.factor.specs.SetUp.{Sound}
 use Rattle.factor.specs.SetUpLaws.{intact-sound}
-use Rattle.reading.specs.declared.ReadingAnswer.{ReadingAnswer}
-use Rattle.reading.specs.Reading.{fieldOf, digitsOf, endless, zeroBits, subnormal, plusZero}
-use Rattle.reading.specs.AnswerLaws.{told, answer-31, answer-20, answer-21, answer-zero, answer-22, answer-normal, nan-endless}
+use Rattle.product.specs.Product.{productBy}
+use Rattle.product.specs.SoundLaws.{sound-product}
+use Rattle.reading.specs.Reading.{fieldOf, digitsOf, zeroBits, significandOf, plusZero, unreadable, finished, answered, applied}
+use Rattle.reading.specs.AnswerLaws.{significand-bits, is-intact, is-24, zero-answered, normal-answered, normal-field, taken-bits, taken-refused}
 use Rattle.reading.proofs.read.Statement.{statement}
 use Rattle.reading.proofs.read.Tie as tie
 
--- ---- classes of a reading from the tests on its fields
-normal-field : (b : ℕ) → ¬ (fieldOf b ≡ 0) → (zeroBits b ≡ false) × (subnormal b ≡ false)
-normal-field b h = let n = ne-eqb (fieldOf b) 0 h in (rw n, rw n)
+take-requires : tie.Need-take-requires
+take-requires c κs = search needs
 
-zero-fields : (b : ℕ) → fieldOf b ≡ 0 → digitsOf b ≡ 0 → zeroBits b ≡ true
-zero-fields b h k = rw (eq-eqb (fieldOf b) 0 h, eq-eqb (digitsOf b) 0 k)
+enum-known-number : tie.Need-enum-known-number
+enum-known-number c = search needs
 
-subnormal-fields : (b : ℕ) → fieldOf b ≡ 0 → ¬ (digitsOf b ≡ 0) → (zeroBits b ≡ false) × (subnormal b ≡ true)
-subnormal-fields b h k = let z = eq-eqb (fieldOf b) 0 h in let n = ne-eqb (digitsOf b) 0 k in (rw (z, n), rw (z, n))
+enum-known-bits : tie.Need-enum-known-bits
+enum-known-bits c = search needs
 
-is-intact-requires : tie.Need-is-intact-requires
-is-intact-requires c κs = search needs
-
--- 31 lets the factor through
-intact-is : (c : tie.Then1) → intact (c .before .before .args .f) ≡ true
-intact-is c = sym (c .before .is-intact .ensures) ∙ c .if1 .taken
-
-returns : tie.Need-returns
-returns c =
-    told _ _ _
-    (let t = c .before .before in
-    let a = t .before .before .args in
-    sym (answer-20 (a .f) (a .reading) (intact-is t) (ne-eqb (a .f .precision .bits) 24 (c .if2 .taken))))
-
--- 20 lets it through
-bits-are : (c : tie.Else2) → eqb (c .before .before .before .before .args .f .precision .bits) 24 ≡ true
-bits-are c = eq-eqb _ 24 (c .if2 .left)
-
-returns-2 : tie.Need-returns-2
-returns-2 c =
-    told _ _ _
-    (let e = c .before in
-    let t = e .before .before in
-    let a = t .before .before .args in
-    sym (answer-21 (a .f) (a .reading) (intact-is t) (bits-are e) (ap (λ (x : Float). endless (toBits binary32 x)) (is-nan (a .reading) (c .if3 .taken)) ∙ nan-endless)))
-
-float-to-bits-bits : tie.Need-float-to-bits-bits
-float-to-bits-bits c = no-nan _ (c .if3 .left)
-
-returns-3 : tie.Need-returns-3
-returns-3 c =
-    told _ _ _
-    (let e = c .before .before in
-    let t = e .before .before in
-    let a = t .before .before .args in
-    sym (answer-21 (a .f) (a .reading) (intact-is t) (bits-are e) (eq-eqb _ 255 (c .if4 .taken))))
-
-float-from-bits-t10 : tie.Need-float-from-bits-t10
+float-from-bits-t9 : tie.Need-float-from-bits-t9
 unfolding nanBits
-float-from-bits-t10 c = tt
+float-from-bits-t9 c = tt
 
 -- plus zero
 zero-is : ofBits binary32 0 ≡ plusZero
 unfolding ofBits ofFields Ieee.odd
 zero-is = refl
 
-returns-4 : tie.Need-returns-4
-returns-4 c =
-    told _ _ _
-    (let z = c .before in
-    let n = z .before in
-    let e = n .before .before in
-    let t = e .before .before in
-    let a = t .before .before .args in
-    ap ReadingAnswer.Right zero-is
-    ∙ sym (answer-zero (a .f) (a .reading) (intact-is t) (bits-are e) (ne-eqb _ 255 (n .if4 .left)) (zero-fields (toBits binary32 (a .reading)) (z .if5 .taken) (c .if6 .taken))))
+-- a zero by its bits, and a normal number
+zero-bits : (b : ℕ) → b % 2147483648 ≡ 0 → zeroBits b ≡ true
+zero-bits b h = rw (eq-eqb (fieldOf b) 0 (omega arith), eq-eqb (digitsOf b) 0 (omega arith))
 
-returns-5 : tie.Need-returns-5
-returns-5 c =
-    told _ _ _
-    (let z = c .before in
-    let n = z .before in
-    let e = n .before .before in
-    let t = e .before .before in
-    let a = t .before .before .args in
-    let k = subnormal-fields (toBits binary32 (a .reading)) (z .if5 .taken) (c .if6 .left) in
-    sym (answer-22 (a .f) (a .reading) (intact-is t) (bits-are e) (ne-eqb _ 255 (n .if4 .left)) (k .0) (k .1)))
+not-zero : (b : ℕ) → ¬ (b % 2147483648 ≡ 0) → zeroBits b ≡ false
+not-zero b h = go (eqb (fieldOf b) 0) (eqb (digitsOf b) 0) refl refl
+  where
+    go : (p q : Bool) → eqb (fieldOf b) 0 ≡ p → eqb (digitsOf b) 0 ≡ q → p && q ≡ false
+    go false q i j = refl
+    go true false i j = refl
+    go true true i j = let x = eqb-true (fieldOf b) 0 i in let y = eqb-true (digitsOf b) 0 j in absurd (h (omega arith))
 
--- a field below 256, neither 0 nor 255
-between : (b : ℕ) → ¬ (fieldOf b ≡ 0) → ¬ (fieldOf b ≡ 255) → (1 ≤ fieldOf b) × (fieldOf b < 255)
-between b h k = (omega arith, omega arith)
+-- ---- the reading was taken
+module _ (c : tie.After-known-told2) where
+  abbrev a : tie.Start
+  a = c .before .before .before .before
 
-normal-requires : tie.Need-normal-requires
-normal-requires c κs =
-    let n = c .before in
-    let e = n .before .before in
-    let t = e .before .before in
-    let a = t .before .before .args in
-    let k = between (toBits binary32 (a .reading)) (c .if5 .left) (n .if4 .left) in
-    (intact-sound (a .f) (intact-is t), e .if2 .left, k .0, k .1)
+  abbrev b : ℕ
+  b = c .before .bits .given .0 .0
 
-returns-6 : tie.Need-returns-6
-returns-6 c =
-    told _ _ _
-    (let z = c .before in
-    let n = z .before in
-    let e = n .before .before in
-    let t = e .before .before in
-    let a = t .before .before .args in
-    let k = normal-field (toBits binary32 (a .reading)) (z .if5 .left) in
-    c .normal .ensures ∙ sym (answer-normal (a .f) (a .reading) (intact-is t) (bits-are e) (ne-eqb _ 255 (n .if4 .left)) (k .0) (k .1)))
+  taken : NoneHolds (unreadable (a .args .f) b) × (answered (a .args .f) b (productBy (a .args .f) (significandOf b)) ≡ applied (a .args .f) (a .args .reading))
+  taken = taken-bits (a .args .f) (a .args .reading) (c .before .before .before .take .result) (c .before .before .before .take .ensures) b (c .before .bits .given .1)
 
-returns-7 : tie.Need-returns-7
-returns-7 c = told _ _ _ (let a = c .before .before .args in sym (answer-31 (a .f) (a .reading) (sym (c .before .is-intact .ensures) ∙ c .if1 .left)))
+returns : tie.Need-returns
+returns c =
+    let k = c .before in
+    let f = a k .args .f in
+    ap (λ (y : Float). accepted (record { mark = Mark.Right; value = y })) zero-is
+    ∙ zero-answered f (b k) (taken k .0) (productBy f (significandOf (b k))) (zero-bits (b k) (c .if1 .taken))
+    ∙ taken k .1
+
+sound : (c : tie.After-known-told2) → Sound (a c .args .f)
+sound c = intact-sound (a c .args .f) (is-intact (a c .args .f) (b c) (taken c .0))
+
+two-steps-requires : tie.Need-two-steps-requires
+two-steps-requires c κs = let k = c .before in (sound k, is-24 (a k .args .f) (b k) (taken k .0))
+
+not-zeros : (c : tie.Else1) → zeroBits (b (c .before)) ≡ false
+not-zeros c = not-zero (b (c .before)) (c .if1 .left)
+
+finish-requires : tie.Need-finish-requires
+finish-requires c κs =
+    let k = c .before .before in
+    let f = a k .args .f in
+    let n = is-24 f (b k) (taken k .0) in
+    let field = normal-field f (b k) (taken k .0) (not-zeros (c .before)) in
+    let in-range = subst (λ (n : ℕ). HasBits n (significandOf (b k))) (sym n) (significand-bits (b k)) in
+    let is = sound-product f (sound k) (significandOf (b k)) in-range in
+    let bits : HasBits 24 (productBy f (significandOf (b k)) .significand) = subst (λ (n : ℕ). HasBits n (productBy f (significandOf (b k)) .significand)) n (is .bits) in
+    (sound k, n, field .0, field .1, rw (c .two-steps .ensures) bits, rw (c .two-steps .ensures) (is .binade))
+
+returns-2 : tie.Need-returns-2
+returns-2 c =
+    let t = c .before .before .before in
+    let a = t .before .args in
+    taken-refused (a .f) (a .reading) (t .take .result) (t .take .ensures) (c .before .number .given .0 .0) (c .before .number .given .1)
+
+returns-3 : tie.Need-returns-3
+returns-3 c =
+    let v = c .before in
+    let k = v .before .before in
+    let f = a k .args .f in
+    c .finish .ensures
+    ∙ ap (finished f (b k)) (v .two-steps .ensures)
+    ∙ normal-answered f (b k) (taken k .0) (productBy f (significandOf (b k))) (not-zeros (v .before))
+    ∙ taken k .1
 
 pub read-spec : {M : Type 1} → statement M
 read-spec =
     tie.close
     (tie.spec
-    is-intact-requires
+    take-requires
+    enum-known-number
+    enum-known-bits
+    float-from-bits-t9
     returns
+    two-steps-requires
+    finish-requires
     returns-2
-    float-to-bits-bits
-    returns-3
-    float-from-bits-t10
-    returns-4
-    returns-5
-    normal-requires
-    returns-6
-    returns-7)
+    returns-3)
