@@ -1,6 +1,6 @@
 -- A line is a frame exactly if it is what the frame's fields print. Assumes nothing.
 use mathlib.Core.Path.{_≡_, refl, sym, ap, subst, _∙_}
-use mathlib.Core.Bool.{true, false, and-eq-true-iff}
+use mathlib.Core.Bool.{true, false, not, and-eq-true-iff}
 use mathlib.Core.List.{List, [], _∷_, _++_}
 use Prim.Native.Nat.{ℕ, suc, _+_, _-_, _*_, _^_, _<_}
 use native.Mathlib.Nat.{mod-eq-of-lt}
@@ -12,10 +12,9 @@ use lib.ListN.{length, getD, drop, drop-of-length-le}
 use lib.Seq.{drop-cons}
 use lib.Signed.{mag}
 use borrow.Author.Tests.{lt-ltb, le-ltb, eqb-true, not-false}
-use Rattle.marks.specs.Answers.{NoneHolds, accepted}
+use Rattle.marks.specs.Answers.{NoneHolds, Outcome, accepted}
 use Rattle.marks.specs.AnswerLaws.{pass, end, accepts, only-accepted, not-fails}
 use Rattle.factor.specs.declared.Description.{Description}
-use Rattle.frame.specs.declared.Field.{Field}
 use Rattle.frame.specs.declared.Field.the-variants.{Value}
 use Rattle.frame.specs.Digits.{digits, hexDigits, valueAfter, fieldAt, malformed, numberOf}
 use Rattle.frame.specs.DigitLaws.{value-read}
@@ -40,6 +39,21 @@ signed-byte b h = by (decLt b 128)
 byte-below : (k : ℤ) → mag k < 128 → byteOf k < 256
 byte-below (pos n) h = omega arith
 byte-below (negsuc n) h = omega arith
+
+-- ---- read
+-- A line whose fields stand in their places, and are read, is the frame of their numbers.
+pub frame-is :
+    (line : List ℕ) {p k l u : ℕ}
+    → not (spaced endDigits line) ≡ false
+    → precisionField line ≡ Value p
+    → scaleField line ≡ Value k
+    → lowerField line ≡ Value l
+    → upperField line ≡ Value u
+    → _≡_ {A = Outcome Description} (accepted (record { precision = p; scale = signedByte k; lower = l; upper = u })) (frameOf line)
+unfolding frameOf
+frame-is line {p} {k} {l} {u} s hp hk hl hu =
+    ap accepted (λ i. record { precision = numberOf (sym hp i); scale = signedByte (numberOf (sym hk i)); lower = numberOf (sym hl i); upper = numberOf (sym hu i) })
+    ∙ accepts (pass s (pass (ap malformed hp) (pass (ap malformed hk) (pass (ap malformed hl) (pass (ap malformed hu) end))))) (describedBy line)
 
 -- ---- printed, then read
 -- a number that its digits hold is read back
@@ -73,15 +87,9 @@ module _ (d : Description) (p : Printable d) where
 
   -- The line that a frame's fields print is that frame.
   pub frame-read : frameOf text ≡ accepted d
-  unfolding frameOf
   frame-read =
-      sym (accepts (pass (not-fails spaced-out) (pass (ap malformed precision-read) (pass (ap malformed scale-read) (pass (ap malformed lower-read) (pass (ap malformed upper-read) end))))) (describedBy text))
-      ∙ ap accepted (λ i. record {
-        precision = numberOf (precision-read i);
-        scale = (ap (λ (f : Field). signedByte (numberOf f)) scale-read ∙ byte-signed (d .scale) (p .scale)) i;
-        lower = numberOf (lower-read i);
-        upper = numberOf (upper-read i);
-      })
+      sym (frame-is text (not-fails spaced-out) precision-read scale-read lower-read upper-read)
+      ∙ ap (λ (k : ℤ). accepted (record { precision = d .precision; scale = k; lower = d .lower; upper = d .upper })) (byte-signed (d .scale) (p .scale))
 
 -- ---- read, then printed
 -- what `spaced` tells

@@ -4,16 +4,17 @@ use mathlib.Core.Bool.{false, not}
 use mathlib.Core.List.{List}
 use Prim.Native.Nat.{ℕ}
 use native.Mathlib.Omega.{arith}
+use lib.IntN.{ℤ}
 use mir.Syntax.{w32}
 use mir.Val.{toZ, ofZ}
 use borrow.Author.Needs.{needs}
 use Rattle.marks.specs.Answers.{accepted}
-use Rattle.marks.specs.AnswerLaws.{pass, stop, end, refuses, accepts}
-use Rattle.frame.specs.declared.Field.{Field}
+use Rattle.marks.specs.AnswerLaws.{pass, stop, refuses}
 use Rattle.frame.specs.declared.Field.the-variants.{Value}
-use Rattle.frame.specs.Digits.{malformed, numberOf}
+use Rattle.frame.specs.Digits.{malformed}
 use Rattle.frame.specs.FieldLaws.{field-held}
-use Rattle.frame.specs.Frame.{endDigits, signedByte, spaced, precisionField, scaleField, lowerField, upperField, describedBy, frameOf}
+use Rattle.frame.specs.FrameLaws.{frame-is}
+use Rattle.frame.specs.Frame.{endDigits, spaced, precisionField, scaleField, lowerField, upperField, frameOf}
 use Rattle.frame.proofs.read_frame.Statement.{statement}
 use Rattle.frame.proofs.read_frame.Tie as tie
 
@@ -135,20 +136,14 @@ signed-byte-requires : tie.Need-signed-byte-requires
 signed-byte-requires c κs = field-held _ 3 2 _ (scale-is (third (fourth c))) .small
 
 returns-6 : tie.Need-returns-6
-unfolding frameOf
 returns-6 c =
     let u = c .before in
     let l = fourth u in
     let k = third l in
     let p = second k in
     let scale : toZ w32 (ofZ w32 (c .signed-byte .result)) ≡ c .signed-byte .result = search needs in
-    ap accepted (λ i. record {
-      precision = numberOf (sym (precision-is p) i);
-      scale = (scale ∙ c .signed-byte .ensures ∙ ap (λ (f : Field). signedByte (numberOf f)) (sym (scale-is k))) i;
-      lower = numberOf (sym (lower-is l) i);
-      upper = numberOf (sym (upper-is u) i);
-    })
-    ∙ accepts (pass (spaced-out (first p)) (pass (ap malformed (precision-is p)) (pass (ap malformed (scale-is k)) (pass (ap malformed (lower-is l)) (pass (ap malformed (upper-is u)) end))))) (describedBy (line (first p)))
+    ap (λ (x : ℤ). accepted (record { precision = p .before .precision .given .0 .0; scale = x; lower = l .before .lower .given .0 .0; upper = u .before .upper .given .0 .0 })) (scale ∙ c .signed-byte .ensures)
+    ∙ frame-is (line (first p)) (spaced-out (first p)) (precision-is p) (scale-is k) (lower-is l) (upper-is u)
 
 pub read-frame-spec : {M : Type 1} → statement M
 read-frame-spec =
