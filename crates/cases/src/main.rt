@@ -11,6 +11,7 @@
 //
 // A refusal is two decimal digits, and so is a mark: 01 right, 02 open, 03 wrong. Any other line is answered with 24.
 use factor::Applied;
+use factor::Description;
 use factor::Factor;
 use factor::Parts;
 use factor::Precision;
@@ -119,12 +120,13 @@ fn field(input: &[u8], line: Line, at: usize, width: usize) -> Field
 
 // ---- kinds of lines
 fn set_up(s: SweepState, n: u64, k: u64, lower: u64, upper: u64) -> SweepState {
-    match factor::set_up(
-        words::low_half(n),
-        words::signed_half(words::low_half(k)),
+    let d = Description {
+        precision: words::low_half(n),
+        scale: words::signed_half(words::low_half(k)),
         lower,
         upper,
-    ) {
+    };
+    match factor::set_up(d) {
         SetUp::Accepted(f) => {
             put_outcome(0);
             put_factor(f);

@@ -4,24 +4,24 @@ use mathlib.Core.Bool.{Bool, true, false, _||_}
 use mathlib.Core.List.{List}
 use Prim.Native.Nat.{ℕ, _≤_, _<_}
 use lib.Dec.{ltb}
-use lib.IntN.{ℤ}
-use lib.Ieee.{binary32, ofBits}
+use lib.Ieee.{Float, binary32, ofBits}
 use lib.ListN.{length}
 use lib.Seq.{sets}
 use borrow.Author.Tests.{lt-ltb, le-ltb}
+use Rattle.marks.specs.Answers.{Outcome, Marked}
+use Rattle.factor.specs.declared.Description.{Description}
 use Rattle.factor.specs.declared.Factor.{Factor}
-use Rattle.factor.specs.declared.SetUp.{SetUp}
 use Rattle.factor.specs.SetUp.{setUp}
-use Rattle.product.specs.declared.ProductAnswer.{ProductAnswer}
+use Rattle.product.specs.declared.Product.{Product}
 use Rattle.product.specs.Answer.{multiplied}
-use Rattle.reading.specs.declared.ReadingAnswer.{ReadingAnswer}
 use Rattle.reading.specs.Reading.{applied}
-use Rattle.calls.specs.State.{Outcome, State, newState}
+use Rattle.calls.specs.State as calls
+use Rattle.calls.specs.State.{State, newState}
 use Rattle.calls.specs.Call.{Reply, sweepCall}
 use Rattle.sweep.specs.Engine.{engine}
 use Rattle.sweep.specs.Answers.{callOf}
 use Rattle.exports.specs.Words.{factorFrom, stateFrom}
-use Rattle.exports.specs.Answers.{Answer, tooShort, short, leaves, setUpAnswer, setUpTo, productAnswer, multiplyTo, readingAnswer, readTo, newSweepAnswer, newSweepTo, SweepWords, tooShortFor, replyWords, sweepTo}
+use Rattle.exports.specs.Answers.{Answer, tooShort, short, leaves, markedAnswer, setUpAnswer, setUpTo, productWords, multiplyTo, readingWords, readTo, newSweepAnswer, newSweepTo, SweepWords, tooShortFor, replyWords, sweepTo}
 
 -- what is returned and left, of an answer known to be b
 pub gives : (a b : Answer) (out : List ℕ) → a ≡ b → (b .number ≡ a .number) × (leaves b out ≡ leaves a out)
@@ -50,12 +50,12 @@ module _ (k : ℕ) (xs : List ℕ) (l : ℕ) (ys : List ℕ) where
   long-enough h g = rw (le-ltb (length xs) k h, le-ltb (length ys) l g)
 
 -- ---- the answers
-module _ (n : ℕ) (k : ℤ) (L U : ℕ) (out : List ℕ) where
-  pub set-up-short : length out < 9 → setUpTo n k L U out ≡ tooShort
+module _ (d : Description) (out : List ℕ) where
+  pub set-up-short : length out < 9 → setUpTo d out ≡ tooShort
   unfolding setUpTo
   set-up-short h = rw (lt-ltb (length out) 9 h)
 
-  pub set-up-is : (a : SetUp) → 9 ≤ length out → setUp n k L U ≡ a → setUpTo n k L U out ≡ setUpAnswer a
+  pub set-up-is : (a : Outcome Factor) → 9 ≤ length out → setUp d ≡ a → setUpTo d out ≡ setUpAnswer a
   unfolding setUpTo
   set-up-is a h e = rw (le-ltb (length out) 9 h, e)
 
@@ -64,7 +64,7 @@ module _ (factor : List ℕ) (X : ℕ) (out : List ℕ) where
   unfolding multiplyTo
   multiply-short h = rw h
 
-  pub multiply-is : (a : ProductAnswer) → short 9 factor 2 out ≡ false → multiplied (factorFrom factor) X ≡ a → multiplyTo factor X out ≡ productAnswer a
+  pub multiply-is : (a : Outcome (Marked Product)) → short 9 factor 2 out ≡ false → multiplied (factorFrom factor) X ≡ a → multiplyTo factor X out ≡ markedAnswer productWords a
   unfolding multiplyTo
   multiply-is a h e = rw (h, e)
 
@@ -73,7 +73,7 @@ module _ (factor : List ℕ) (reading : ℕ) (out : List ℕ) where
   unfolding readTo
   read-short h = rw h
 
-  pub read-is : (a : ReadingAnswer) → short 9 factor 1 out ≡ false → applied (factorFrom factor) (ofBits binary32 reading) ≡ a → readTo factor reading out ≡ readingAnswer a
+  pub read-is : (a : Outcome (Marked Float)) → short 9 factor 1 out ≡ false → applied (factorFrom factor) (ofBits binary32 reading) ≡ a → readTo factor reading out ≡ markedAnswer readingWords a
   unfolding readTo
   read-is a h e = rw (h, e)
 
@@ -82,7 +82,7 @@ module _ (factor : List ℕ) (first last : ℕ) (out : List ℕ) where
   unfolding newSweepTo
   new-sweep-short h = rw h
 
-  pub new-sweep-is : (a : Outcome (State Factor)) → short 9 factor 13 out ≡ false → newState engine (factorFrom factor) first last ≡ a → newSweepTo factor first last out ≡ newSweepAnswer a
+  pub new-sweep-is : (a : calls.Outcome (State Factor)) → short 9 factor 13 out ≡ false → newState engine (factorFrom factor) first last ≡ a → newSweepTo factor first last out ≡ newSweepAnswer a
   unfolding newSweepTo
   new-sweep-is a h e = rw (h, e)
 

@@ -3,18 +3,19 @@ use mathlib.Core.Bool.{Bool, cond, _||_}
 use mathlib.Core.List.{List, [], _∷_}
 use Prim.Native.Nat.{ℕ}
 use lib.Dec.{ltb}
-use lib.IntN.{ℤ}
 use lib.ListN.{length}
 use lib.Seq.{sets}
-use lib.Ieee.{binary32, toBits, ofBits}
+use lib.Ieee.{Float, binary32, toBits, ofBits}
+use Rattle.marks.specs.declared.Mark.{Mark}
+use Rattle.marks.specs.Answers.{Outcome, refused, accepted, Marked}
+use Rattle.factor.specs.declared.Description.{Description}
 use Rattle.factor.specs.declared.Factor.{Factor}
-use Rattle.factor.specs.declared.SetUp.{SetUp}
 use Rattle.factor.specs.SetUp.{setUp}
-use Rattle.product.specs.declared.ProductAnswer.{ProductAnswer}
+use Rattle.product.specs.declared.Product.{Product}
 use Rattle.product.specs.Answer.{multiplied}
-use Rattle.reading.specs.declared.ReadingAnswer.{ReadingAnswer}
 use Rattle.reading.specs.Reading.{applied}
-use Rattle.calls.specs.State.{Outcome, accepted, refused, State, newState}
+use Rattle.calls.specs.State as calls
+use Rattle.calls.specs.State.{State, newState}
 use Rattle.calls.specs.Call.{Result, Reply, sweepCall}
 use Rattle.sweep.specs.Engine.{engine}
 use Rattle.sweep.specs.Answers.{callOf}
@@ -37,44 +38,48 @@ short k xs l ys = ltb (length xs) k || ltb (length ys) l
 abbrev pub leaves : Answer → List ℕ → List ℕ
 leaves a to = sets to 0 (a .words)
 
--- ---- set-up: 0 and the factor, or the refusal
-abbrev pub setUpAnswer : SetUp → Answer
-setUpAnswer (SetUp.Accepted f) = record { number = 0; words = factorWords f }
-setUpAnswer (SetUp.Refused k) = record { number = k; words = [] }
+-- a mark's number
+abbrev pub markNumber : Mark → ℕ
+markNumber Mark.Right = 1
+markNumber Mark.Open = 2
+markNumber Mark.Wrong = 3
 
-unfoldable pub setUpTo : (n : ℕ) → ℤ → (L U : ℕ) → (out : List ℕ) → Answer
+-- the number of the mark and the words of the value, or the refusal
+abbrev pub markedAnswer : {A : Type 0} → (A → List ℕ) → Outcome (Marked A) → Answer
+markedAnswer words (accepted a) = record { number = markNumber (a .mark); words = words (a .value) }
+markedAnswer words (refused k) = record { number = k; words = [] }
+
+-- ---- set-up: 0 and the factor, or the refusal
+abbrev pub setUpAnswer : Outcome Factor → Answer
+setUpAnswer (accepted f) = record { number = 0; words = factorWords f }
+setUpAnswer (refused k) = record { number = k; words = [] }
+
+unfoldable pub setUpTo : Description → (out : List ℕ) → Answer
 unfolding setUp factorWords
-setUpTo n k L U out = cond (ltb (length out) factorLength) tooShort (setUpAnswer (setUp n k L U))
+setUpTo d out = cond (ltb (length out) factorLength) tooShort (setUpAnswer (setUp d))
 
 -- ---- a product: 1 right, 2 open, 3 wrong, with significand and binade, or the refusal
-abbrev pub productAnswer : ProductAnswer → Answer
-productAnswer (ProductAnswer.Right v) = record { number = 1; words = v .significand ∷ v .binade ∷ [] }
-productAnswer (ProductAnswer.Open v) = record { number = 2; words = v .significand ∷ v .binade ∷ [] }
-productAnswer (ProductAnswer.Wrong v) = record { number = 3; words = v .significand ∷ v .binade ∷ [] }
-productAnswer (ProductAnswer.Refused k) = record { number = k; words = [] }
+abbrev pub productWords : Product → List ℕ
+productWords v = v .significand ∷ v .binade ∷ []
 
 unfoldable pub multiplyTo : (factor : List ℕ) (X : ℕ) (out : List ℕ) → Answer
 unfolding multiplied factorFrom
 multiplyTo factor X out =
-    cond (short factorLength factor 2 out) tooShort (productAnswer (multiplied (factorFrom factor) X))
+    cond (short factorLength factor 2 out) tooShort (markedAnswer productWords (multiplied (factorFrom factor) X))
 
 -- ---- a reading: 1 right, 2 open, 3 wrong, with the product's bits, or the refusal
-unfoldable pub readingAnswer : ReadingAnswer → Answer
-unfolding toBits
-readingAnswer (ReadingAnswer.Right y) = record { number = 1; words = toBits binary32 y ∷ [] }
-readingAnswer (ReadingAnswer.Open y) = record { number = 2; words = toBits binary32 y ∷ [] }
-readingAnswer (ReadingAnswer.Wrong y) = record { number = 3; words = toBits binary32 y ∷ [] }
-readingAnswer (ReadingAnswer.Refused k) = record { number = k; words = [] }
+abbrev pub readingWords : Float → List ℕ
+readingWords y = toBits binary32 y ∷ []
 
 unfoldable pub readTo : (factor : List ℕ) (reading : ℕ) (out : List ℕ) → Answer
-unfolding applied factorFrom readingAnswer ofBits
+unfolding applied factorFrom toBits ofBits
 readTo factor reading out =
-    cond (short factorLength factor 1 out) tooShort (readingAnswer (applied (factorFrom factor) (ofBits binary32 reading)))
+    cond (short factorLength factor 1 out) tooShort (markedAnswer readingWords (applied (factorFrom factor) (ofBits binary32 reading)))
 
 -- ---- a new sweep: 0 and the state, or the refusal
-abbrev pub newSweepAnswer : Outcome (State Factor) → Answer
-newSweepAnswer (accepted s) = record { number = 0; words = stateWords s }
-newSweepAnswer (refused k) = record { number = k; words = [] }
+abbrev pub newSweepAnswer : calls.Outcome (State Factor) → Answer
+newSweepAnswer (calls.accepted s) = record { number = 0; words = stateWords s }
+newSweepAnswer (calls.refused k) = record { number = k; words = [] }
 
 unfoldable pub newSweepTo : (factor : List ℕ) (first last : ℕ) (out : List ℕ) → Answer
 unfolding factorFrom stateWords
@@ -91,9 +96,9 @@ pub record SweepWords : Type 0 where
 abbrev pub tooShortFor : List ℕ → SweepWords
 tooShortFor list = record { number = 255; state = []; list = list; counts = [] }
 
-abbrev pub sweepAnswer : Outcome Result → State Factor → List ℕ → SweepWords
-sweepAnswer (accepted r) s list = record { number = 0; state = stateWords s; list = list; counts = r .trials ∷ r .rounds ∷ r .place ∷ [] }
-sweepAnswer (refused k) s list = record { number = k; state = []; list = list; counts = [] }
+abbrev pub sweepAnswer : calls.Outcome Result → State Factor → List ℕ → SweepWords
+sweepAnswer (calls.accepted r) s list = record { number = 0; state = stateWords s; list = list; counts = r .trials ∷ r .rounds ∷ r .place ∷ [] }
+sweepAnswer (calls.refused k) s list = record { number = k; state = []; list = list; counts = [] }
 
 abbrev pub replyWords : Reply Factor → SweepWords
 replyWords r = sweepAnswer (r .answer) (r .state) (r .list)

@@ -1,5 +1,6 @@
 // The engine for programs in other languages: numbers and lists of words in place of structs and enums. include/gusnalip.h declares the functions.
 use factor::Applied;
+use factor::Description;
 use factor::Factor;
 use factor::Parts;
 use factor::Precision;
@@ -120,13 +121,19 @@ pub extern "C" fn gusnalip_set_up(
     upper: u64,
     out: &mut [u64],
 ) -> u32
-    ensures { λ r. ⌜ r ≡ setUpTo precision scale lower upper (now (out .entry)) .number ⌝ }
-    ensures { λ _. ⌜ now (out .exit) ≡ leaves (setUpTo precision scale lower upper (now (out .entry))) (now (out .entry)) ⌝ }
+    ensures { λ r. ⌜ r ≡ setUpTo (record { precision = precision; scale = scale; lower = lower; upper = upper }) (now (out .entry)) .number ⌝ }
+    ensures { λ _. ⌜ now (out .exit) ≡ leaves (setUpTo (record { precision = precision; scale = scale; lower = lower; upper = upper }) (now (out .entry))) (now (out .entry)) ⌝ }
 {
     if out.len() < FACTOR_WORDS {
         return TOO_SHORT;
     }
-    match factor::set_up(precision, scale, lower, upper) {
+    let d = Description {
+        precision,
+        scale,
+        lower,
+        upper,
+    };
+    match factor::set_up(d) {
         SetUp::Accepted(f) => {
             put_factor(f, out);
             0

@@ -1,8 +1,8 @@
 -- Numbers as digits: printed in a base up to 16, the most significant digit first, letters in upper case, and hexadecimal ones read back.
 -- Definitions only. Assumes nothing.
-use mathlib.Core.Bool.{Bool, cond, _&&_}
+use mathlib.Core.Bool.{Bool, true, false, cond, _&&_}
 use mathlib.Core.List.{List, [], _∷_}
-use Prim.Native.Nat.{ℕ, zero, suc, _+_, _-_, _*_, _/_, _%_, _^_, _<_}
+use Prim.Native.Nat.{ℕ, zero, suc, _+_, _-_, _*_, _/_, _%_, _^_}
 use lib.Dec.{leb, ltb}
 use lib.ListN.{length}
 use lib.Seq.{slice}
@@ -50,7 +50,12 @@ valueAfter v (b ∷ bytes) = andThen (digitValue b) (λ d. valueAfter (v * 16 + 
 unfoldable pub fieldAt : List ℕ → (at w : ℕ) → Field
 fieldAt line at w = cond (leb (at + w) (length line)) (valueAfter 0 (slice at (at + w) line)) Malformed
 
--- a value that is read is below a bound
-abbrev pub Within : ℕ → Field → Type 0
-Within bound (Value v) = v < bound
-Within bound Malformed = Unit {0}
+-- it is no number of its digits
+abbrev pub malformed : Field → Bool
+malformed (Value v) = false
+malformed Malformed = true
+
+-- its number; 0 stands for none
+abbrev pub numberOf : Field → ℕ
+numberOf (Value v) = v
+numberOf Malformed = 0

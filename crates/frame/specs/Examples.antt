@@ -5,8 +5,8 @@ use Prim.Native.Nat.{ℕ}
 use Prim.Native.Char.{code}
 use Prim.Native.String.{String, [], _∷_}
 use lib.IntN.{ℤ, pos, negsuc}
-use Rattle.frame.specs.declared.FrameAnswer.{FrameAnswer}
-use Rattle.frame.specs.declared.FrameAnswer.the-variants.{Frame, Refused}
+use Rattle.marks.specs.Answers.{Outcome, refused, accepted, answer}
+use Rattle.factor.specs.declared.Description.{Description}
 use Rattle.frame.specs.declared.Report.{Report}
 use Rattle.frame.specs.Digits.{digitByte, digits, digitValue, valueAfter, fieldAt}
 use Rattle.frame.specs.Frame.{spaced, frameOf}
@@ -14,12 +14,12 @@ use Rattle.frame.specs.Report.{wordLine, reportLine, refusalLine}
 
 -- the bytes of a text; the line below names what a line has to unfold to compute
 bytes : String → List ℕ
-unfolding digitByte digits digitValue valueAfter fieldAt spaced frameOf wordLine reportLine refusalLine
+unfolding answer digitByte digits digitValue valueAfter fieldAt spaced frameOf wordLine reportLine refusalLine
 bytes [] = []ᴸ
 bytes (c ∷ s) = code c ∷ᴸ bytes s
 
-abbrev frame : ℕ → ℤ → ℕ → ℕ → FrameAnswer
-frame n k l u = Frame (record { precision = n; scale = k; lower = l; upper = u })
+abbrev frame : ℕ → ℤ → ℕ → ℕ → Outcome Description
+frame n k l u = accepted (record { precision = n; scale = k; lower = l; upper = u })
 
 abbrev report : (number trials wrongs opens : ℕ) → Report
 report number trials wrongs opens = record { number = number; trials = trials; wrongs = wrongs; opens = opens }
@@ -43,23 +43,23 @@ unfolding bytes
 least-scale = refl
 
 -- ---- lines that are no frames
-lower-case : frameOf (bytes "04 00 4bfffc0000000000 4bfffc0000000000") ≡ Refused 24
+lower-case : frameOf (bytes "04 00 4bfffc0000000000 4bfffc0000000000") ≡ refused 24
 unfolding bytes
 lower-case = refl
 
-one-digit-short : frameOf (bytes "04 00 6000000000000000 600000000000000") ≡ Refused 24
+one-digit-short : frameOf (bytes "04 00 6000000000000000 600000000000000") ≡ refused 24
 unfolding bytes
 one-digit-short = refl
 
-blank-at-end : frameOf (bytes "04 00 6000000000000000 6000000000000000 ") ≡ Refused 24
+blank-at-end : frameOf (bytes "04 00 6000000000000000 6000000000000000 ") ≡ refused 24
 unfolding bytes
 blank-at-end = refl
 
-tab-between : frameOf (bytes "04\t00 6000000000000000 6000000000000000") ≡ Refused 24
+tab-between : frameOf (bytes "04\t00 6000000000000000 6000000000000000") ≡ refused 24
 unfolding bytes
 tab-between = refl
 
-no-bytes : frameOf (bytes "") ≡ Refused 24
+no-bytes : frameOf (bytes "") ≡ refused 24
 unfolding bytes
 no-bytes = refl
 

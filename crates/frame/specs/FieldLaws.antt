@@ -1,5 +1,6 @@
 -- Fields of a line: where the line is long enough, digit by digit, and their bound. Assumes nothing.
 use mathlib.Core.Path.{_≡_, refl, sym, ap, subst, _∙_}
+use mathlib.Core.Bool.{false, true≢false}
 use mathlib.Core.List.{List, _++_}
 use Prim.Native.Nat.{ℕ, suc, _+_, _*_, _^_, _≤_, _<_}
 use native.Mathlib.Decide.{decLe}
@@ -9,7 +10,7 @@ use lib.Seq.{slice, slice-cons, slice-empty, length-slice, length-take-le, drop-
 use borrow.Author.Tests.{le-leb, lt-leb}
 use Rattle.frame.specs.declared.Field.{Field}
 use Rattle.frame.specs.declared.Field.the-variants.{Value, Malformed}
-use Rattle.frame.specs.Digits.{hexDigits, digitValue, andThen, valueAfter, fieldAt, Within}
+use Rattle.frame.specs.Digits.{hexDigits, digitValue, andThen, valueAfter, fieldAt, malformed, numberOf}
 use Rattle.frame.specs.DigitLaws.{read-nothing, value-printed, value-below}
 
 -- A field within the line is its digits' value.
@@ -58,13 +59,10 @@ field-held line at w v e = by (decLe (at + w) (length line))
         }
     by (no h) = absurd (read-nothing (fieldAt line at w) v (field-outside line at w (omega (arith, h))) e)
 
--- A field of w digits is below 16 ^ w.
-pub field-within : (line : List ℕ) (at w : ℕ) → Within (16 ^ w) (fieldAt line at w)
-field-within line at w = by (fieldAt line at w) refl
-  where
-    by : (f : Field) → fieldAt line at w ≡ f → Within (16 ^ w) f
-    by Malformed e = tt
-    by (Value v) e = field-held line at w v e .small
+-- A field that is not malformed has its number.
+pub well-formed : (f : Field) → malformed f ≡ false → f ≡ Value (numberOf f)
+well-formed (Value v) e = refl
+well-formed Malformed e = absurd (true≢false e)
 
 -- A line from a place on is a field and the rest.
 pub rest-of : (line : List ℕ) (at w : ℕ) → at + w ≤ length line → drop at line ≡ slice at (at + w) line ++ drop (at + w) line

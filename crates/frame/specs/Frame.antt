@@ -1,18 +1,18 @@
 -- A frame (document 01, "Frames and report"): what a line says, and refusal 24 of a line that is not exactly of that form.
 -- A line is the bytes before its line feed. Definitions only. Assumes nothing.
-use mathlib.Core.Bool.{Bool, cond, _&&_}
+use mathlib.Core.Bool.{Bool, cond, not, _&&_}
 use mathlib.Core.List.{List, [], _∷_}
 use Prim.Native.Nat.{ℕ, _+_, _-_, _*_, _^_, _<_}
 use lib.Dec.{eqb, ltb}
 use lib.IntN.{ℤ, pos, negsuc, _-ℤ_}
 use lib.ListN.{length, getD}
 use lib.Signed.{mag}
+use Rattle.marks.specs.Answers.{Outcome, refused, accepted, answer}
+use Rattle.factor.specs.declared.Description.{Description}
 use Rattle.frame.specs.declared.Field.{Field}
-use Rattle.frame.specs.declared.Field.the-variants.{Value, Malformed}
-use Rattle.frame.specs.declared.Frame as F
 use Rattle.frame.specs.declared.FrameAnswer.{FrameAnswer}
 use Rattle.frame.specs.declared.FrameAnswer.the-variants.{Frame, Refused}
-use Rattle.frame.specs.Digits.{hexDigits, fieldAt}
+use Rattle.frame.specs.Digits.{hexDigits, fieldAt, malformed, numberOf}
 use Rattle.frame.specs.Lines.{blank, joined}
 
 -- the digits of an end
@@ -32,24 +32,48 @@ blankAt line at = eqb (getD line at 0) blank
 unfoldable pub spaced : (e : ℕ) → List ℕ → Bool
 spaced e line = eqb (length line) (7 + 2 * e) && (blankAt line 2 && (blankAt line 5 && blankAt line (6 + e)))
 
--- the frame of the four numbers that are read
-abbrev pub frameWith : (precision scale lower upper : ℕ) → F.Frame
-frameWith p k l u = record { precision = p; scale = signedByte k; lower = l; upper = u }
+-- the four fields of a line
+abbrev pub precisionField : List ℕ → Field
+precisionField line = fieldAt line 0 2
 
--- the frame of four fields, if each is one
-abbrev pub framed : (precision scale lower upper : Field) → FrameAnswer
-framed Malformed k l u = Refused 24
-framed (Value p) Malformed l u = Refused 24
-framed (Value p) (Value k) Malformed u = Refused 24
-framed (Value p) (Value k) (Value l) Malformed = Refused 24
-framed (Value p) (Value k) (Value l) (Value u) = Frame (frameWith p k l u)
+abbrev pub scaleField : List ℕ → Field
+scaleField line = fieldAt line 3 2
+
+abbrev pub lowerField : List ℕ → Field
+lowerField line = fieldAt line 6 endDigits
+
+abbrev pub upperField : List ℕ → Field
+upperField line = fieldAt line (7 + endDigits) endDigits
+
+-- 24, the line is not a frame: its fields do not stand where a frame's do, or one of them is no number of its digits
+abbrev pub conditions : List ℕ → List (ℕ × Bool)
+conditions line =
+    (24, not (spaced endDigits line))
+    ∷ (24, malformed (precisionField line))
+    ∷ (24, malformed (scaleField line))
+    ∷ (24, malformed (lowerField line))
+    ∷ (24, malformed (upperField line))
+    ∷ []
+
+-- what the fields describe
+abbrev pub describedBy : List ℕ → Description
+describedBy line =
+    record {
+      precision = numberOf (precisionField line);
+      scale = signedByte (numberOf (scaleField line));
+      lower = numberOf (lowerField line);
+      upper = numberOf (upperField line);
+    }
 
 -- a **frame** (document 01): precision, scale, L and U, each in its place; 24 stands alone, whatever else is wrong with the line
-unfoldable pub frameOf : List ℕ → FrameAnswer
-frameOf line =
-    cond (spaced endDigits line)
-    (framed (fieldAt line 0 2) (fieldAt line 3 2) (fieldAt line 6 endDigits) (fieldAt line (7 + endDigits) endDigits))
-    (Refused 24)
+unfoldable pub frameOf : List ℕ → Outcome Description
+unfolding spaced fieldAt
+frameOf line = answer (conditions line) (describedBy line)
+
+-- what each case of the answer says
+abbrev pub outcomeOf : FrameAnswer → Outcome Description
+outcomeOf (Frame d) = accepted d
+outcomeOf (Refused k) = refused k
 
 -- ---- printed
 -- the byte that is a number in two's complement
@@ -58,7 +82,7 @@ byteOf (pos n) = n
 byteOf (negsuc n) = 255 - n
 
 -- the fields of a frame
-abbrev pub frameFields : F.Frame → List (List ℕ)
+abbrev pub frameFields : Description → List (List ℕ)
 frameFields f =
     hexDigits 2 (f .precision)
     ∷ hexDigits 2 (byteOf (f .scale))
@@ -67,11 +91,11 @@ frameFields f =
     ∷ []
 
 -- the line of a frame
-unfoldable pub frameText : F.Frame → List ℕ
+unfoldable pub frameText : Description → List ℕ
 frameText f = joined (frameFields f) []
 
 -- what the fields of a frame can hold
-pub record Printable (f : F.Frame) : Type 0 where
+pub record Printable (f : Description) : Type 0 where
   pub precision : f .precision < 256
   pub scale : mag (f .scale) < 128
   pub lower : f .lower < 16 ^ endDigits

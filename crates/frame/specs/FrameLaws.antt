@@ -1,6 +1,6 @@
 -- A line is a frame exactly if it is what the frame's fields print. Assumes nothing.
 use mathlib.Core.Path.{_≡_, refl, sym, ap, subst, _∙_}
-use mathlib.Core.Bool.{Bool, true, false, cond, and-eq-true-iff}
+use mathlib.Core.Bool.{true, false, not, and-eq-true-iff}
 use mathlib.Core.List.{List, [], _∷_, _++_}
 use Prim.Native.Nat.{ℕ, suc, _+_, _-_, _*_, _^_, _<_}
 use native.Mathlib.Nat.{mod-eq-of-lt}
@@ -11,16 +11,16 @@ use lib.IntN.{ℤ, pos, negsuc}
 use lib.ListN.{length, getD, drop, drop-of-length-le}
 use lib.Seq.{drop-cons}
 use lib.Signed.{mag}
-use borrow.Author.Tests.{lt-ltb, le-ltb, eqb-true}
-use Rattle.frame.specs.declared.Field.{Field}
-use Rattle.frame.specs.declared.Field.the-variants.{Value, Malformed}
-use Rattle.frame.specs.declared.Frame as F
-use Rattle.frame.specs.declared.FrameAnswer.the-variants.{Frame, Refused}
-use Rattle.frame.specs.Digits.{digits, hexDigits, valueAfter, fieldAt}
+use borrow.Author.Tests.{lt-ltb, le-ltb, eqb-true, not-false}
+use Rattle.marks.specs.Answers.{NoneHolds, Outcome, accepted}
+use Rattle.marks.specs.AnswerLaws.{pass, end, accepts, only-accepted, not-fails}
+use Rattle.factor.specs.declared.Description.{Description}
+use Rattle.frame.specs.declared.Field.the-variants.{Value}
+use Rattle.frame.specs.Digits.{digits, hexDigits, valueAfter, fieldAt, malformed, numberOf}
 use Rattle.frame.specs.DigitLaws.{value-read}
-use Rattle.frame.specs.FieldLaws.{Held, field-held, rest-of}
+use Rattle.frame.specs.FieldLaws.{Held, field-held, well-formed, rest-of}
 use Rattle.frame.specs.Lines.{blank, joined}
-use Rattle.frame.specs.Frame.{endDigits, signedByte, blankAt, spaced, frameWith, framed, frameOf, byteOf, frameText, Printable}
+use Rattle.frame.specs.Frame.{endDigits, signedByte, blankAt, spaced, precisionField, scaleField, lowerField, upperField, conditions, describedBy, frameOf, byteOf, frameText, Printable}
 
 -- ---- two's complement
 -- A number from -128 to 127 is read back from its byte.
@@ -40,31 +40,56 @@ byte-below : (k : ℤ) → mag k < 128 → byteOf k < 256
 byte-below (pos n) h = omega arith
 byte-below (negsuc n) h = omega arith
 
+-- ---- read
+-- A line whose fields stand in their places, and are read, is the frame of their numbers.
+pub frame-is :
+    (line : List ℕ) {p k l u : ℕ}
+    → not (spaced endDigits line) ≡ false
+    → precisionField line ≡ Value p
+    → scaleField line ≡ Value k
+    → lowerField line ≡ Value l
+    → upperField line ≡ Value u
+    → _≡_ {A = Outcome Description} (accepted (record { precision = p; scale = signedByte k; lower = l; upper = u })) (frameOf line)
+unfolding frameOf
+frame-is line {p} {k} {l} {u} s hp hk hl hu =
+    ap accepted (λ i. record { precision = numberOf (sym hp i); scale = signedByte (numberOf (sym hk i)); lower = numberOf (sym hl i); upper = numberOf (sym hu i) })
+    ∙ accepts (pass s (pass (ap malformed hp) (pass (ap malformed hk) (pass (ap malformed hl) (pass (ap malformed hu) end))))) (describedBy line)
+
 -- ---- printed, then read
 -- a number that its digits hold is read back
 read-back : (w v : ℕ) → v < 16 ^ w → valueAfter 0 (hexDigits w v) ≡ Value v
 read-back w v h = value-read w 0 v ∙ ap Value (omega (arith, mod-eq-of-lt h))
 
--- each field of the line that is printed stands in its place
-printed-fields :
-    (f : F.Frame)
-    → frameOf (frameText f)
-    ≡ framed (valueAfter 0 (hexDigits 2 (f .precision))) (valueAfter 0 (hexDigits 2 (byteOf (f .scale))))
-    (valueAfter 0 (hexDigits endDigits (f .lower)))
-    (valueAfter 0 (hexDigits endDigits (f .upper)))
-unfolding frameOf frameText spaced fieldAt digits
-printed-fields f = refl
+module _ (d : Description) (p : Printable d) where
+  abbrev text : List ℕ
+  text = frameText d
 
--- The line that a frame's fields print is that frame.
-pub frame-read : (f : F.Frame) → Printable f → frameOf (frameText f) ≡ Frame f
-frame-read f p =
-    let precision = read-back 2 (f .precision) (p .precision) in
-    let scale = read-back 2 (byteOf (f .scale)) (byte-below (f .scale) (p .scale)) in
-    let lower = read-back endDigits (f .lower) (p .lower) in
-    let upper = read-back endDigits (f .upper) (p .upper) in
-    printed-fields f
-    ∙ (λ i. framed (precision i) (scale i) (lower i) (upper i))
-    ∙ ap (λ (k : ℤ). Frame (record { precision = f .precision; scale = k; lower = f .lower; upper = f .upper })) (byte-signed (f .scale) (p .scale))
+  -- each field of the line that is printed stands in its place
+  precision-read : precisionField text ≡ Value (d .precision)
+  unfolding frameText fieldAt digits
+  precision-read = read-back 2 (d .precision) (p .precision)
+
+  scale-read : scaleField text ≡ Value (byteOf (d .scale))
+  unfolding frameText fieldAt digits
+  scale-read = read-back 2 (byteOf (d .scale)) (byte-below (d .scale) (p .scale))
+
+  lower-read : lowerField text ≡ Value (d .lower)
+  unfolding frameText fieldAt digits
+  lower-read = read-back endDigits (d .lower) (p .lower)
+
+  upper-read : upperField text ≡ Value (d .upper)
+  unfolding frameText fieldAt digits
+  upper-read = read-back endDigits (d .upper) (p .upper)
+
+  spaced-out : spaced endDigits text ≡ true
+  unfolding frameText spaced digits
+  spaced-out = refl
+
+  -- The line that a frame's fields print is that frame.
+  pub frame-read : frameOf text ≡ accepted d
+  frame-read =
+      sym (frame-is text (not-fails spaced-out) precision-read scale-read lower-read upper-read)
+      ∙ ap (λ (k : ℤ). accepted (record { precision = d .precision; scale = k; lower = d .lower; upper = d .upper })) (byte-signed (d .scale) (p .scale))
 
 -- ---- read, then printed
 -- what `spaced` tells
@@ -95,57 +120,29 @@ end-of line at w v h l =
     let e : drop (at + w) line ≡ [] = drop-of-length-le line {i = at + w} (omega arith) in
     rest-of line at w (h .inside) ∙ (λ i. (h .text i) ++ (e i))
 
--- the line and the range of its fields, once all four are read
-all-printed :
-    (line : List ℕ) (p k l u : ℕ)
-    → Spaced endDigits line
-    → Held line 0 2 p
-    → Held line 3 2 k
-    → Held line 6 endDigits l
-    → Held line (7 + endDigits) endDigits u
-    → (line ≡ frameText (frameWith p k l u)) × Printable (frameWith p k l u)
-unfolding frameText
-all-printed line p k l u s hp hk hl hu =
-    let byte = signed-byte k (hk .small) in
-    let n = s .long in
-    let upper = end-of line (7 + endDigits) endDigits u hu (omega arith) in
-    let lower = part-of line 6 endDigits l hl (omega arith) (s .third) ∙ ap (λ (r : List ℕ). hexDigits endDigits l ++ (blank ∷ r)) upper in
-    let scale = part-of line 3 2 k hk (omega arith) (s .second) ∙ ap (λ (r : List ℕ). hexDigits 2 k ++ (blank ∷ r)) lower in
-    let precision = part-of line 0 2 p hp (omega arith) (s .first) ∙ ap (λ (r : List ℕ). hexDigits 2 p ++ (blank ∷ r)) scale in (
-      precision ∙ ap (λ (b : ℕ). joined (hexDigits 2 p ∷ hexDigits 2 b ∷ hexDigits endDigits l ∷ hexDigits endDigits u ∷ []) []) (sym (byte .0)),
-      record { precision = hp .small; scale = byte .1; lower = hl .small; upper = hu .small },
-    )
-
 -- A line that is a frame is what the frame's fields print.
-pub frame-printed : (line : List ℕ) (f : F.Frame) → frameOf line ≡ Frame f → (line ≡ frameText f) × Printable f
-unfolding frameOf
-frame-printed line f e = by (spaced endDigits line) refl e
+pub frame-printed : (line : List ℕ) (d : Description) → frameOf line ≡ accepted d → (line ≡ frameText d) × Printable d
+unfolding frameOf frameText
+frame-printed line d e =
+    let t = only-accepted (conditions line) (describedBy line) d e in
+    subst (λ (x : Description). (line ≡ frameText x) × Printable x) (t .1) (printed (t .0))
   where
-    no-frame : Refused 24 ≡ Frame f → ⊥
-    no-frame g = let z : _≡_ {A = ℕ} 0 1 = cc in omega arith
+    held : (at w : ℕ) → malformed (fieldAt line at w) ≡ false → Held line at w (numberOf (fieldAt line at w))
+    held at w h = field-held line at w _ (well-formed (fieldAt line at w) h)
 
-    fields :
-        Spaced endDigits line
-        → (p k l u : Field)
-        → fieldAt line 0 2 ≡ p
-        → fieldAt line 3 2 ≡ k
-        → fieldAt line 6 endDigits ≡ l
-        → fieldAt line (7 + endDigits) endDigits ≡ u
-        → framed p k l u ≡ Frame f
-        → (line ≡ frameText f) × Printable f
-    fields s Malformed k l u ep ek el eu g = absurd (no-frame g)
-    fields s (Value p) Malformed l u ep ek el eu g = absurd (no-frame g)
-    fields s (Value p) (Value k) Malformed u ep ek el eu g = absurd (no-frame g)
-    fields s (Value p) (Value k) (Value l) Malformed ep ek el eu g = absurd (no-frame g)
-    fields s (Value p) (Value k) (Value l) (Value u) ep ek el eu g =
-        let same : frameWith p k l u ≡ f = cc in
-        subst (λ (x : F.Frame). (line ≡ frameText x) × Printable x) same
-        (all-printed line p k l u s (field-held line 0 2 p ep) (field-held line 3 2 k ek) (field-held line 6 endDigits l el) (field-held line (7 + endDigits) endDigits u eu))
-
-    by :
-        (b : Bool)
-        → spaced endDigits line ≡ b
-        → cond b (framed (fieldAt line 0 2) (fieldAt line 3 2) (fieldAt line 6 endDigits) (fieldAt line (7 + endDigits) endDigits)) (Refused 24) ≡ Frame f
-        → (line ≡ frameText f) × Printable f
-    by false s g = absurd (no-frame g)
-    by true s g = fields (spaced-tells endDigits line s) _ _ _ _ refl refl refl refl g
+    printed : NoneHolds (conditions line) → (line ≡ frameText (describedBy line)) × Printable (describedBy line)
+    printed h =
+        let s = spaced-tells endDigits line (not-false _ (h .0)) in
+        let n = s .long in
+        let hp = held 0 2 (h .1 .0) in
+        let hk = held 3 2 (h .1 .1 .0) in
+        let hl = held 6 endDigits (h .1 .1 .1 .0) in
+        let hu = held (7 + endDigits) endDigits (h .1 .1 .1 .1 .0) in
+        let byte = signed-byte (numberOf (scaleField line)) (hk .small) in
+        let upper = end-of line (7 + endDigits) endDigits _ hu (omega arith) in
+        let lower = part-of line 6 endDigits _ hl (omega arith) (s .third) ∙ ap (λ (r : List ℕ). hexDigits endDigits (numberOf (lowerField line)) ++ (blank ∷ r)) upper in
+        let scale = part-of line 3 2 _ hk (omega arith) (s .second) ∙ ap (λ (r : List ℕ). hexDigits 2 (numberOf (scaleField line)) ++ (blank ∷ r)) lower in
+        let precision = part-of line 0 2 _ hp (omega arith) (s .first) ∙ ap (λ (r : List ℕ). hexDigits 2 (numberOf (precisionField line)) ++ (blank ∷ r)) scale in (
+          precision ∙ ap (λ (b : ℕ). joined (hexDigits 2 (numberOf (precisionField line)) ∷ hexDigits 2 b ∷ hexDigits endDigits (numberOf (lowerField line)) ∷ hexDigits endDigits (numberOf (upperField line)) ∷ []) []) (sym (byte .0)),
+          record { precision = hp .small; scale = byte .1; lower = hl .small; upper = hu .small },
+        )

@@ -10,4 +10,3 @@ pub mod FieldLaws
 pub mod FrameLaws
 pub mod ReportLaws
 pub mod WrittenLaws
-pub mod Answers

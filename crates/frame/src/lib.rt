@@ -1,11 +1,11 @@
 // Frames and report (document 01): a line read as a frame, and the lines that are printed, byte for byte.
+use factor::Description;
 ghost use mathlib.Core.Path.{_≡_};
 ghost use mathlib.Core.List.{[], _∷_, _++_};
 ghost use Prim.Native.Nat.{_+_, _*_, _<_, _≤_};
 ghost use lib.ListN.{length};
-ghost use Rattle.frame.specs.Digits.{digitByte, digits, digitValue, fieldAt, Within};
-ghost use Rattle.frame.specs.Frame.{signedByte, spaced, framed, frameOf};
-ghost use Rattle.frame.specs.Answers.{outcomeOf, said};
+ghost use Rattle.frame.specs.Digits.{digitByte, digits, digitValue, fieldAt};
+ghost use Rattle.frame.specs.Frame.{signedByte, spaced, frameOf, outcomeOf};
 ghost use Rattle.frame.specs.Report.{verdictOf, wordLine, reportLine, refusalLine};
 ghost use Rattle.frame.specs.Written.{Written};
 
@@ -31,17 +31,9 @@ pub enum Field {
     Malformed,
 }
 
-// A frame: the byte of the precision, the scale, and both ends.
-pub struct Frame {
-    pub precision: u32,
-    pub scale: i32,
-    pub lower: u64,
-    pub upper: u64,
-}
-
-// The answer to a line: its frame, or refusal 24.
+// The answer to a line: the factor that it describes, or refusal 24.
 pub enum FrameAnswer {
-    Frame(Frame),
+    Frame(Description),
     Refused(u32),
 }
 
@@ -124,44 +116,35 @@ fn signed_byte(b: u64) -> i32
     b as i32 - 256
 }
 
-// The frame of four fields, of which the first two are bytes.
-fn frame_from(precision: Field, scale: Field, lower: Field, upper: Field) -> FrameAnswer
-    requires { ⌜ Within 256 precision × Within 256 scale ⌝ }
-    ensures { λ r. ⌜ r ≡ framed precision scale lower upper ⌝ }
-{
-    let Field::Value(p) = precision else {
-        return FrameAnswer::Refused(NOT_A_FRAME);
-    };
-    let Field::Value(k) = scale else {
-        return FrameAnswer::Refused(NOT_A_FRAME);
-    };
-    let Field::Value(l) = lower else {
-        return FrameAnswer::Refused(NOT_A_FRAME);
-    };
-    let Field::Value(u) = upper else {
-        return FrameAnswer::Refused(NOT_A_FRAME);
-    };
-    FrameAnswer::Frame(Frame {
-        precision: p as u32,
-        scale: signed_byte(k),
-        lower: l,
-        upper: u,
-    })
-}
-
-// What a line says: a frame, or refusal 24.
+// What a line says: the description of a factor, or refusal 24.
 pub fn read_frame(line: &[u8]) -> FrameAnswer
-    ensures { λ r. ⌜ r ≡ frameOf (now (line .entry)) ⌝ }
-    ensures { λ r. ⌜ outcomeOf r ≡ said (now (line .entry)) ⌝ }
+    ensures { λ r. ⌜ outcomeOf r ≡ frameOf (now (line .entry)) ⌝ }
 {
     if !is_spaced(line, END_DIGITS) {
         return FrameAnswer::Refused(NOT_A_FRAME);
     }
     let precision = read_field(line, 0, 2);
+    let Field::Value(p) = precision else {
+        return FrameAnswer::Refused(NOT_A_FRAME);
+    };
     let scale = read_field(line, 3, 2);
+    let Field::Value(k) = scale else {
+        return FrameAnswer::Refused(NOT_A_FRAME);
+    };
     let lower = read_field(line, 6, END_DIGITS);
+    let Field::Value(l) = lower else {
+        return FrameAnswer::Refused(NOT_A_FRAME);
+    };
     let upper = read_field(line, 7 + END_DIGITS, END_DIGITS);
-    frame_from(precision, scale, lower, upper)
+    let Field::Value(u) = upper else {
+        return FrameAnswer::Refused(NOT_A_FRAME);
+    };
+    FrameAnswer::Frame(Description {
+        precision: p as u32,
+        scale: signed_byte(k),
+        lower: l,
+        upper: u,
+    })
 }
 
 // The digit for a number below 16.

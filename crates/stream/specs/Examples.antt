@@ -5,6 +5,7 @@ use Prim.Native.Nat.{ℕ}
 use Prim.Native.Char.{code}
 use Prim.Native.String.{String, [], _∷_}
 use lib.Ieee
+use Rattle.marks.specs.Answers.{answer}
 use Rattle.rounding.specs.Grid.{nearest}
 use Rattle.rounding.specs.Round.{rounded}
 use Rattle.factor.specs.Parts.{partsAt}
@@ -16,15 +17,14 @@ use Rattle.calls.specs.Plain.{row, pick, span, spanOf, tries, wordsOf}
 use Rattle.frame.specs.Digits.{digitByte, digits, digitValue, valueAfter, fieldAt}
 use Rattle.frame.specs.Frame.{spaced, frameOf}
 use Rattle.frame.specs.Report.{wordLine, reportLine, refusalLine}
-use Rattle.stream.specs.Output.{suspectsOf, counted, wordLines, sweptOutput, lineOutput, pieces, linesOutput, output}
+use Rattle.stream.specs.Output.{suspectsOf, counted, wordLines, sweptOutput, judgedLine, lineOutput, pieces, linesOutput, output}
 use Rattle.stream.specs.Keep.{kept, upToFeed}
-use Rattle.stream.specs.Judged.{judgedLine}
 use Rattle.stream.specs.Step.{stepOf, endOf}
 use Rattle.stream.specs.Work.{stepsOf, workOf, loopOutput, program}
 
 -- the bytes of a text; the line below names what has to unfold for the program to compute
 bytes : String → List ℕ
-unfolding digitByte digits digitValue valueAfter fieldAt spaced frameOf wordLine reportLine refusalLine setUp partsOf appliedOf partsAt rounded nearest product mark isSuspect row pick span spanOf wordsOf suspectsOf counted wordLines sweptOutput lineOutput pieces linesOutput output tries kept upToFeed judgedLine stepOf endOf stepsOf workOf loopOutput program Ieee.round Ieee.size
+unfolding answer digitByte digits digitValue valueAfter fieldAt spaced frameOf wordLine reportLine refusalLine setUp partsOf appliedOf partsAt rounded nearest product mark isSuspect row pick span spanOf wordsOf suspectsOf counted wordLines sweptOutput lineOutput pieces linesOutput output tries kept upToFeed judgedLine stepOf endOf stepsOf workOf loopOutput program Ieee.round Ieee.size
 bytes [] = []ᴸ
 bytes (c ∷ s) = code c ∷ᴸ bytes s
 

@@ -3,7 +3,6 @@ pub mod Output
 pub mod PieceLaws
 pub mod SweepLaws
 pub mod Keep
-pub mod Judged
 pub mod Step
 pub mod StepLaws
 pub mod Work

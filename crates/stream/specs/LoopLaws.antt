@@ -8,7 +8,7 @@ use lib.Dec.{leb}
 use lib.ListN.{length, take, drop, length-drop, drop-of-length-le}
 use lib.Seq.{drop-cons}
 use borrow.Author.Tests.{leb-true, leb-false, le-leb, lt-leb}
-use Rattle.factor.specs.SetUpLaws.{and-true}
+use Rattle.marks.specs.AnswerLaws.{and-true}
 use Rattle.frame.specs.Written.{Written}
 use Rattle.frame.specs.WrittenLaws.{written-then, written-none, written-front, written-length}
 use Rattle.stream.specs.declared.Move.{Move}

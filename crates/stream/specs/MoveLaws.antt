@@ -9,9 +9,8 @@ use lib.Dec.{leb}
 use lib.ListN.{length, take, drop, length-append}
 use lib.Seq.{drop-cons, drop-length, length-take-le}
 use borrow.Author.Tests.{le-leb, lt-leb}
+use Rattle.marks.specs.Answers.{Outcome, refused, accepted}
 use Rattle.factor.specs.declared.Factor.{Factor}
-use Rattle.factor.specs.declared.SetUp
-use Rattle.factor.specs.declared.SetUp.{SetUp}
 use Rattle.frame.specs.Report.{reportLine, refusalLine}
 use Rattle.frame.specs.ReportLaws.{length-report, length-refusal}
 use Rattle.frame.specs.Written.{Written}
@@ -23,10 +22,9 @@ use Rattle.stream.specs.declared.Task.{Task}
 use Rattle.stream.specs.declared.Progress.{Progress}
 use Rattle.stream.specs.declared.Turn.{Turn}
 use Rattle.stream.specs.declared.Move.{Move}
-use Rattle.stream.specs.Output.{mostLines}
+use Rattle.stream.specs.Output.{mostLines, judgedLine}
 use Rattle.stream.specs.PieceLaws.{mostKept}
 use Rattle.stream.specs.Keep.{kept, upToFeed, Part, none-kept, kept-part}
-use Rattle.stream.specs.Judged.{judgedLine}
 use Rattle.stream.specs.Step.{begunWith, tallied, partLines, reportBy, mostWritten, Read, readOf, Stepped, atLine, judgedStep, lineStep, sweptStep, taskStep, stepOf, endTask, endOf}
 use Rattle.stream.specs.StepLaws.{GoodTask, Good, Fit, judged-good, step-good}
 use Rattle.stream.specs.PartLaws.{part-short}
@@ -74,24 +72,24 @@ module _ (i : ℕ) (t : Tally) (g : GoodTask i (Task.Sweeping t)) (after : Tally
 -- ---- a line that is complete
 
 module _ (i : ℕ) (line held : List ℕ) (size : length held ≡ mostKept) (h : i ≤ mostLines) (out : List ℕ) (used : ℕ) where
-  pub line-accepted : (f : Factor) (t : Tally) → SetUp.Accepted f ≡ judgedLine line → t ≡ begunWith f
+  pub line-accepted : (f : Factor) (t : Tally) → accepted f ≡ judgedLine line → t ≡ begunWith f
       → Turned (judgedStep i (judgedLine line) []) (record { progress = record { number = i; held = held; length = 0; task = Task.Sweeping t }; used = used }) out used out
   line-accepted f t e b =
-      let same : judgedStep i (SetUp.Accepted f) [] .read ≡ record { number = i; line = []; task = Task.Sweeping t } = ap (λ (x : Tally). record { number = i; line = []; task = Task.Sweeping x }) (sym b) in
-      subst (λ (a : SetUp). Turned (judgedStep i a []) (record { progress = record { number = i; held = held; length = 0; task = Task.Sweeping t }; used = used }) out used out) e
+      let same : judgedStep i (accepted f) [] .read ≡ record { number = i; line = []; task = Task.Sweeping t } = ap (λ (x : Tally). record { number = i; line = []; task = Task.Sweeping x }) (sym b) in
+      subst (λ (a : Outcome Factor). Turned (judgedStep i a []) (record { progress = record { number = i; held = held; length = 0; task = Task.Sweeping t }; used = used }) out used out) e
       (record {
-        fit = record { size = size; few = omega arith; good = subst Good same (judged-good i line [] (SetUp.Accepted f) (sym e) h) };
+        fit = record { size = size; few = omega arith; good = subst Good same (judged-good i line [] (accepted f) (sym e) h) };
         read = sym same;
         bytes = written-none out used;
       })
 
-  pub line-refused : (j : ℕ) (r : Turn) (after : List ℕ) → SetUp.Refused j ≡ judgedLine line
+  pub line-refused : (j : ℕ) (r : Turn) (after : List ℕ) → refused j ≡ judgedLine line
       → Written out used (refusalLine i j) after (r .used)
       → Fit (r .progress)
       → readOf (r .progress) ≡ atLine (i + 1)
       → Turned (judgedStep i (judgedLine line) []) r out used after
   line-refused j r after e w fit read =
-      subst (λ (a : SetUp). Turned (judgedStep i a []) r out used after) e
+      subst (λ (a : Outcome Factor). Turned (judgedStep i a []) r out used after) e
       (record { fit = fit; read = read ∙ ap atLine (add-one i); bytes = w })
 
 -- ---- the step
@@ -102,9 +100,9 @@ swept-left : (i : ℕ) (t : Tally) (b : Bool) (words input : List ℕ)
 swept-left i t true words input = refl
 swept-left i t false words input = refl
 
-judged-left : (i : ℕ) (a : SetUp) (input : List ℕ) → judgedStep i a input ≡ record { read = judgedStep i a [] .read; left = input; bytes = judgedStep i a [] .bytes }
-judged-left i (SetUp.Accepted f) input = refl
-judged-left i (SetUp.Refused j) input = refl
+judged-left : (i : ℕ) (a : Outcome Factor) (input : List ℕ) → judgedStep i a input ≡ record { read = judgedStep i a [] .read; left = input; bytes = judgedStep i a [] .bytes }
+judged-left i (accepted f) input = refl
+judged-left i (refused j) input = refl
 
 module _ (p : Progress) (fit : Fit p) (input : List ℕ) (at : ℕ) (out : List ℕ) (used : ℕ) where
   abbrev line : List ℕ
@@ -226,9 +224,9 @@ swept-short : (i : ℕ) (t : Tally) (b : Bool) (s : SweepState) (input : List �
 swept-short i t true s input = omega (arith, length-append (partLines s) (reportLine 8 (reportBy i t)), part-short s, length-report 8 (reportBy i t))
 swept-short i t false s input = omega (arith, part-short s)
 
-judged-short : (i : ℕ) (a : SetUp) (input : List ℕ) → length (judgedStep i a input .bytes) ≤ mostWritten
-judged-short i (SetUp.Accepted f) input = omega arith
-judged-short i (SetUp.Refused j) input = omega (arith, length-refusal i j)
+judged-short : (i : ℕ) (a : Outcome Factor) (input : List ℕ) → length (judgedStep i a input .bytes) ≤ mostWritten
+judged-short i (accepted f) input = omega arith
+judged-short i (refused j) input = omega (arith, length-refusal i j)
 
 line-short : (i : ℕ) (line rest : List ℕ) → length (lineStep i line rest .bytes) ≤ mostWritten
 line-short i line [] = omega arith

@@ -6,16 +6,14 @@ use lib.Dec.{eqb, leb}
 use lib.ListN.{length}
 use Rattle.marks.specs.declared.Mark.{Mark}
 use Rattle.marks.specs.declared.Mark.the-variants.{Right, Open, Wrong}
+use Rattle.marks.specs.Answers.{Outcome, refused, accepted, andThen}
 use Rattle.factor.specs.declared.Factor.{Factor}
-use Rattle.factor.specs.declared.SetUp
-use Rattle.factor.specs.declared.SetUp.{SetUp}
 use Rattle.factor.specs.Precision.{scaleOf, leastOf}
 use Rattle.factor.specs.SetUp.{setUp}
 use Rattle.product.specs.Product.{productBy}
 use Rattle.product.specs.Marks.{markBy}
 use Rattle.suspects.specs.Suspects.{isSuspect}
 use Rattle.calls.specs.Plain.{row, wordsOf}
-use Rattle.frame.specs.declared.FrameAnswer.{FrameAnswer}
 use Rattle.frame.specs.declared.Report.{Report}
 use Rattle.frame.specs.Lines.{lineFeed}
 use Rattle.frame.specs.Frame.{frameOf}
@@ -60,18 +58,19 @@ unfoldable pub sweptOutput : ℕ → Factor → List ℕ
 sweptOutput i f = wordLines (wordsOf (markOf f) (suspectsOf f)) ++ reportLine 8 (reportOf i f)
 
 -- ---- a line
+-- what a line asks for: a factor to sweep, or one refusal; 24 is judged first and stands alone
+unfoldable pub judgedLine : List ℕ → Outcome Factor
+unfolding frameOf setUp
+judgedLine line = andThen (frameOf line) setUp
+
 -- "A refused line prints its number, FF and the refusal"
-abbrev pub setUpOutput : ℕ → SetUp → List ℕ
-setUpOutput i (SetUp.Accepted f) = sweptOutput i f
-setUpOutput i (SetUp.Refused j) = refusalLine i j
+abbrev pub judgedOutput : ℕ → Outcome Factor → List ℕ
+judgedOutput i (accepted f) = sweptOutput i f
+judgedOutput i (refused j) = refusalLine i j
 
-abbrev pub frameOutput : ℕ → FrameAnswer → List ℕ
-frameOutput i (FrameAnswer.Frame f) = setUpOutput i (setUp (f .precision) (f .scale) (f .lower) (f .upper))
-frameOutput i (FrameAnswer.Refused j) = refusalLine i j
-
--- what line i prints; 24 is judged first and stands alone
+-- what line i prints
 unfoldable pub lineOutput : ℕ → List ℕ → List ℕ
-lineOutput i line = frameOutput i (frameOf line)
+lineOutput i line = judgedOutput i (judgedLine line)
 
 -- ---- the lines of the input
 -- the input in pieces: the lines that end with a line feed, without it, and what stands after the last of them

@@ -1,14 +1,19 @@
 -- The program while it reads a line: what is still to print, from the part of the line that is kept and the input to come. Assumes nothing.
 use mathlib.Core.Path.{_≡_, refl, sym, ap, _∙_}
+use mathlib.Core.Bool.{true, not}
 use mathlib.Core.List.{List, [], _∷_, _++_, append-assoc}
 use Prim.Native.Nat.{ℕ, suc, _+_, _*_, _≤_, _<_}
 use native.Mathlib.Omega.{arith}
 use lib.ListN.{length, length-append}
 use borrow.Author.Tests.{ne-eqb, lt-leb}
+use Rattle.marks.specs.Answers.{Outcome, andThen}
+use Rattle.marks.specs.AnswerLaws.{stop, refuses}
+use Rattle.factor.specs.declared.Description.{Description}
+use Rattle.factor.specs.SetUp.{setUp}
 use Rattle.frame.specs.Lines.{lineFeed}
-use Rattle.frame.specs.Frame.{endDigits, spaced, frameOf}
+use Rattle.frame.specs.Frame.{endDigits, spaced, describedBy, frameOf}
 use Rattle.frame.specs.Report.{refusalLine}
-use Rattle.stream.specs.Output.{Pieces, before, put, pieces, mostLines, among, lastOutput, lineOutput, linesOutput, output}
+use Rattle.stream.specs.Output.{Pieces, before, put, pieces, mostLines, among, lastOutput, judgedLine, judgedOutput, lineOutput, linesOutput, output}
 
 pub append-nil : (l : List ℕ) → l ++ [] ≡ l
 append-nil [] = refl
@@ -52,8 +57,10 @@ abbrev pub mostKept : ℕ
 mostKept = 40
 
 pub long-line : (i : ℕ) (line : List ℕ) → mostKept ≤ length line → lineOutput i line ≡ refusalLine i 24
-unfolding lineOutput frameOf spaced
-long-line i line h = rw (ne-eqb (length line) (7 + 2 * endDigits) (λ e. omega arith))
+unfolding lineOutput judgedLine
+long-line i line h =
+    let other : not (spaced endDigits line) ≡ true = unfold spaced in rw (ne-eqb (length line) (7 + 2 * endDigits) (λ e. omega arith)) in
+    ap (λ (a : Outcome Description). judgedOutput i (andThen a setUp)) (unfold frameOf in sym (refuses (stop other) (describedBy line)))
 
 -- ---- what is still to print: line i, of which h is kept, and the input to come
 unfoldable pub reading : (i : ℕ) (h input : List ℕ) → List ℕ

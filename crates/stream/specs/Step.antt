@@ -6,9 +6,8 @@ use lib.Dec.{leb}
 use lib.ListN.{length, take, drop}
 use Rattle.search.specs.declared.Place.{Place}
 use Rattle.search.specs.declared.Place.the-variants.{At, Nowhere}
+use Rattle.marks.specs.Answers.{Outcome, refused, accepted}
 use Rattle.factor.specs.declared.Factor.{Factor}
-use Rattle.factor.specs.declared.SetUp
-use Rattle.factor.specs.declared.SetUp.{SetUp}
 use Rattle.factor.specs.Precision.{leastOf, mostOf}
 use Rattle.calls.specs.Plain.{row, tries, wordsOf}
 use Rattle.calls.specs.ByRow.{headOf}
@@ -20,10 +19,9 @@ use Rattle.stream.specs.declared.Tally.{Tally}
 use Rattle.stream.specs.declared.Task
 use Rattle.stream.specs.declared.Task.{Task}
 use Rattle.stream.specs.declared.Progress.{Progress}
-use Rattle.stream.specs.Output.{mostLines, markOf, isWrong, isOpen, counted, wordLines}
+use Rattle.stream.specs.Output.{mostLines, markOf, isWrong, isOpen, counted, wordLines, judgedLine}
 use Rattle.stream.specs.SweepLaws.{tally}
 use Rattle.stream.specs.Keep.{kept, upToFeed}
-use Rattle.stream.specs.Judged.{judgedLine}
 
 -- ---- a part of a sweep: one call, with no cap that counts and a list of 64 words
 
@@ -116,9 +114,9 @@ abbrev pub atLine : ℕ → Read
 atLine i = record { number = i; line = []; task = Task.Reading }
 
 -- a line that is complete: its refusal, or the sweep of its factor begins
-abbrev pub judgedStep : (i : ℕ) → SetUp → (input : List ℕ) → Stepped
-judgedStep i (SetUp.Accepted f) input = record { read = record { number = i; line = []; task = Task.Sweeping (begunWith f) }; left = input; bytes = [] }
-judgedStep i (SetUp.Refused j) input = record { read = atLine (suc i); left = input; bytes = refusalLine i j }
+abbrev pub judgedStep : (i : ℕ) → Outcome Factor → (input : List ℕ) → Stepped
+judgedStep i (accepted f) input = record { read = record { number = i; line = []; task = Task.Sweeping (begunWith f) }; left = input; bytes = [] }
+judgedStep i (refused j) input = record { read = atLine (suc i); left = input; bytes = refusalLine i j }
 
 -- line i up to its line feed, or as far as the input goes
 abbrev pub lineStep : (i : ℕ) (line input : List ℕ) → Stepped

@@ -14,17 +14,16 @@ use borrow.Author.Tests.{eqb-true, le-leb, lt-leb, le-ltb}
 use Rattle.frame.specs.Lines.{lineFeed}
 use Rattle.frame.specs.Report.{reportLine}
 use Rattle.marks.specs.declared.Mark.{Mark}
+use Rattle.marks.specs.Answers.{Outcome, refused, accepted, andThen}
+use Rattle.factor.specs.declared.Description.{Description}
 use Rattle.factor.specs.declared.Factor.{Factor}
-use Rattle.factor.specs.declared.SetUp
-use Rattle.factor.specs.declared.SetUp.{SetUp}
 use Rattle.factor.specs.Precision.{leastOf}
-use Rattle.factor.specs.SetUp.{Sound, intact}
+use Rattle.factor.specs.SetUp.{setUp, Sound, intact}
 use Rattle.factor.specs.SetUpLaws.{accepted-intact, intact-sound}
 use Rattle.calls.specs.Plain.{row}
 use Rattle.calls.specs.ByRow.{headOf}
 use Rattle.calls.specs.Rows.{begins, row-ascends, ascends-few}
 use Rattle.calls.specs.Tries.{tries-within}
-use Rattle.frame.specs.declared.FrameAnswer.{FrameAnswer}
 use Rattle.frame.specs.Frame.{frameOf}
 use Rattle.sweep.specs.declared.SweepState.{SweepState}
 use Rattle.sweep.specs.Engine.{suspect, rangeOut}
@@ -32,11 +31,10 @@ use Rattle.stream.specs.declared.Tally.{Tally}
 use Rattle.stream.specs.declared.Task
 use Rattle.stream.specs.declared.Task.{Task}
 use Rattle.stream.specs.declared.Progress.{Progress}
-use Rattle.stream.specs.Output.{mostLines, among, suspectsOf, markOf, isWrong, isOpen, counted, setUpOutput, lastOutput, lineOutput, output}
+use Rattle.stream.specs.Output.{mostLines, among, suspectsOf, markOf, isWrong, isOpen, counted, judgedLine, judgedOutput, lastOutput, lineOutput, output}
 use Rattle.stream.specs.PieceLaws.{mostKept, reading, reading-all, reading-feed, reading-end, reading-past}
 use Rattle.stream.specs.SweepLaws.{opens-are, wrongs-are, words-few, sweeping, sweeping-all, sweeping-some, sweeping-none}
 use Rattle.stream.specs.Keep.{kept, upToFeed, Part, none-kept, kept-part, reading-kept}
-use Rattle.stream.specs.Judged.{judgedFrame, judgedLine, line-judged}
 use Rattle.stream.specs.Step.{listSize, noCap, leftOf, triedBy, triedOf, afterOf, stateAt, begunWith, talliedTo, tallied, partLines, reportBy, Read, readOf, Stepped, atLine, judgedStep, lineStep, sweptStep, taskStep, stepOf, endTask, endOf}
 
 -- ---- what is still to print
@@ -122,10 +120,6 @@ module _ (f : Factor) (whole : intact f ≡ true) where
       let l = least-most in
       ap (row (suspect f) (leastOf n)) (omega arith)
 
-abbrev isAccepted : SetUp → Bool
-isAccepted (SetUp.Accepted f) = true
-isAccepted (SetUp.Refused j) = false
-
 abbrev headOr : ℕ → List ℕ → ℕ
 headOr d [] = d
 headOr d (x ∷ l) = x
@@ -135,13 +129,13 @@ isCons [] = false
 isCons (x ∷ l) = true
 
 -- a line is accepted only with a factor that is intact
-pub judged-intact : (line : List ℕ) (f : Factor) → judgedLine line ≡ SetUp.Accepted f → intact f ≡ true
+pub judged-intact : (line : List ℕ) (f : Factor) → judgedLine line ≡ accepted f → intact f ≡ true
 unfolding judgedLine
 judged-intact line f e = go (frameOf line) e
   where
-    go : (a : FrameAnswer) → judgedFrame a ≡ SetUp.Accepted f → intact f ≡ true
-    go (FrameAnswer.Frame g) q = accepted-intact (g .precision) (g .scale) (g .lower) (g .upper) f q
-    go (FrameAnswer.Refused j) q = absurd (false≢true (ap isAccepted q))
+    go : (a : Outcome Description) → andThen a setUp ≡ accepted f → intact f ≡ true
+    go (accepted d) q = accepted-intact d f q
+    go (refused j) q = let z : _≡_ {A = ℕ} 0 1 = cc in absurd (omega arith)
 
 -- ---- the steps
 
@@ -191,23 +185,22 @@ module _ (later : List ℕ) where
           start (x ∷ l) e ∙ ap (λ (m : List ℕ). partLines s ++ sweeping i (markOf (s .factor)) m (t .trials + triedBy s) (tallied t .wrongs) (tallied t .opens) r) (b .is)
 
   -- a line that is complete
-  judged-tells : (i : ℕ) (line input : List ℕ) (a : SetUp) → judgedLine line ≡ a
-      → Tells (setUpOutput i a ++ reading (suc i) [] (input ++ later)) (judgedStep i a input)
+  judged-tells : (i : ℕ) (line input : List ℕ) (a : Outcome Factor) → judgedLine line ≡ a
+      → Tells (judgedOutput i a ++ reading (suc i) [] (input ++ later)) (judgedStep i a input)
   unfolding restOf
-  judged-tells i line input (SetUp.Accepted f) e =
+  judged-tells i line input (accepted f) e =
       sweeping-all i f (reading (suc i) [] (input ++ later))
       ∙ ap (λ (l : List ℕ). sweeping i (markOf f) l 0 0 0 (reading (suc i) [] (input ++ later))) (begun-left f (judged-intact line f e))
-  judged-tells i line input (SetUp.Refused j) e = refl
+  judged-tells i line input (refused j) e = refl
 
   line-tells : (i : ℕ) (line rest : List ℕ) → Part line → i ≤ mostLines → ((b : ℕ) (l : List ℕ) → rest ≡ b ∷ l → b ≡ lineFeed)
       → Tells (reading i line (rest ++ later)) (lineStep i line rest)
-  unfolding restOf
+  unfolding restOf lineOutput
   line-tells i line [] p h f = refl
   line-tells i line (b ∷ rest) p h f =
       ap (λ (x : ℕ). reading i line (x ∷ (rest ++ later))) (f b rest refl)
       ∙ reading-feed i line (rest ++ later) (p .plain)
       ∙ ap (λ (t : Bool). cond t (lineOutput i line) [] ++ reading (suc i) [] (rest ++ later)) (le-leb i mostLines h)
-      ∙ ap (λ (l : List ℕ). l ++ reading (suc i) [] (rest ++ later)) (line-judged i line)
       ∙ judged-tells i line rest (judgedLine line) refl
 
   reading-tells : (i : ℕ) (line input : List ℕ) → Part line → Tells (reading i line (input ++ later)) (taskStep i line Task.Reading input)
@@ -266,10 +259,10 @@ part-good i t input h g c = go (afterOf s) refl
           );
         }
 
-pub judged-good : (i : ℕ) (line input : List ℕ) (a : SetUp) → judgedLine line ≡ a → i ≤ mostLines → Good (judgedStep i a input .read)
-judged-good i line input (SetUp.Accepted f) e h =
+pub judged-good : (i : ℕ) (line input : List ℕ) (a : Outcome Factor) → judgedLine line ≡ a → i ≤ mostLines → Good (judgedStep i a input .read)
+judged-good i line input (accepted f) e h =
     record { number = omega arith; line = none-kept; task = (h, begun-going f (judged-intact line f e), begun-counted f (judged-intact line f e)) }
-judged-good i line input (SetUp.Refused j) e h = record { number = omega arith; line = none-kept; task = Prim.tt }
+judged-good i line input (refused j) e h = record { number = omega arith; line = none-kept; task = Prim.tt }
 
 line-good : (i : ℕ) (line rest : List ℕ) → i ≤ mostLines → Part line → Good (lineStep i line rest .read)
 line-good i line [] h p = record { number = omega arith; line = p; task = Prim.tt }

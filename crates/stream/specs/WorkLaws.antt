@@ -11,18 +11,17 @@ use borrow.Author.Tests.{le-leb, lt-leb}
 use Rattle.frame.specs.Lines.{lineFeed}
 use Rattle.frame.specs.Report.{reportLine}
 use Rattle.frame.specs.ReportLaws.{length-report}
-use Rattle.factor.specs.declared.SetUp
-use Rattle.factor.specs.declared.SetUp.{SetUp}
+use Rattle.marks.specs.Answers.{Outcome, refused, accepted}
+use Rattle.factor.specs.declared.Factor.{Factor}
 use Rattle.calls.specs.Plain.{wordsOf}
 use Rattle.calls.specs.Tries.{tries-full}
 use Rattle.sweep.specs.declared.SweepState.{SweepState}
 use Rattle.stream.specs.declared.Tally.{Tally}
 use Rattle.stream.specs.declared.Task
 use Rattle.stream.specs.declared.Task.{Task}
-use Rattle.stream.specs.Output.{mostLines, markOf}
+use Rattle.stream.specs.Output.{mostLines, markOf, judgedLine}
 use Rattle.stream.specs.SweepLaws.{length-lines}
 use Rattle.stream.specs.Keep.{kept, upToFeed}
-use Rattle.stream.specs.Judged.{judgedLine}
 use Rattle.stream.specs.Step.{listSize, noCap, leftOf, triedBy, triedOf, afterOf, talliedTo, tallied, partLines, reportBy, mostWritten, Read, Stepped, wantsStep, judgedStep, lineStep, sweptStep, taskStep, stepOf}
 use Rattle.stream.specs.StepLaws.{Counted, GoodTask, Good, restOf, step-tells, step-good}
 use Rattle.stream.specs.MoveLaws.{step-short}
@@ -55,9 +54,9 @@ swept-uses : (i : ℕ) (t : Tally) (b : Bool) (words input : List ℕ) → 0 < l
 swept-uses i t true words input h = omega arith
 swept-uses i t false words input h = omega arith
 
-judged-uses : (i : ℕ) (a : SetUp) (rest : List ℕ) (size : ℕ) → length rest < size → Uses size (judgedStep i a rest)
-judged-uses i (SetUp.Accepted f) rest size h = omega arith
-judged-uses i (SetUp.Refused j) rest size h = omega arith
+judged-uses : (i : ℕ) (a : Outcome Factor) (rest : List ℕ) (size : ℕ) → length rest < size → Uses size (judgedStep i a rest)
+judged-uses i (accepted f) rest size h = omega arith
+judged-uses i (refused j) rest size h = omega arith
 
 line-uses : (i : ℕ) (line up : List ℕ) (size : ℕ) → length up ≤ size → 0 < size → Uses size (lineStep i line up)
 line-uses i line [] size h k = omega arith

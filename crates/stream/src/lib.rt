@@ -12,13 +12,12 @@ ghost use mathlib.Core.List.{[]};
 ghost use Prim.Native.Nat.{_+_, _-_, _*_, _≤_};
 ghost use lib.Dec.{leb};
 ghost use lib.ListN.{length, take, drop};
-ghost use Rattle.factor.specs.SetUp.{intact};
+ghost use Rattle.factor.specs.SetUp.{outcomeOf, intact};
 ghost use Rattle.frame.specs.Written.{Written};
 ghost use Rattle.stream.specs.declared.Task;
-ghost use Rattle.stream.specs.Output.{wordLines};
+ghost use Rattle.stream.specs.Output.{wordLines, judgedLine};
 ghost use Rattle.stream.specs.SweepLaws.{odds};
 ghost use Rattle.stream.specs.Keep.{keep, kept, upToFeed};
-ghost use Rattle.stream.specs.Judged.{judgedLine};
 ghost use Rattle.stream.specs.Step.{begunWith, tallied, partLines, mostWritten, sweepingTask, wantsStep, readOf, atLine, judgedStep, taskStep, stepOf, endOf};
 ghost use Rattle.stream.specs.Work.{allSteps, nextOf, workOf};
 ghost use Rattle.stream.specs.StepLaws.{Going, Counted, GoodTask, Fit};
@@ -142,10 +141,10 @@ fn keep_line(held: &mut [u8], count: usize, input: &[u8], at: usize) -> Kept
 
 // What a line asks for: a factor to sweep, or a refusal.
 fn judge(line: &[u8]) -> SetUp
-    ensures { λ r. ⌜ r ≡ judgedLine (now (line .entry)) ⌝ }
+    ensures { λ r. ⌜ outcomeOf r ≡ judgedLine (now (line .entry)) ⌝ }
 {
     match frame::read_frame(line) {
-        FrameAnswer::Frame(f) => factor::set_up(f.precision, f.scale, f.lower, f.upper),
+        FrameAnswer::Frame(d) => factor::set_up(d),
         FrameAnswer::Refused(j) => SetUp::Refused(j),
     }
 }

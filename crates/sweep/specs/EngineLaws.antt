@@ -13,7 +13,7 @@ use Rattle.rounding.specs.RoundLaws.{HasBits}
 use Rattle.factor.specs.declared.Parts.{Parts}
 use Rattle.factor.specs.declared.Factor.{Factor}
 use Rattle.factor.specs.Precision.{significandOut}
-use Rattle.factor.specs.SetUp.{partsOf, intact, Sound}
+use Rattle.factor.specs.SetUp.{partsOf, intact, described, Sound}
 use Rattle.factor.specs.SetUpLaws.{intact-sound}
 use Rattle.product.specs.Product.{product, productBy}
 use Rattle.product.specs.Marks.{mark, SaysBy}
@@ -78,7 +78,7 @@ module _ (f : Factor) (s : Sound f) where
   not-right X x q =
       let L = f .lower in
       let U = f .upper in
-      let z : ¬ (mark toEven n 62 L U X (product toEven n (partsOf n L) X) ≡ Right) = subst (λ (p : Parts). ¬ (mark toEven n 62 L U X (product toEven n p X) ≡ Right)) (s .parts) q in
+      let z : ¬ (mark toEven n 62 L U X (product toEven n (partsOf (described f) L) X) ≡ Right) = subst (λ (p : Parts). ¬ (mark toEven n 62 L U X (product toEven n p X) ≡ Right)) (s .parts) q in
       suspect-is X .1
       (not-right-suspect toEven n 62 two fine L U (s .lower-end) (s .upper-end) (s .ordered) (s .same) X (x .least) (x .most) z)
 

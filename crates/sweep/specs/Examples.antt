@@ -6,6 +6,7 @@ use Prim.Native.Nat.{ℕ, _*_, _^_}
 use native.Mathlib.Decide.{decLe, decLt, ℕ-discrete}
 use lib.IntN.{pos}
 use lib.Ieee
+use Rattle.marks.specs.Answers.{answer}
 use Rattle.rounding.specs.Grid.{nearest}
 use Rattle.rounding.specs.Round.{rounded}
 use Rattle.factor.specs.declared.Factor.{Factor}
@@ -23,26 +24,26 @@ use Rattle.sweep.specs.Answers.{callOf}
 -- the factors of P1 to P3
 P1 : Factor
 unfolding Ieee.round
-P1 = factorOf 4 (pos 0) (3 * 2 ^ 61) (3 * 2 ^ 61)
+P1 = factorOf (record { precision = 4; scale = pos 0; lower = 3 * 2 ^ 61; upper = 3 * 2 ^ 61 })
 
 P2 : Factor
 unfolding Ieee.round
-P2 = factorOf 4 (pos 0) 0x4BFFFC0000000000 0x4BFFFC0000000000
+P2 = factorOf (record { precision = 4; scale = pos 0; lower = 0x4BFFFC0000000000; upper = 0x4BFFFC0000000000 })
 
 P3 : Factor
 unfolding Ieee.round
-P3 = factorOf 4 (pos 0) 0x51C71C71C71C71C7 0x51C71C71C71C71C8
+P3 = factorOf (record { precision = 4; scale = pos 0; lower = 0x51C71C71C71C71C7; upper = 0x51C71C71C71C71C8 })
 
 -- a state over all significands
 abbrev state : Factor → (next : ℕ) → (finished : Bool) → State Factor
 state f next finished = record { factor = f; first = 8; last = 15; next = next; finished = finished }
 
 called : State Factor → (cap : ℕ) → List ℕ → (free : ℕ) → Reply Factor
-unfolding sweepCall run ahead firstHigh nextIn ceilDiv negMod test placeAfter afterRound searchWithin searchWindow shift searchFrom decLe decLt ℕ-discrete intact setUp partsOf appliedOf partsAt rounded nearest product mark Ieee.round Ieee.size Ieee.span Ieee.climb Ieee.toBits
+unfolding sweepCall run ahead firstHigh nextIn ceilDiv negMod test placeAfter afterRound searchWithin searchWindow shift searchFrom decLe decLt ℕ-discrete intact answer setUp partsOf appliedOf partsAt rounded nearest product mark Ieee.round Ieee.size Ieee.span Ieee.climb Ieee.toBits
 called s cap list free = sweepCall engine s (callOf cap list free)
 
 begun : Factor → (first last : ℕ) → Outcome (State Factor)
-unfolding intact setUp partsOf appliedOf partsAt rounded nearest Ieee.round Ieee.size Ieee.span Ieee.climb Ieee.toBits
+unfolding intact answer setUp partsOf appliedOf partsAt rounded nearest Ieee.round Ieee.size Ieee.span Ieee.climb Ieee.toBits
 begun f first last = newState engine f first last
 
 -- what an accepted call answers

@@ -2,8 +2,9 @@
 use mathlib.Core.Path.{_≡_, sym, ap, _∙_}
 use borrow.Author.Needs.{needs}
 use Rattle.factor.specs.declared.Factor.{Factor}
-use Rattle.product.specs.Answer.{multiplied}
-use Rattle.exports.specs.Answers.{multiplyTo, productAnswer}
+use Rattle.product.specs.declared.ProductAnswer.{ProductAnswer}
+use Rattle.product.specs.Answer.{multiplied, outcomeOf}
+use Rattle.exports.specs.Answers.{Answer, markedAnswer, productWords, multiplyTo}
 use Rattle.exports.specs.AnswerLaws.{gives, short-first, short-second, long-enough, multiply-short, multiply-is}
 use Rattle.exports.proofs.gusnalip_multiply.Statement.{statement}
 use Rattle.exports.proofs.gusnalip_multiply.Tie as tie
@@ -25,13 +26,16 @@ multiply-requires : tie.Need-multiply-requires
 multiply-requires c κs = search needs
 
 -- what the engine answers, and so what is answered
-answer : (c : tie.After-multiply) → let a = c .before .before .before .before .before .before .args in multiplyTo (a .factor .now) (a .x) (a .out .now) ≡ productAnswer (c .multiply .result)
+abbrev says : ProductAnswer → Answer
+says r = markedAnswer productWords (outcomeOf r)
+
+answer : (c : tie.After-multiply) → let a = c .before .before .before .before .before .before .args in multiplyTo (a .factor .now) (a .x) (a .out .now) ≡ says (c .multiply .result)
 answer c =
     let room = c .before .before in
     let long = room .before in
     let a = long .before .before .before .args in
-    multiply-is (a .factor .now) (a .x) (a .out .now) (c .multiply .result) (long-enough 9 (a .factor .now) 2 (a .out .now) (long .if1 .left) (room .if2 .left))
-    (sym (c .multiply .ensures .0 ∙ ap (λ (f : Factor). multiplied f (a .x)) (c .before .factor-from .ensures)))
+    multiply-is (a .factor .now) (a .x) (a .out .now) (outcomeOf (c .multiply .result)) (long-enough 9 (a .factor .now) 2 (a .out .now) (long .if1 .left) (room .if2 .left))
+    (sym (c .multiply .ensures ∙ ap (λ (f : Factor). multiplied f (a .x)) (c .before .factor-from .ensures)))
 
 enum-known-v : tie.Need-enum-known-v
 enum-known-v c = search needs
@@ -62,7 +66,7 @@ returns-3 c =
     let put = c .before .before in
     let told = put .before .before .before in
     let s = told .before .before in
-    let both = gives _ _ (s .before .before .before .before .before .before .args .out .now) (answer s ∙ ap productAnswer (told .v .given .1)) in
+    let both = gives _ _ (s .before .before .before .before .before .before .args .out .now) (answer s ∙ ap says (told .v .given .1)) in
     (both .0, put .put-product .ensures ∙ both .1)
 
 same-length-2 : tie.Need-same-length-2
@@ -73,7 +77,7 @@ returns-4 c =
     let put = c .before .before in
     let told = put .before .before .before in
     let s = told .before .before in
-    let both = gives _ _ (s .before .before .before .before .before .before .args .out .now) (answer s ∙ ap productAnswer (told .v2 .given .1)) in
+    let both = gives _ _ (s .before .before .before .before .before .before .args .out .now) (answer s ∙ ap says (told .v2 .given .1)) in
     (both .0, put .put-product2 .ensures ∙ both .1)
 
 same-length-3 : tie.Need-same-length-3
@@ -84,14 +88,14 @@ returns-5 c =
     let put = c .before .before in
     let told = put .before .before .before in
     let s = told .before .before in
-    let both = gives _ _ (s .before .before .before .before .before .before .args .out .now) (answer s ∙ ap productAnswer (told .v3 .given .1)) in
+    let both = gives _ _ (s .before .before .before .before .before .before .args .out .now) (answer s ∙ ap says (told .v3 .given .1)) in
     (both .0, put .put-product3 .ensures ∙ both .1)
 
 returns-6 : tie.Need-returns-6
 returns-6 c =
     let told = c .before in
     let s = told .before .before in
-    gives _ _ (s .before .before .before .before .before .before .args .out .now) (answer s ∙ ap productAnswer (told .k .given .1))
+    gives _ _ (s .before .before .before .before .before .before .args .out .now) (answer s ∙ ap says (told .k .given .1))
 
 pub gusnalip-multiply-spec : {M : Type 1} → statement M
 gusnalip-multiply-spec =

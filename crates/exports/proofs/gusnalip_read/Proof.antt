@@ -1,6 +1,8 @@
 -- `exports::gusnalip_read` meets its contract: the engine's answer as a number and a word. Assumes nothing.
 use mathlib.Core.Path.{_≡_, sym, ap, _∙_}
-use Rattle.exports.specs.Answers.{readTo, readingAnswer}
+use Rattle.reading.specs.declared.ReadingAnswer.{ReadingAnswer}
+use Rattle.reading.specs.Reading.{outcomeOf}
+use Rattle.exports.specs.Answers.{Answer, markedAnswer, readingWords, readTo}
 use Rattle.exports.specs.AnswerLaws.{gives, short-first, short-second, long-enough, read-short, read-is}
 use borrow.Author.Needs.{needs}
 use Rattle.exports.proofs.gusnalip_read.Statement.{statement}
@@ -26,13 +28,16 @@ read-requires : tie.Need-read-requires
 read-requires c κs = search needs
 
 -- what the engine answers, and so what is answered
-answer : (c : tie.After-read) → let a = c .before .before .before .before .before .before .before .args in readTo (a .factor .now) (a .reading) (a .out .now) ≡ readingAnswer (c .read .result)
+abbrev says : ReadingAnswer → Answer
+says r = markedAnswer readingWords (outcomeOf r)
+
+answer : (c : tie.After-read) → let a = c .before .before .before .before .before .before .before .args in readTo (a .factor .now) (a .reading) (a .out .now) ≡ says (c .read .result)
 answer c =
     let room = c .before .before .before in
     let long = room .before in
     let a = long .before .before .before .args in
-    read-is (a .factor .now) (a .reading) (a .out .now) (c .read .result) (long-enough 9 (a .factor .now) 1 (a .out .now) (long .if1 .left) (room .if2 .left))
-    (sym (c .read .ensures .0 ∙ rw (c .before .float-from .ensures, c .before .before .factor-from .ensures)))
+    read-is (a .factor .now) (a .reading) (a .out .now) (outcomeOf (c .read .result)) (long-enough 9 (a .factor .now) 1 (a .out .now) (long .if1 .left) (room .if2 .left))
+    (sym (c .read .ensures ∙ rw (c .before .float-from .ensures, c .before .before .factor-from .ensures)))
 
 enum-known-y : tie.Need-enum-known-y
 enum-known-y c = search needs
@@ -68,41 +73,37 @@ same-length : tie.Need-same-length
 same-length c = search needs
 
 returns-3 : tie.Need-returns-3
-unfolding readingAnswer
 returns-3 c =
     let told = c .before .before in
     let s = told .before .before in
-    let both = gives _ _ (s .before .before .before .before .before .before .before .args .out .now) (answer s ∙ ap readingAnswer (told .y .given .1)) in
+    let both = gives _ _ (s .before .before .before .before .before .before .before .args .out .now) (answer s ∙ ap says (told .y .given .1)) in
     rw (c .bits-of .ensures) both
 
 same-length-2 : tie.Need-same-length-2
 same-length-2 c = search needs
 
 returns-4 : tie.Need-returns-4
-unfolding readingAnswer
 returns-4 c =
     let told = c .before .before in
     let s = told .before .before in
-    let both = gives _ _ (s .before .before .before .before .before .before .before .args .out .now) (answer s ∙ ap readingAnswer (told .y2 .given .1)) in
+    let both = gives _ _ (s .before .before .before .before .before .before .before .args .out .now) (answer s ∙ ap says (told .y2 .given .1)) in
     rw (c .bits-of2 .ensures) both
 
 same-length-3 : tie.Need-same-length-3
 same-length-3 c = search needs
 
 returns-5 : tie.Need-returns-5
-unfolding readingAnswer
 returns-5 c =
     let told = c .before .before in
     let s = told .before .before in
-    let both = gives _ _ (s .before .before .before .before .before .before .before .args .out .now) (answer s ∙ ap readingAnswer (told .y3 .given .1)) in
+    let both = gives _ _ (s .before .before .before .before .before .before .before .args .out .now) (answer s ∙ ap says (told .y3 .given .1)) in
     rw (c .bits-of3 .ensures) both
 
 returns-6 : tie.Need-returns-6
-unfolding readingAnswer
 returns-6 c =
     let told = c .before in
     let s = told .before .before in
-    gives _ _ (s .before .before .before .before .before .before .before .args .out .now) (answer s ∙ ap readingAnswer (told .k .given .1))
+    gives _ _ (s .before .before .before .before .before .before .before .args .out .now) (answer s ∙ ap says (told .k .given .1))
 
 pub gusnalip-read-spec : {M : Type 1} → statement M
 gusnalip-read-spec =

@@ -4,8 +4,10 @@ use lib.IntN.{ℤ}
 use mir.Syntax.{w32}
 use mir.Val.{toZ, ofZ}
 use borrow.Author.Needs.{needs}
-use Rattle.factor.specs.SetUp.{setUp}
-use Rattle.exports.specs.Answers.{setUpTo, setUpAnswer}
+use Rattle.factor.specs.declared.Description.{Description}
+use Rattle.factor.specs.declared.SetUp.{SetUp}
+use Rattle.factor.specs.SetUp.{setUp, outcomeOf}
+use Rattle.exports.specs.Answers.{Answer, setUpAnswer, setUpTo}
 use Rattle.exports.specs.AnswerLaws.{gives, set-up-short, set-up-is}
 use Rattle.exports.proofs.gusnalip_set_up.Statement.{statement}
 use Rattle.exports.proofs.gusnalip_set_up.Tie as tie
@@ -13,22 +15,25 @@ use Rattle.exports.proofs.gusnalip_set_up.Tie as tie
 returns : tie.Need-returns
 returns c =
     let a = c .before .before .args in
-    gives _ _ (a .out .now) (set-up-short (a .precision) (a .scale) (a .lower) (a .upper) (a .out .now) (c .if1 .taken))
+    gives _ _ (a .out .now) (set-up-short (record { precision = a .precision; scale = a .scale; lower = a .lower; upper = a .upper }) (a .out .now) (c .if1 .taken))
 
 set-up-requires : tie.Need-set-up-requires
 set-up-requires c κs = search needs
 
--- what the engine answers, and so what is answered
-engine : (c : tie.After-set-up) → let a = c .before .before .before .args in setUp (a .precision) (a .scale) (a .lower) (a .upper) ≡ c .set-up .result
-engine c =
-    let a = c .before .before .before .args in
-    let same : toZ w32 (ofZ w32 (a .scale)) ≡ a .scale = search needs in
-    sym (c .set-up .ensures .0 ∙ ap (λ (k : ℤ). setUp (a .precision) k (a .lower) (a .upper)) same)
+-- what is described
+abbrev asked : tie.After-set-up → Description
+asked c = let a = c .before .before .before .args in record { precision = a .precision; scale = a .scale; lower = a .lower; upper = a .upper }
 
-answer : (c : tie.After-set-up) → let a = c .before .before .before .args in setUpTo (a .precision) (a .scale) (a .lower) (a .upper) (a .out .now) ≡ setUpAnswer (c .set-up .result)
+-- what the engine answers, and so what is answered
+abbrev says : SetUp → Answer
+says r = setUpAnswer (outcomeOf r)
+
+answer : (c : tie.After-set-up) → setUpTo (asked c) (c .before .before .before .args .out .now) ≡ says (c .set-up .result)
 answer c =
     let a = c .before .before .before .args in
-    set-up-is (a .precision) (a .scale) (a .lower) (a .upper) (a .out .now) (c .set-up .result) (c .before .if1 .left) (engine c)
+    let same : toZ w32 (ofZ w32 (a .scale)) ≡ a .scale = search needs in
+    set-up-is (asked c) (a .out .now) (outcomeOf (c .set-up .result)) (c .before .if1 .left)
+    (sym (c .set-up .ensures ∙ ap (λ (k : ℤ). setUp (record { precision = a .precision; scale = k; lower = a .lower; upper = a .upper })) same))
 
 enum-known-f : tie.Need-enum-known-f
 enum-known-f c = search needs
@@ -47,14 +52,14 @@ returns-2 c =
     let put = c .before .before in
     let told = put .before .before .before in
     let s = told .before .before in
-    let both = gives _ _ (s .before .before .before .args .out .now) (answer s ∙ ap setUpAnswer (told .f .given .1)) in
+    let both = gives _ _ (s .before .before .before .args .out .now) (answer s ∙ ap says (told .f .given .1)) in
     (both .0, put .put-factor .ensures ∙ both .1)
 
 returns-3 : tie.Need-returns-3
 returns-3 c =
     let told = c .before in
     let s = told .before .before in
-    gives _ _ (s .before .before .before .args .out .now) (answer s ∙ ap setUpAnswer (told .k .given .1))
+    gives _ _ (s .before .before .before .args .out .now) (answer s ∙ ap says (told .k .given .1))
 
 pub gusnalip-set-up-spec : {M : Type 1} → statement M
 gusnalip-set-up-spec = tie.close (tie.spec returns set-up-requires enum-known-f put-factor-requires enum-known-k same-length returns-2 returns-3)

@@ -1,49 +1,105 @@
--- `frame::read_frame` meets its contract. Assumes nothing.
-use mathlib.Core.Path.{_≡_, sym, subst, _∙_}
-use mathlib.Core.Bool.{true, false}
+-- `frame::read_frame` meets its contract: each refusal under its condition, those before it not holding. Assumes nothing.
+use mathlib.Core.Path.{_≡_, sym, ap, _∙_}
+use mathlib.Core.Bool.{false, not}
 use mathlib.Core.List.{List}
-use Prim.Native.Nat.{ℕ, _+_}
+use Prim.Native.Nat.{ℕ}
+use native.Mathlib.Omega.{arith}
+use lib.IntN.{ℤ}
+use mir.Syntax.{w32}
+use mir.Val.{toZ, ofZ}
 use borrow.Author.Needs.{needs}
-use borrow.Author.Tests.{not-true, not-false}
-use Rattle.frame.specs.declared.Field.{Field}
-use Rattle.frame.specs.declared.FrameAnswer.the-variants.{Refused}
-use Rattle.frame.specs.Digits.{fieldAt, Within}
-use Rattle.frame.specs.Frame.{endDigits, spaced, framed, frameOf}
-use Rattle.frame.specs.Answers.{told}
-use Rattle.frame.specs.FieldLaws.{field-within}
+use Rattle.marks.specs.Answers.{accepted}
+use Rattle.marks.specs.AnswerLaws.{pass, stop, refuses}
+use Rattle.frame.specs.declared.Field.the-variants.{Value}
+use Rattle.frame.specs.Digits.{malformed}
+use Rattle.frame.specs.FieldLaws.{field-held}
+use Rattle.frame.specs.FrameLaws.{frame-is}
+use Rattle.frame.specs.Frame.{endDigits, spaced, precisionField, scaleField, lowerField, upperField, frameOf}
 use Rattle.frame.proofs.read_frame.Statement.{statement}
 use Rattle.frame.proofs.read_frame.Tie as tie
-
-module _ (line : List ℕ) where
-  refused : spaced endDigits line ≡ false → Refused 24 ≡ frameOf line
-  unfolding frameOf
-  refused s = rw s
-
-  read :
-      (p k l u : Field)
-      → spaced endDigits line ≡ true
-      → p ≡ fieldAt line 0 2
-      → k ≡ fieldAt line 3 2
-      → l ≡ fieldAt line 6 endDigits
-      → u ≡ fieldAt line (7 + endDigits) endDigits
-      → framed p k l u ≡ frameOf line
-  unfolding frameOf
-  read p k l u s ep ek el eu = rw (s, ep, ek, el, eu)
 
 is-spaced-requires : tie.Need-is-spaced-requires
 is-spaced-requires c κs = search needs
 
 returns : tie.Need-returns
-returns c = told _ _ (refused _ (sym (c .before .is-spaced .ensures) ∙ not-true _ (c .if1 .taken)))
+unfolding frameOf
+returns c = refuses (stop (ap not (sym (c .before .is-spaced .ensures)) ∙ c .if1 .taken)) _
+
+-- ---- the fields stand where a frame's do
+abbrev line : tie.Else1 → List ℕ
+line c = c .before .before .before .args .line .now
+
+spaced-out : (c : tie.Else1) → not (spaced endDigits (line c)) ≡ false
+spaced-out c = ap not (sym (c .before .is-spaced .ensures)) ∙ c .if1 .left
 
 read-field-requires : tie.Need-read-field-requires
 read-field-requires c κs = search needs
 
+enum-known-precision : tie.Need-enum-known-precision
+enum-known-precision c = search needs
+
+enum-told : tie.Need-enum-told
+enum-told c = search needs
+
+returns-2 : tie.Need-returns-2
+unfolding frameOf
+returns-2 c =
+    let read = c .before .before in
+    refuses (pass (spaced-out (read .before)) (stop (ap malformed (sym (read .read-field .ensures) ∙ c .enum-told .given .1)))) _
+
+-- ---- the precision is read
+abbrev first : tie.After-known-told → tie.Else1
+first c = c .before .before .before .before
+
+precision-is : (c : tie.After-known-told) → precisionField (line (first c)) ≡ Value (c .before .precision .given .0 .0)
+precision-is c = sym (c .before .before .before .read-field .ensures) ∙ c .before .precision .given .1
+
 read-field-requires-2 : tie.Need-read-field-requires-2
 read-field-requires-2 c κs = search needs
 
+enum-known-scale : tie.Need-enum-known-scale
+enum-known-scale c = search needs
+
+enum-told-2 : tie.Need-enum-told-2
+enum-told-2 c = search needs
+
+returns-3 : tie.Need-returns-3
+unfolding frameOf
+returns-3 c =
+    let read = c .before .before in
+    let p = read .before in
+    refuses (pass (spaced-out (first p)) (pass (ap malformed (precision-is p)) (stop (ap malformed (sym (read .read-field2 .ensures) ∙ c .enum-told2 .given .1))))) _
+
+-- ---- the scale is read
+abbrev second : tie.After-known-told2 → tie.After-known-told
+second c = c .before .before .before .before
+
+scale-is : (c : tie.After-known-told2) → scaleField (line (first (second c))) ≡ Value (c .before .scale .given .0 .0)
+scale-is c = sym (c .before .before .before .read-field2 .ensures) ∙ c .before .scale .given .1
+
 read-field-requires-3 : tie.Need-read-field-requires-3
 read-field-requires-3 c κs = search needs
+
+enum-known-lower : tie.Need-enum-known-lower
+enum-known-lower c = search needs
+
+enum-told-3 : tie.Need-enum-told-3
+enum-told-3 c = search needs
+
+returns-4 : tie.Need-returns-4
+unfolding frameOf
+returns-4 c =
+    let read = c .before .before in
+    let k = read .before in
+    let p = second k in
+    refuses (pass (spaced-out (first p)) (pass (ap malformed (precision-is p)) (pass (ap malformed (scale-is k)) (stop (ap malformed (sym (read .read-field3 .ensures) ∙ c .enum-told3 .given .1)))))) _
+
+-- ---- the lower end is read
+abbrev third : tie.After-known-told3 → tie.After-known-told2
+third c = c .before .before .before .before
+
+lower-is : (c : tie.After-known-told3) → lowerField (line (first (second (third c)))) ≡ Value (c .before .lower .given .0 .0)
+lower-is c = sym (c .before .before .before .read-field3 .ensures) ∙ c .before .lower .given .1
 
 add-read-field : tie.Need-add-read-field
 add-read-field c = search needs
@@ -51,24 +107,43 @@ add-read-field c = search needs
 read-field-requires-4 : tie.Need-read-field-requires-4
 read-field-requires-4 c κs = search needs
 
-frame-from-requires : tie.Need-frame-from-requires
-frame-from-requires c κs =
-    let second = c .before .before in
-    let first = second .before in (
-      subst (Within 256) (sym (first .read-field .ensures)) (field-within _ 0 2),
-      subst (Within 256) (sym (second .read-field2 .ensures)) (field-within _ 3 2),
-    )
+enum-known-upper : tie.Need-enum-known-upper
+enum-known-upper c = search needs
 
-returns-2 : tie.Need-returns-2
-returns-2 c =
-    told _ _
-    (let fourth = c .before in
-    let third = fourth .before in
-    let second = third .before in
-    let first = second .before in
-    let spaced-is = sym (first .before .before .is-spaced .ensures) ∙ not-false _ (first .before .if1 .left) in
-    c .frame-from .ensures
-    ∙ read _ _ _ _ _ spaced-is (first .read-field .ensures) (second .read-field2 .ensures) (third .read-field3 .ensures) (fourth .read-field4 .ensures))
+enum-told-4 : tie.Need-enum-told-4
+enum-told-4 c = search needs
+
+returns-5 : tie.Need-returns-5
+unfolding frameOf
+returns-5 c =
+    let read = c .before .before in
+    let l = read .before in
+    let k = third l in
+    let p = second k in
+    refuses (pass (spaced-out (first p)) (pass (ap malformed (precision-is p)) (pass (ap malformed (scale-is k)) (pass (ap malformed (lower-is l)) (stop (ap malformed (sym (read .read-field4 .ensures) ∙ c .enum-told4 .given .1))))))) _
+
+-- ---- all four are read
+abbrev fourth : tie.After-known-told4 → tie.After-known-told3
+fourth c = c .before .before .before .before
+
+upper-is : (c : tie.After-known-told4) → upperField (line (first (second (third (fourth c))))) ≡ Value (c .before .upper .given .0 .0)
+upper-is c = sym (c .before .before .before .read-field4 .ensures) ∙ c .before .upper .given .1
+
+cast-t13 : tie.Need-cast-t13
+cast-t13 c = omega (arith, field-held _ 0 2 _ (precision-is (second (third (fourth c)))) .small)
+
+signed-byte-requires : tie.Need-signed-byte-requires
+signed-byte-requires c κs = field-held _ 3 2 _ (scale-is (third (fourth c))) .small
+
+returns-6 : tie.Need-returns-6
+returns-6 c =
+    let u = c .before in
+    let l = fourth u in
+    let k = third l in
+    let p = second k in
+    let scale : toZ w32 (ofZ w32 (c .signed-byte .result)) ≡ c .signed-byte .result = search needs in
+    ap (λ (x : ℤ). accepted (record { precision = p .before .precision .given .0 .0; scale = x; lower = l .before .lower .given .0 .0; upper = u .before .upper .given .0 .0 })) (scale ∙ c .signed-byte .ensures)
+    ∙ frame-is (line (first p)) (spaced-out (first p)) (precision-is p) (scale-is k) (lower-is l) (upper-is u)
 
 pub read-frame-spec : {M : Type 1} → statement M
 read-frame-spec =
@@ -77,9 +152,22 @@ read-frame-spec =
     is-spaced-requires
     returns
     read-field-requires
+    enum-known-precision
+    enum-told
+    returns-2
     read-field-requires-2
+    enum-known-scale
+    enum-told-2
+    returns-3
     read-field-requires-3
+    enum-known-lower
+    enum-told-3
+    returns-4
     add-read-field
     read-field-requires-4
-    frame-from-requires
-    returns-2)
+    enum-known-upper
+    enum-told-4
+    returns-5
+    cast-t13
+    signed-byte-requires
+    returns-6)

@@ -1,7 +1,8 @@
 -- `stream::line_step` meets its contract. Assumes nothing.
-use mathlib.Core.Path.{sym, _∙_}
+use mathlib.Core.Path.{sym, ap, _∙_}
 use native.Mathlib.Omega.{arith}
 use lib.Seq.{length-take-le}
+use Rattle.factor.specs.SetUp.{outcomeOf}
 use Rattle.stream.specs.StepLaws.{judged-intact}
 use Rattle.stream.specs.MoveLaws.{line-accepted, line-refused}
 use borrow.Author.Needs.{needs}
@@ -21,7 +22,7 @@ enum-known-f : tie.Need-enum-known-f
 enum-known-f c = search needs
 
 begin-requires : tie.Need-begin-requires
-begin-requires c κs = judged-intact _ _ (sym (c .before .before .before .judge .ensures) ∙ c .before .f .given .1)
+begin-requires c κs = judged-intact _ _ (sym (c .before .before .before .judge .ensures) ∙ ap outcomeOf (c .before .f .given .1))
 
 enum-known-j : tie.Need-enum-known-j
 enum-known-j c = search needs
@@ -40,7 +41,7 @@ returns c =
     let known = c .before .before in
     let judged = known .before .before in
     let pre = judged .before .before .before .pre in
-    line-accepted _ _ _ (pre .1) (pre .0) _ _ _ _ (sym (known .f .given .1) ∙ judged .judge .ensures) (c .begin .ensures)
+    line-accepted _ _ _ (pre .1) (pre .0) _ _ _ _ (sym (ap outcomeOf (known .f .given .1)) ∙ judged .judge .ensures) (c .begin .ensures)
 
 same-length : tie.Need-same-length
 same-length c = search needs
@@ -51,7 +52,7 @@ returns-2 c =
     let known = refusal .before .before .before in
     let judged = known .before .before in
     let start = judged .before .before .before in
-    line-refused _ _ (start .args .t2) (start .pre .1) (start .pre .0) _ _ _ _ _ (sym (known .j .given .1) ∙ judged .judge .ensures) (refusal .put-refusal .ensures) (c .at-line .ensures .0) (c .at-line .ensures .1)
+    line-refused _ _ (start .args .t2) (start .pre .1) (start .pre .0) _ _ _ _ _ (sym (ap outcomeOf (known .j .given .1)) ∙ judged .judge .ensures) (refusal .put-refusal .ensures) (c .at-line .ensures .0) (c .at-line .ensures .1)
 
 pub line-step-spec : {M : Type 1} → statement M
 line-step-spec =
