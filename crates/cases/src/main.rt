@@ -79,22 +79,6 @@ fn put_line(input: &[u8], line: Line) {
 }
 
 // ---- reading
-// Whether a line has just so many bytes, with blanks at three places.
-fn is_shaped(input: &[u8], line: Line, length: usize, a: usize, b: usize, c: usize) -> bool {
-    if line.to < line.from {
-        return false;
-    }
-    if line.to - line.from != length {
-        return false;
-    }
-    if has_blank(input, line, a) {
-        if has_blank(input, line, b) {
-            return has_blank(input, line, c);
-        }
-    }
-    false
-}
-
 fn has_blank(input: &[u8], line: Line, at: usize) -> bool {
     if input.len() < line.from {
         return false;
@@ -116,6 +100,114 @@ fn field(input: &[u8], line: Line, at: usize, width: usize) -> Field
         return Field::Malformed;
     }
     frame::read_field(input, line.from + at, width)
+}
+
+// What is read of a line so far: where its next field's blank stands, the last number, and whether all is well.
+struct Cursor {
+    good: bool,
+    at: usize,
+    value: u64,
+}
+
+// What a line says after its kind: up to four numbers, and whether they are all that it says.
+struct Numbers {
+    good: bool,
+    a: u64,
+    b: u64,
+    c: u64,
+    d: u64,
+}
+
+// The next field, of `width` digits behind a blank; none where the width is 0.
+fn next_field(input: &[u8], line: Line, c: Cursor, width: usize) -> Cursor
+    requires { ⌜ width ≤ 16 ⌝ }
+{
+    let at = c.at;
+    let bad = Cursor {
+        good: false,
+        at,
+        value: 0,
+    };
+    if width == 0 {
+        return c;
+    }
+    if 64 < at {
+        return bad;
+    }
+    if !has_blank(input, line, at) {
+        return bad;
+    }
+    let Field::Value(value) = field(input, line, at + 1, width) else {
+        return bad;
+    };
+    Cursor {
+        good: c.good,
+        at: at + 1 + width,
+        value,
+    }
+}
+
+// The fields of a line, of these widths, which are all that stands behind its kind.
+fn fields(input: &[u8], line: Line, a: usize, b: usize, c: usize, d: usize) -> Numbers
+    requires { ⌜ (a ≤ 16) × (b ≤ 16) × (c ≤ 16) × (d ≤ 16) ⌝ }
+{
+    let start = Cursor {
+        good: true,
+        at: 2,
+        value: 0,
+    };
+    let first = next_field(input, line, start, a);
+    let second = next_field(input, line, first, b);
+    let third = next_field(input, line, second, c);
+    let fourth = next_field(input, line, third, d);
+    let mut good = false;
+    if fourth.good {
+        if line.from <= line.to {
+            good = line.to - line.from == fourth.at;
+        }
+    }
+    Numbers {
+        good,
+        a: first.value,
+        b: second.value,
+        c: third.value,
+        d: fourth.value,
+    }
+}
+
+// What a line of a kind says.
+fn arguments(input: &[u8], line: Line, kind: u64) -> Numbers {
+    if kind == 1 {
+        return fields(input, line, 8, 8, 16, 16);
+    }
+    if kind == 2 {
+        return fields(input, line, 2, 16, 0, 0);
+    }
+    if kind == 3 {
+        return fields(input, line, 16, 0, 0, 0);
+    }
+    if kind == 4 {
+        return fields(input, line, 8, 0, 0, 0);
+    }
+    if kind == 5 {
+        return fields(input, line, 2, 16, 0, 0);
+    }
+    if kind == 6 {
+        return fields(input, line, 16, 16, 0, 0);
+    }
+    if kind == 7 {
+        return fields(input, line, 16, 2, 16, 0);
+    }
+    if kind == 8 {
+        return fields(input, line, 8, 0, 0, 0);
+    }
+    Numbers {
+        good: false,
+        a: 0,
+        b: 0,
+        c: 0,
+        d: 0,
+    }
 }
 
 // ---- kinds of lines
@@ -378,192 +470,85 @@ fn not_a_line() {
     put_outcome(24);
 }
 
-fn set_up_line(s: SweepState, input: &[u8], line: Line) -> SweepState {
-    if is_shaped(input, line, 54, 11, 20, 37) {
-        let Field::Value(n) = field(input, line, 3, 8) else {
-            not_a_line();
-            return s;
-        };
-        let Field::Value(k) = field(input, line, 12, 8) else {
-            not_a_line();
-            return s;
-        };
-        let Field::Value(l) = field(input, line, 21, 16) else {
-            not_a_line();
-            return s;
-        };
-        let Field::Value(u) = field(input, line, 38, 16) else {
-            not_a_line();
-            return s;
-        };
-        return set_up(s, n, k, l, u);
+fn change(s: SweepState, number: u64, v: u64) -> SweepState {
+    if 12 < number {
+        not_a_line();
+        return s;
     }
-    not_a_line();
-    s
+    put_outcome(0);
+    with_field(s, number, v)
 }
 
-fn field_line(s: SweepState, input: &[u8], line: Line) -> SweepState {
-    if is_shaped(input, line, 22, 5, 5, 5) {
-        let Field::Value(number) = field(input, line, 3, 2) else {
-            not_a_line();
-            return s;
-        };
-        let Field::Value(v) = field(input, line, 6, 16) else {
-            not_a_line();
-            return s;
-        };
-        if number <= 12 {
-            put_outcome(0);
-            return with_field(s, number, v);
-        }
-    }
-    not_a_line();
-    s
-}
-
-fn product_line(f: Factor, input: &[u8], line: Line) {
-    if is_shaped(input, line, 19, 2, 2, 2) {
-        let Field::Value(x) = field(input, line, 3, 16) else {
-            not_a_line();
-            return;
-        };
-        multiply(f, x);
+fn search_half(f: Factor, half: u64, x: u64) {
+    if 1 < half {
+        not_a_line();
         return;
     }
-    not_a_line();
+    search(f, half == 1, x);
 }
 
-fn reading_line(f: Factor, input: &[u8], line: Line) {
-    if is_shaped(input, line, 11, 2, 2, 2) {
-        let Field::Value(bits) = field(input, line, 3, 8) else {
-            not_a_line();
-            return;
-        };
-        read(f, bits);
-        return;
+fn call_within(
+    s: SweepState,
+    list: &mut [u32; 64],
+    cap: u64,
+    size: usize,
+    free: usize,
+) -> SweepState {
+    if 64 < size {
+        not_a_line();
+        return s;
     }
-    not_a_line();
+    call_on(s, cap, list, size, free)
 }
 
-fn search_line(f: Factor, input: &[u8], line: Line) {
-    if is_shaped(input, line, 22, 5, 5, 5) {
-        let Field::Value(half) = field(input, line, 3, 2) else {
-            not_a_line();
-            return;
-        };
-        let Field::Value(x) = field(input, line, 6, 16) else {
-            not_a_line();
-            return;
-        };
-        if half <= 1 {
-            search(f, half == 1, x);
-            return;
-        }
+// The answer to a line by its kind and what it says; the state after it.
+fn answer(s: SweepState, list: &mut [u32; 64], kind: u64, n: Numbers) -> SweepState {
+    if !n.good {
+        not_a_line();
+        return s;
     }
-    not_a_line();
-}
-
-fn new_line(s: SweepState, input: &[u8], line: Line) -> SweepState {
-    if is_shaped(input, line, 36, 19, 19, 19) {
-        let Field::Value(first) = field(input, line, 3, 16) else {
-            not_a_line();
-            return s;
-        };
-        let Field::Value(last) = field(input, line, 20, 16) else {
-            not_a_line();
-            return s;
-        };
-        return new_state(s, first, last);
-    }
-    not_a_line();
-    s
-}
-
-fn call_line(s: SweepState, list: &mut [u32; 64], input: &[u8], line: Line) -> SweepState {
-    if is_shaped(input, line, 39, 19, 22, 22) {
-        let Field::Value(cap) = field(input, line, 3, 16) else {
-            not_a_line();
-            return s;
-        };
-        let Field::Value(words) = field(input, line, 20, 2) else {
-            not_a_line();
-            return s;
-        };
-        let Field::Value(free) = field(input, line, 23, 16) else {
-            not_a_line();
-            return s;
-        };
-        let n = words as usize;
-        if n <= 64 {
-            return call_on(s, cap, list, n, free as usize);
-        }
-    }
-    not_a_line();
-    s
-}
-
-fn fill_line(list: &mut [u32; 64], input: &[u8], line: Line) {
-    if is_shaped(input, line, 11, 2, 2, 2) {
-        let Field::Value(v) = field(input, line, 3, 8) else {
-            not_a_line();
-            return;
-        };
-        fill(list, words::low_half(v));
-        put_outcome(0);
-        return;
-    }
-    not_a_line();
-}
-
-// The answer to a line by its kind, 0 standing for none; the state after it.
-fn answer(s: SweepState, list: &mut [u32; 64], input: &[u8], line: Line, kind: u64) -> SweepState {
     let f = s.factor;
     if kind == 1 {
-        return set_up_line(s, input, line);
+        return set_up(s, n.a, n.b, n.c, n.d);
     }
     if kind == 2 {
-        return field_line(s, input, line);
+        return change(s, n.a, n.b);
+    }
+    if kind == 6 {
+        return new_state(s, n.a, n.b);
+    }
+    if kind == 7 {
+        return call_within(s, list, n.a, n.b as usize, n.c as usize);
     }
     if kind == 3 {
-        product_line(f, input, line);
+        multiply(f, n.a);
         return s;
     }
     if kind == 4 {
-        reading_line(f, input, line);
+        read(f, n.a);
         return s;
     }
     if kind == 5 {
-        search_line(f, input, line);
+        search_half(f, n.a, n.b);
         return s;
     }
-    if kind == 6 {
-        return new_line(s, input, line);
-    }
-    if kind == 7 {
-        return call_line(s, list, input, line);
-    }
-    if kind == 8 {
-        fill_line(list, input, line);
-        return s;
-    }
-    not_a_line();
+    fill(list, words::low_half(n.a));
+    put_outcome(0);
     s
 }
 
 // The kind of a line, 0 where it has none.
 fn kind_of(input: &[u8], line: Line) -> u64 {
-    if has_blank(input, line, 2) {
-        let Field::Value(kind) = field(input, line, 0, 2) else {
-            return 0;
-        };
-        return kind;
-    }
-    0
+    let Field::Value(kind) = field(input, line, 0, 2) else {
+        return 0;
+    };
+    kind
 }
 
 fn answer_line(s: SweepState, list: &mut [u32; 64], input: &[u8], line: Line) -> SweepState {
     put_line(input, line);
-    let t = answer(s, list, input, line, kind_of(input, line));
+    let kind = kind_of(input, line);
+    let t = answer(s, list, kind, arguments(input, line, kind));
     put_byte(LINE_FEED);
     t
 }
