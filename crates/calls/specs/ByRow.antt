@@ -4,10 +4,11 @@ use mathlib.Core.List.{List, [], _∷_, _++_}
 use Prim.Native.Nat.{ℕ, zero, suc, _+_, _-_}
 use lib.Dec.{leb, ltb}
 use lib.ListN.{length, take, drop}
+use Rattle.marks.specs.Answers.{judged}
 use Rattle.search.specs.declared.Place.{Place}
 use Rattle.search.specs.declared.Place.the-variants.{At, Nowhere}
 use Rattle.calls.specs.Engine.{halfOf, Engine}
-use Rattle.calls.specs.State.{State, Call, judged}
+use Rattle.calls.specs.State.{State, Call}
 use Rattle.calls.specs.Call.{Reply, Run, conditions, replied}
 use Rattle.calls.specs.Plain.{keep, row, tries, wordsOf}
 

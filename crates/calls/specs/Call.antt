@@ -6,11 +6,12 @@ use lib.Dec.{eqb, leb, ltb}
 use lib.ListN.{length}
 use lib.Seq.{sets}
 use Rattle.marks.specs.declared.Mark.{Mark}
+use Rattle.marks.specs.Answers.{Refusal, number, none, judged, Outcome, refused, accepted}
 use Rattle.search.specs.declared.Place.{Place}
 use Rattle.search.specs.declared.Place.the-variants.{At, Nowhere}
 use Rattle.search.specs.declared.Found.{Found}
 use Rattle.calls.specs.Engine.{Half, low, high, lowEnd, Engine}
-use Rattle.calls.specs.State.{Refusal, number, none, judged, Outcome, refused, accepted, State, faults, Call, listed}
+use Rattle.calls.specs.State.{State, faults, Call, listed}
 
 -- ---- replies and refusals
 
@@ -126,4 +127,5 @@ runOf e s c = run e (s .factor) (s .last) (c .cap) (length (c .list) - c .free) 
 
 -- A sweep call.
 unfoldable pub sweepCall : {F : Type 0} → Engine F → State F → Call → Reply F
+unfolding judged
 sweepCall e s c = replied s c (judged (conditions e s c)) (runOf e s c)

@@ -9,12 +9,13 @@ use native.Mathlib.Nat.{zero-add, mul-one}
 use lib.ListN.{length, take}
 use Rattle.marks.specs.declared.Mark.{Mark}
 use Rattle.marks.specs.declared.Mark.the-variants.{Right, Open, Wrong}
+use Rattle.marks.specs.Answers.{accepted}
+use Rattle.marks.specs.AnswerLaws.{only-accepted}
 use Rattle.calls.specs.Engine.{Engine, Laws, Lawful}
-use Rattle.calls.specs.State.{Refusal, number, none, judged, unless, accepted, State, fresh, newConditions, newState, Call}
+use Rattle.calls.specs.State.{State, fresh, newConditions, newState, Call}
 use Rattle.calls.specs.Call.{Reply, sweepCall}
 use Rattle.calls.specs.Plain.{wordsOf, Fed, Plain, begun, untried, plains, plainAfter}
 use Rattle.calls.specs.Whole.{sweeps, stateAfter, Each, trialsIn, wordsIn, acceptedIn, endOf, fedBy, Whole}
-use Rattle.calls.specs.Refusals.{judged-none}
 use Rattle.calls.specs.One.{list-kept, rounds-right, ample}
 use Rattle.calls.specs.Same.{sweeps-same, after-same}
 use Rattle.calls.specs.Sums.{trials-add, words-join}
@@ -99,11 +100,6 @@ module _ {F : Type 0} {suspect : F → ℕ → Bool} {e : Engine F} {B : F → �
 
   -- Demand 3: the list begins with a new state, over a factor and a range that are not refused.
   pub whole-sweep : (f : F) (first last : ℕ) (s : State F) → newState e f first last ≡ accepted s → (calls : List Call) → Whole suspect e B (sweepCall e) s calls
-  whole-sweep f first last s q calls = go (judged (newConditions e f first last)) refl q
-    where
-      go : (v : Refusal) → judged (newConditions e f first last) ≡ v → unless v (fresh f first last) ≡ accepted s → Whole suspect e B (sweepCall e) s calls
-      go (number n) j k = let z : _≡_ {A = ℕ} 0 1 = cc in absurd (omega arith)
-      go none j k =
-          let good = judged-none (newConditions e f first last) [] j .0 in
-          let i : fresh f first last ≡ s = cc in
-          rw (← i) (from-fresh f first last (good .0) (good .1 .0) calls)
+  whole-sweep f first last s q calls =
+      let good = only-accepted (newConditions e f first last) (fresh f first last) s q in
+      rw (← good .1) (from-fresh f first last (good .0 .0) (good .0 .1 .0) calls)

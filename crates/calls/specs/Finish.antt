@@ -6,7 +6,8 @@ use Prim.Native.Nat.{ℕ, suc, _+_, _-_, _*_, _≤_, _<_, min}
 use native.Mathlib.Omega.{arith}
 use native.Mathlib.Nat.{add-zero, zero-add, add-assoc, add-mul, one-mul, zero-mul}
 use lib.ListN.{length, drop, length-drop}
-use Rattle.calls.specs.State.{Refusal, number, none, Call}
+use Rattle.marks.specs.Answers.{Refusal, number, none}
+use Rattle.calls.specs.State.{Call}
 use Rattle.calls.specs.Plain.{tries, Fed, Plain, begun, untried, moved, plainReplied, plainRefusal, plainCall, plainNext, plains, plainAfter}
 use Rattle.calls.specs.Whole.{acceptedTold, acceptedIn}
 use Rattle.calls.specs.Refusals.{taken}

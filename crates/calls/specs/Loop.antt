@@ -9,11 +9,12 @@ use native.Mathlib.Nat.{add-zero, zero-add, sub-zero, mul-le-mul-left}
 use native.Mathlib.Numerals.{add-one}
 use lib.ListN.{length, length-append}
 use lib.Seq.{sets, length-sets}
+use Rattle.marks.specs.Answers.{none, judged, accepted}
 use Rattle.search.specs.declared.Place.{Place}
 use Rattle.search.specs.declared.Place.the-variants.{At, Nowhere}
 use Rattle.search.specs.declared.Found.{Found}
 use Rattle.calls.specs.Engine.{low, high, lowEnd, Engine, Laws, Lawful}
-use Rattle.calls.specs.State.{none, judged, accepted, State, Call, listed}
+use Rattle.calls.specs.State.{State, Call, listed}
 use Rattle.calls.specs.Call.{sought, orElse, highStart, conditions, ahead, Run, stopped, tried, searched, run, handed, runOf, sweepCall}
 use Rattle.calls.specs.Plain.{row, tries}
 use Rattle.calls.specs.ByRow.{headOf, rowAhead}

@@ -4,8 +4,9 @@ use mathlib.Core.Bool.{Bool}
 use Prim.Native.Nat.{ℕ, _-_, min}
 use native.Mathlib.Omega.{arith}
 use lib.ListN.{length}
+use Rattle.marks.specs.Answers.{Refusal, number, none, judged}
 use Rattle.calls.specs.Engine.{Engine, Laws, Lawful}
-use Rattle.calls.specs.State.{Refusal, number, none, judged, State, Call}
+use Rattle.calls.specs.State.{State, Call}
 use Rattle.calls.specs.Call.{conditions, Run, runOf, replied, sweepCall}
 use Rattle.calls.specs.Plain.{tries}
 use Rattle.calls.specs.ByRow.{rowRun, rowAhead, rowCall}

@@ -6,7 +6,8 @@ use lib.Dec.{eqb, leb}
 use lib.ListN.{length, take, drop}
 use Rattle.marks.specs.declared.Mark.{Mark}
 use Rattle.marks.specs.declared.Mark.the-variants.{Right, Open, Wrong}
-use Rattle.calls.specs.State.{Refusal, number, none, judged, Outcome, refused, accepted, State, Call, listed}
+use Rattle.marks.specs.Answers.{Refusal, number, none, judged, Outcome, refused, accepted}
+use Rattle.calls.specs.State.{State, Call, listed}
 
 -- ---- the row
 
@@ -116,6 +117,7 @@ plainRefusal finished cap size free = judged ((33, finished) ∷ (18, eqb cap 0)
 
 -- A call of the plain sweep, fed its "cap, list length and first free place"; it has "f free places, f being the list's length less the first free place".
 unfoldable pub plainCall : {F : Type 0} → Fed F → Plain → (cap size free : ℕ) → PlainReply
+unfolding judged
 plainCall w p cap size free = plainReplied w p free (plainRefusal (p .finished) cap size free) (tries (w .mark) cap (size - free) (untried w p))
 
 -- ---- lists of calls

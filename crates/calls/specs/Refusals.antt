@@ -1,36 +1,18 @@
 -- Laws of the refusals: what a call and its state have where none is judged. Assumes nothing.
-use mathlib.Core.Path.{_≡_, refl}
-use mathlib.Core.Bool.{Bool, true, false, true≢false, cond, _||_}
-use mathlib.Core.List.{List, [], _∷_, _++_}
+use mathlib.Core.Path.{_≡_}
+use mathlib.Core.Bool.{Bool, false, _||_}
+use mathlib.Core.List.{[], _∷_, _++_}
 use Prim.Native.Nat.{ℕ, _≤_, _<_}
 use native.Mathlib.Omega.{arith}
 use borrow.Author.Tests.{ltb-false, leb-false, eqb-false}
 use lib.Dec.{eqb, leb, ltb}
 use lib.ListN.{length}
+use Rattle.marks.specs.Answers.{number, none, judged, refused}
+use Rattle.marks.specs.AnswerLaws.{judged-none, or-false}
 use Rattle.calls.specs.Engine.{Engine}
-use Rattle.calls.specs.State.{number, none, judged, refused, State, faults, Call}
+use Rattle.calls.specs.State.{State, faults, Call}
 use Rattle.calls.specs.Call.{conditions, sweepCall}
 use Rattle.calls.specs.Plain.{plainRefusal}
-
--- None of a list of conditions holds.
-abbrev pub NoneHolds : List (ℕ × Bool) → Type 0
-NoneHolds [] = Unit {0}
-NoneHolds (t ∷ l) = (t .1 ≡ false) × NoneHolds l
-
--- Where no refusal is judged, none of the conditions holds, and none is judged of the rest.
-pub judged-none : (k l : List (ℕ × Bool)) → judged (k ++ l) ≡ none → NoneHolds k × (judged l ≡ none)
-judged-none [] l q = (tt, q)
-judged-none (t ∷ k) l q = go (t .1) refl q (judged-none k l)
-  where
-    go : (b : Bool) → t .1 ≡ b → cond b (number (t .0)) (judged (k ++ l)) ≡ none → (judged (k ++ l) ≡ none → NoneHolds k × (judged l ≡ none))
-        → NoneHolds (t ∷ k) × (judged l ≡ none)
-    go true i q ih = let z : _≡_ {A = ℕ} 0 1 = cc in absurd (omega arith)
-    go false i q ih = let r = ih q in ((i, r .0), r .1)
-
--- Neither of two tests holds.
-pub or-false : (a b : Bool) → a || b ≡ false → (a ≡ false) × (b ≡ false)
-or-false true b q = absurd (true≢false q)
-or-false false b q = (refl, q)
 
 -- What a call has that 33, 18 and 19 do not refuse.
 pub record Taken (finished : Bool) (cap size free : ℕ) : Type 0 where

@@ -7,8 +7,9 @@ use native.Mathlib.Omega.{arith}
 use borrow.Author.Tests.{le-ltb}
 use lib.ListN.{length, take, drop}
 use lib.Seq.{drop-drop}
+use Rattle.marks.specs.Answers.{Refusal, number, none, judged}
 use Rattle.calls.specs.Engine.{Engine, Lawful}
-use Rattle.calls.specs.State.{Refusal, number, none, judged, State, fresh, Call}
+use Rattle.calls.specs.State.{State, fresh, Call}
 use Rattle.calls.specs.Call.{conditions, handed, replied, sweepCall}
 use Rattle.calls.specs.Plain.{row, tries, wordsOf, Fed, fed, Plain, begun, untried, moved, plainReplied, plainRefusal, plainCall, Seen, stateOf, plainNext, plains, plainAfter}
 use Rattle.calls.specs.ByRow.{headOf, rowRun}
@@ -36,6 +37,7 @@ module _ {F : Type 0} {suspect : F → ℕ → Bool} {e : Engine F} {B : F → �
   w = fed suspect (e .mark) f first last
 
   refused-alike : (p : Plain) → Reached (suspect f) w p → (c : Call) → judged (conditions e (stateOf w p) c) ≡ plainRefusal (p .finished) (c .cap) (length (c .list)) (c .free)
+  unfolding judged
   refused-alike p r c = rw (sound, inside, le-ltb (p .next) first (r .from), le-ltb last (p .next) (r .upto))
 
   -- One call on a state that calls lead to is one call of the plain sweep.

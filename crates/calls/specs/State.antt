@@ -1,33 +1,12 @@
--- Definitions: refusals, states, calls and words, which the call by searches and the plain sweep share. What stands in quotes is document 01's.
-use mathlib.Core.Bool.{Bool, false, cond, _||_}
+-- Definitions: states, calls and words, which the call by searches and the plain sweep share. What stands in quotes is document 01's.
+use mathlib.Core.Bool.{Bool, false, _||_}
 use mathlib.Core.List.{List, [], _∷_}
 use Prim.Native.Nat.{ℕ, _+_, _*_}
 use lib.Dec.{ltb}
 use Rattle.marks.specs.declared.Mark.{Mark}
 use Rattle.marks.specs.declared.Mark.the-variants.{Right, Open, Wrong}
+use Rattle.marks.specs.Answers.{Outcome, answer}
 use Rattle.calls.specs.Engine.{Engine}
-
--- ---- refusals
-
--- The number of a refusal, or none.
-pub data Refusal : Type 0 where
-  number : ℕ → Refusal
-  none : Refusal
-
--- The refusal of the first condition that holds, of a list of conditions with their numbers.
-abbrev pub judged : List (ℕ × Bool) → Refusal
-judged [] = none
-judged (t ∷ l) = cond (t .1) (number (t .0)) (judged l)
-
--- An answer: "accepted, or the refusal's number".
-pub data Outcome (A : Type 0) : Type 0 where
-  refused : ℕ → Outcome A
-  accepted : A → Outcome A
-
--- What a refusal leaves of an answer.
-abbrev pub unless : {A : Type 0} → Refusal → A → Outcome A
-unless (number n) a = refused n
-unless none a = accepted a
 
 -- ---- states
 
@@ -49,7 +28,7 @@ newConditions e f first last = (31, e .faulty f) ∷ (17, e .badRange f first la
 
 -- A new state, or its refusal.
 abbrev pub newState : {F : Type 0} → Engine F → F → ℕ → ℕ → Outcome (State F)
-newState e f first last = unless (judged (newConditions e f first last)) (fresh f first last)
+newState e f first last = answer (newConditions e f first last) (fresh f first last)
 
 -- "the range is one that 17 refuses, or the next significand lies outside it"
 abbrev pub outOfRange : {F : Type 0} → Engine F → State F → Bool

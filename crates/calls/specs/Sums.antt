@@ -6,7 +6,8 @@ use native.Mathlib.Omega.{arith}
 use native.Mathlib.Nat.{add-zero}
 use lib.ListN.{length, take, drop}
 use lib.Seq.{take-add}
-use Rattle.calls.specs.State.{Refusal, number, none, Call}
+use Rattle.marks.specs.Answers.{Refusal, number, none}
+use Rattle.calls.specs.State.{Call}
 use Rattle.calls.specs.Plain.{tries, wordsOf, Fed, Plain, untried, moved, plainReplied, plainRefusal, plainCall, plainNext, plains, plainAfter}
 use Rattle.calls.specs.Tries.{words-append}
 use Rattle.calls.specs.Whole.{trialsTold, wordsTold, trialsIn, wordsIn}

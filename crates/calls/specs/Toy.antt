@@ -9,13 +9,14 @@ use borrow.Author.Tests.{eq-eqb, ne-eqb, ltb-false}
 use lib.Dec.{eqb, ltb, leb}
 use Rattle.marks.specs.declared.Mark.{Mark}
 use Rattle.marks.specs.declared.Mark.the-variants.{Right, Open, Wrong}
+use Rattle.marks.specs.Answers.{refused, accepted, answer}
+use Rattle.marks.specs.AnswerLaws.{or-false}
 use Rattle.search.specs.declared.Place.the-variants.{At}
 use Rattle.calls.specs.Engine.{Half, low, high, halfOf, lowEnd, Engine, Least, Lawful}
-use Rattle.calls.specs.State.{refused, accepted, State, fresh, newState, Call}
+use Rattle.calls.specs.State.{State, fresh, newState, Call}
 use Rattle.calls.specs.Call.{ahead, run, sweepCall}
 use Rattle.calls.specs.Plain.{fed, begun, plains, plainCall, row, tries, wordsOf}
 use Rattle.calls.specs.Whole.{Whole}
-use Rattle.calls.specs.Refusals.{or-false}
 use Rattle.calls.specs.Demand.{whole-sweep}
 
 -- X is a suspect for the factor f, from 0 to 6, if X + f is a multiple of 7.
@@ -77,6 +78,7 @@ end = record { factor = 2; first = 81; last = 127; next = 127; finished = true }
 
 -- 31 comes before 17.
 new-refused : newState toy 7 127 81 ≡ refused 31
+unfolding answer
 new-refused = refl
 
 -- The cap stops the first call, at 96.

@@ -8,8 +8,9 @@ use lib.ListN.{length, take, drop}
 use lib.Seq.{slice}
 use Rattle.marks.specs.declared.Mark.{Mark}
 use Rattle.marks.specs.declared.Mark.the-variants.{Open, Wrong}
+use Rattle.marks.specs.Answers.{Outcome, refused, accepted}
 use Rattle.calls.specs.Engine.{Engine}
-use Rattle.calls.specs.State.{Outcome, refused, accepted, State, Call}
+use Rattle.calls.specs.State.{State, Call}
 use Rattle.calls.specs.Call.{Result, Reply}
 use Rattle.calls.specs.Plain.{span, wordsOf, Fed, fed, Plain, begun, untried, Told, Seen, plains, plainAfter}
 use Rattle.calls.specs.ByRow.{starts, roundsFrom, rowAhead}

@@ -9,6 +9,7 @@ use lib.Ieee.{binary32, ofBits}
 use lib.ListN.{length}
 use lib.Seq.{sets}
 use borrow.Author.Tests.{lt-ltb, le-ltb}
+use Rattle.marks.specs.Answers.{Outcome}
 use Rattle.factor.specs.declared.Factor.{Factor}
 use Rattle.factor.specs.declared.SetUp.{SetUp}
 use Rattle.factor.specs.SetUp.{setUp}
@@ -16,7 +17,7 @@ use Rattle.product.specs.declared.ProductAnswer.{ProductAnswer}
 use Rattle.product.specs.Answer.{multiplied}
 use Rattle.reading.specs.declared.ReadingAnswer.{ReadingAnswer}
 use Rattle.reading.specs.Reading.{applied}
-use Rattle.calls.specs.State.{Outcome, State, newState}
+use Rattle.calls.specs.State.{State, newState}
 use Rattle.calls.specs.Call.{Reply, sweepCall}
 use Rattle.sweep.specs.Engine.{engine}
 use Rattle.sweep.specs.Answers.{callOf}

@@ -7,6 +7,7 @@ use lib.IntN.{ℤ}
 use lib.ListN.{length}
 use lib.Seq.{sets}
 use lib.Ieee.{binary32, toBits, ofBits}
+use Rattle.marks.specs.Answers.{Outcome, refused, accepted}
 use Rattle.factor.specs.declared.Factor.{Factor}
 use Rattle.factor.specs.declared.SetUp.{SetUp}
 use Rattle.factor.specs.SetUp.{setUp}
@@ -14,7 +15,7 @@ use Rattle.product.specs.declared.ProductAnswer.{ProductAnswer}
 use Rattle.product.specs.Answer.{multiplied}
 use Rattle.reading.specs.declared.ReadingAnswer.{ReadingAnswer}
 use Rattle.reading.specs.Reading.{applied}
-use Rattle.calls.specs.State.{Outcome, accepted, refused, State, newState}
+use Rattle.calls.specs.State.{State, newState}
 use Rattle.calls.specs.Call.{Result, Reply, sweepCall}
 use Rattle.sweep.specs.Engine.{engine}
 use Rattle.sweep.specs.Answers.{callOf}

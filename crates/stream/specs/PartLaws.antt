@@ -8,10 +8,11 @@ use lib.ListN.{length, take}
 use lib.Seq.{sets, length-sets}
 use borrow.Author.Tests.{le-ltb}
 use Rattle.marks.specs.declared.Mark.{Mark}
+use Rattle.marks.specs.Answers.{none, judged, Outcome, refused, accepted}
 use Rattle.factor.specs.declared.Factor.{Factor}
 use Rattle.search.specs.declared.Place.{Place}
 use Rattle.search.specs.declared.Place.the-variants.{At, Nowhere}
-use Rattle.calls.specs.State.{none, judged, Outcome, refused, accepted, State}
+use Rattle.calls.specs.State.{State}
 use Rattle.calls.specs.Call.{conditions, handed, Result, Reply, sweepCall}
 use Rattle.calls.specs.Plain.{wordsOf}
 use Rattle.calls.specs.ByRow.{headOf, rowRun}
@@ -107,6 +108,7 @@ codeOf s = record { factor = s .factor; first = s .first; last = s .last; next =
 
 module _ (s : SweepState) (g : Going s) (list : List ℕ) (size : length list ≡ listSize) where
   not-refused : judged (conditions engine (viewOf s) (callOf noCap list 0)) ≡ none
+  unfolding judged
   not-refused = rw (g .whole, g .inside, le-ltb (s .next) (s .first) (g .from), le-ltb (s .last) (s .next) (g .upto), g .going, size)
 
   few-words : length (wordsBy s) ≤ listSize

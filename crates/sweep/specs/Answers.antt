@@ -1,8 +1,9 @@
 -- Definitions: what the code's states and answers say, in document 01's numbers and values. Assumes nothing.
 use mathlib.Core.List.{List}
 use Prim.Native.Nat.{ℕ}
+use Rattle.marks.specs.Answers.{Refusal, number, none, Outcome, refused, accepted}
 use Rattle.factor.specs.declared.Factor.{Factor}
-use Rattle.calls.specs.State.{Refusal, number, none, Outcome, refused, accepted, State, Call}
+use Rattle.calls.specs.State.{State, Call}
 use Rattle.calls.specs.Call.{Result, Reply}
 use Rattle.sweep.specs.declared.SweepState.{SweepState}
 use Rattle.sweep.specs.declared.NewSweep.{NewSweep}

@@ -8,6 +8,7 @@ use native.Mathlib.Omega.{arith}
 use lib.Dec.{ltb}
 use borrow.Author.Tests.{ltb-false}
 use Rattle.marks.specs.declared.Mark.the-variants.{Right}
+use Rattle.marks.specs.AnswerLaws.{or-false}
 use Rattle.rounding.specs.Grid.{toEven}
 use Rattle.rounding.specs.RoundLaws.{HasBits}
 use Rattle.factor.specs.declared.Parts.{Parts}
@@ -23,7 +24,6 @@ use Rattle.suspects.specs.Suspects.{Suspect}
 use Rattle.suspects.specs.Window.{suspect-iff, not-right-suspect}
 use Rattle.suspects.specs.NextLaws as next
 use Rattle.calls.specs.Engine.{Half, low, high, halfOf, Lawful}
-use Rattle.calls.specs.Refusals.{or-false}
 use Rattle.sweep.specs.Engine.{suspect, rangeOut, findIn, mostRounds, engine}
 
 -- A factor that 31 does not refuse is sound.

@@ -11,15 +11,17 @@ use lib.ListN.{length}
 use lib.Seq.{sets}
 use borrow.Author.Tests.{eqb-true, eqb-false}
 use Rattle.marks.specs.declared.Mark.{Mark}
+use Rattle.marks.specs.Answers.{accepted}
+use Rattle.marks.specs.AnswerLaws.{or-false}
 use Rattle.search.specs.declared.Place.{Place}
 use Rattle.search.specs.declared.Place.the-variants.{At, Nowhere}
 use Rattle.search.specs.declared.Found.{Found}
 use Rattle.factor.specs.declared.Factor.{Factor}
 use Rattle.factor.specs.SetUp.{Sound}
 use Rattle.suspects.specs.declared.Halves.{Halves}
-use Rattle.calls.specs.State.{accepted, State, Call, listed}
+use Rattle.calls.specs.State.{State, Call, listed}
 use Rattle.calls.specs.Call.{Reply, ahead, handed, sweepCall}
-use Rattle.calls.specs.Refusals.{Ready, ready, or-false}
+use Rattle.calls.specs.Refusals.{Ready, ready}
 use Rattle.calls.specs.Loop as calls
 use Rattle.calls.specs.Loop.{Looping}
 use Rattle.sweep.specs.declared.SweepState.{SweepState}

@@ -3,9 +3,10 @@ use mathlib.Core.Path.{_≡_}
 use mathlib.Core.Bool.{true, false}
 use Prim.Native.Nat.{ℕ, _≤_, _<_}
 use borrow.Author.Tests.{eq-eqb, ne-eqb, le-leb, lt-leb}
+use Rattle.marks.specs.Answers.{number, none, refused, accepted, answer}
 use Rattle.factor.specs.declared.Factor.{Factor}
 use Rattle.factor.specs.SetUp.{intact}
-use Rattle.calls.specs.State.{number, none, refused, accepted, fresh, newState, outOfRange}
+use Rattle.calls.specs.State.{fresh, newState, outOfRange}
 use Rattle.sweep.specs.declared.SweepState.{SweepState}
 use Rattle.sweep.specs.Engine.{rangeOut, engine}
 use Rattle.sweep.specs.Answers.{viewOf}
@@ -46,10 +47,13 @@ module _ (s : SweepState) (cap size free : ℕ) where
 
 module _ (f : Factor) (first last : ℕ) where
   pub new-31 : intact f ≡ false → refused 31 ≡ newState engine f first last
+  unfolding answer
   new-31 a = rw a
 
   pub new-17 : intact f ≡ true → rangeOut (f .precision .bits) first last ≡ true → refused 17 ≡ newState engine f first last
+  unfolding answer
   new-17 a b = rw (a, b)
 
   pub new-accepted : intact f ≡ true → rangeOut (f .precision .bits) first last ≡ false → accepted (fresh f first last) ≡ newState engine f first last
+  unfolding answer
   new-accepted a b = rw (a, b)

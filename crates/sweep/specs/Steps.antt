@@ -5,6 +5,7 @@ use mathlib.Core.List.{[], _∷_, _++_}
 use Prim.Native.Nat.{ℕ, suc, _≤_}
 use lib.Dec.{eqb, leb, ltb}
 use Rattle.marks.specs.declared.Mark.{Mark}
+use Rattle.marks.specs.Answers.{Refusal, none, judged}
 use Rattle.search.specs.declared.Place.{Place}
 use Rattle.search.specs.declared.Place.the-variants.{At, Nowhere}
 use Rattle.search.specs.declared.Found.{Found}
@@ -14,7 +15,7 @@ use Rattle.suspects.specs.declared.Sought.{Sought}
 use Rattle.suspects.specs.declared.Halves.{Halves}
 use Rattle.suspects.specs.Next.{nextIn}
 use Rattle.calls.specs.Engine.{lowEnd}
-use Rattle.calls.specs.State.{Refusal, none, judged, faults}
+use Rattle.calls.specs.State.{faults}
 use Rattle.calls.specs.Call.{within, orElse, highStart, ahead}
 use Rattle.sweep.specs.declared.SweepState.{SweepState}
 use Rattle.sweep.specs.declared.Event.{Event}
@@ -72,6 +73,7 @@ pub record Stepping (s : SweepState) (h : Halves) (a : ℕ) : Type 0 where
 
 -- the refusal of a call with a list of that size
 unfoldable pub judgedBy : SweepState → (cap size free : ℕ) → Refusal
+unfolding judged
 judgedBy s cap size free = judged (faults engine (viewOf s) ++ (33, s .finished) ∷ (18, eqb cap 0) ∷ (19, leb size free) ∷ [])
 
 -- a call on a list of that size, all of it free, is not refused

@@ -8,12 +8,14 @@ use lib.ListN.{length, take, drop, length-drop}
 use lib.Seq.{sets, take-length}
 use borrow.Author.Tests.{lt-leb}
 use borrow.Rule.Slice.PartMut.{putMid, midOf}
+use Rattle.marks.specs.Answers.{Refusal, number, none, judged, Outcome, refused, accepted}
+use Rattle.marks.specs.AnswerLaws.{judged-none}
 use Rattle.factor.specs.declared.Factor.{Factor}
-use Rattle.calls.specs.State.{Refusal, number, none, judged, Outcome, refused, accepted, faults, Call}
+use Rattle.calls.specs.State.{faults, Call}
 use Rattle.calls.specs.Call.{Result, Reply, conditions, Run, run, runOf, handed, replied, sweepCall}
 use Rattle.calls.specs.Plain.{tries}
 use Rattle.calls.specs.ByRow.{rowRun, rowAhead}
-use Rattle.calls.specs.Refusals.{judged-none, ready, call-refused}
+use Rattle.calls.specs.Refusals.{ready, call-refused}
 use Rattle.calls.specs.Tries.{words-fit}
 use Rattle.calls.specs.Lists.{put-tail}
 use Rattle.calls.specs.One.{by-row}

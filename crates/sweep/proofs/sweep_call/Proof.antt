@@ -4,8 +4,8 @@ use Prim.Native.Nat.{_-_, _^_, _≤_, _<_}
 use native.Mathlib.Omega.{arith}
 use lib.ListN.{length}
 use borrow.Author.Needs.{needs}
+use Rattle.marks.specs.Answers.{none}
 use Rattle.factor.specs.declared.Factor.{Factor}
-use Rattle.calls.specs.State.{none}
 use Rattle.calls.specs.Call.{Reply, sweepCall}
 use Rattle.sweep.specs.declared.SweepAnswer.{SweepAnswer}
 use Rattle.sweep.specs.Engine.{engine}

@@ -7,8 +7,9 @@ use lib.ListN.{length}
 use lib.Seq.{sets}
 use borrow.Rule.Slice.PartMut.{putMid, midOf}
 use borrow.Author.Needs.{needs}
+use Rattle.marks.specs.Answers.{accepted}
 use Rattle.factor.specs.declared.Factor.{Factor}
-use Rattle.calls.specs.State.{accepted, State, listed}
+use Rattle.calls.specs.State.{State, listed}
 use Rattle.calls.specs.Call.{Reply}
 use Rattle.calls.specs.Lists.{put-tail}
 use Rattle.calls.specs.Tries.{listed-few}
