@@ -15,8 +15,8 @@ use Rattle.product.specs.declared.ProductAnswer.{ProductAnswer}
 use Rattle.product.specs.Answer.{multiplied}
 use Rattle.reading.specs.declared.ReadingAnswer.{ReadingAnswer}
 use Rattle.reading.specs.Reading.{applied}
-use Rattle.calls.specs.State.{State, newState}
-use Rattle.calls.specs.Call.{Result, Reply, sweepCall}
+use Rattle.calls.specs.State.{State}
+use Rattle.calls.specs.Call.{newState, Result, Reply, sweepCall}
 use Rattle.sweep.specs.Engine.{engine}
 use Rattle.sweep.specs.Answers.{callOf}
 use Rattle.exports.specs.Words.{factorLength, factorFrom, factorWords, stateLength, stateFrom, stateWords}

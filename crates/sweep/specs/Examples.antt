@@ -16,8 +16,8 @@ use Rattle.product.specs.Product.{product}
 use Rattle.product.specs.Marks.{mark}
 use Rattle.search.specs.Search.{ceilDiv, negMod, test, placeAfter, afterRound, searchWithin, searchWindow, shift, searchFrom}
 use Rattle.suspects.specs.Next.{nextIn, firstHigh}
-use Rattle.calls.specs.State.{State, newState}
-use Rattle.calls.specs.Call.{Reply, ahead, run, sweepCall}
+use Rattle.calls.specs.State.{State}
+use Rattle.calls.specs.Call.{newState, Reply, ahead, run, sweepCall}
 use Rattle.sweep.specs.Engine.{engine}
 use Rattle.sweep.specs.Answers.{callOf}
 
