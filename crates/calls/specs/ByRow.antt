@@ -1,13 +1,14 @@
 -- Definitions: a sweep call read off the row of suspects from the next significand on. It says where each search starts, so that a call's rounds are given a second time.
 use mathlib.Core.Bool.{Bool, true, _&&_}
 use mathlib.Core.List.{List, [], _∷_, _++_}
-use Prim.Native.Nat.{ℕ, zero, suc, _+_, _-_}
+use Prim.Native.Nat.{ℕ, zero, suc, _+_}
 use lib.Dec.{leb, ltb}
 use lib.ListN.{length, take, drop}
+use Rattle.marks.specs.Answers.{judged}
 use Rattle.search.specs.declared.Place.{Place}
 use Rattle.search.specs.declared.Place.the-variants.{At, Nowhere}
+use Rattle.calls.specs.State.{State, Call, termsOf, roomIn}
 use Rattle.calls.specs.Engine.{halfOf, Engine}
-use Rattle.calls.specs.State.{State, Call, judged}
 use Rattle.calls.specs.Call.{Reply, Run, conditions, replied}
 use Rattle.calls.specs.Plain.{keep, row, tries, wordsOf}
 
@@ -57,5 +58,6 @@ rowAhead suspect s = row (suspect (s .factor)) (s .next) (suc (s .last))
 -- A sweep call, read off the row: it tries as many as the plain sweep would.
 abbrev pub rowCall : {F : Type 0} → (F → ℕ → Bool) → Engine F → State F → Call → Reply F
 rowCall suspect e s c =
-    replied s c (judged (conditions e s c))
-    (rowRun e (s .factor) (s .last) (s .next) (tries (e .mark (s .factor)) (c .cap) (length (c .list) - c .free) (rowAhead suspect s)) (rowAhead suspect s))
+    let l = e .listing (s .factor) in
+    let tried = tries (e .mark (s .factor)) (c .cap) (roomIn l (length (c .list)) (c .free)) (rowAhead suspect s) in
+    replied l s c (judged (conditions e s (termsOf c))) (rowRun e (s .factor) (s .last) (s .next) tried (rowAhead suspect s))

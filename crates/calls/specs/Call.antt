@@ -1,18 +1,27 @@
--- Definitions: a sweep call, by searches (document 01, "A sweep"), for every state, also one that no calls lead to. What stands in quotes is document 01's.
+-- Definitions: a new state and a sweep call, by searches (document 01, "A sweep"), for every state, also one that no calls lead to. What stands in quotes is document 01's.
 use mathlib.Core.Bool.{Bool, true, false, cond}
 use mathlib.Core.List.{List, [], _∷_, _++_}
 use Prim.Native.Nat.{ℕ, zero, suc, _+_, _-_, max}
-use lib.Dec.{eqb, leb, ltb}
+use lib.Dec.{ltb}
 use lib.ListN.{length}
 use lib.Seq.{sets}
 use Rattle.marks.specs.declared.Mark.{Mark}
+use Rattle.marks.specs.Answers.{Refusal, number, none, judged, Outcome, refused, accepted, answer}
 use Rattle.search.specs.declared.Place.{Place}
 use Rattle.search.specs.declared.Place.the-variants.{At, Nowhere}
 use Rattle.search.specs.declared.Found.{Found}
+use Rattle.calls.specs.State.{State, fresh, Call, Terms, termsOf, listed, Listing, entries, roomIn}
 use Rattle.calls.specs.Engine.{Half, low, high, lowEnd, Engine}
-use Rattle.calls.specs.State.{Refusal, number, none, judged, Outcome, refused, accepted, State, faults, Call, listed}
 
--- ---- replies and refusals
+-- ---- refusals and replies
+
+-- A new state, or its refusal.
+abbrev pub newState : {F : Type 0} → Engine F → F → ℕ → ℕ → Outcome (State F)
+newState e f first last = answer (e .newFaults f first last) (fresh f first last)
+
+-- The conditions that refuse a call: "State comes before input; within a list the smaller number comes first".
+abbrev pub conditions : {F : Type 0} → Engine F → State F → Terms → List (ℕ × Bool)
+conditions e s t = e .faults s ++ (33, s .finished) ∷ e .listing (s .factor) .refuses t
 
 -- "The call returns its trials and rounds as numbers. It also returns the place after the last word written, which is the next first free place."
 pub record Result : Type 0 where
@@ -20,20 +29,15 @@ pub record Result : Type 0 where
   pub rounds : ℕ
   pub place : ℕ
 
--- What a call returns, and the caller's list as it then is.
-pub record Reply (F : Type 0) : Type 0 where
+-- What a call returns, and the caller's list as it then is. S is the type of states.
+pub record ReplyOf (S : Type 0) : Type 0 where
   pub answer : Outcome Result
-  pub state : State F
+  pub state : S
   pub list : List ℕ
 
--- The conditions that refuse a call: "State comes before input; within a list the smaller number comes first".
-abbrev pub conditions : {F : Type 0} → Engine F → State F → Call → List (ℕ × Bool)
-conditions e s c =
-    faults e s
-    ++ (33, s .finished)
-    ∷ (18, eqb (c .cap) 0)
-    ∷ (19, leb (length (c .list)) (c .free))
-    ∷ []
+-- What a sweep call returns.
+abbrev pub Reply : Type 0 → Type 0
+Reply F = ReplyOf (State F)
 
 -- ---- the searches
 
@@ -95,7 +99,7 @@ searched w go =
     let r = met (w .place) go in
     record { trials = r .trials; rounds = w .rounds + r .rounds; words = r .words; left = r .left }
 
--- What a call does from a on, with a cap and a number of free places.
+-- What a call does from a on, with a cap and room for a number of entries.
 -- "Before each suspect is tried, the call stops if the cap is reached or no place is free".
 unfoldable pub run : {F : Type 0} → Engine F → F → (last cap free a : ℕ) → Run
 run e f last zero free a = searched (ahead e f last a) stopped
@@ -110,20 +114,21 @@ abbrev pub handed : {F : Type 0} → State F → Place → State F
 handed s (At X) = record { factor = s .factor; first = s .first; last = s .last; next = X; finished = false }
 handed s Nowhere = record { factor = s .factor; first = s .first; last = s .last; next = s .last; finished = true }
 
--- "A refusal returns the number, the state as given, no counts. The list is untouched." An accepted call writes its words from the first free place on.
-abbrev pub replied : {F : Type 0} → State F → Call → Refusal → Run → Reply F
-replied s c (number n) r = record { answer = refused n; state = s; list = c .list }
-replied s c none r =
+-- "A refusal returns the number, the state as given, no counts. The list is untouched." An accepted call writes the entries of its words from the first free place on.
+abbrev pub replied : {F : Type 0} → Listing → State F → Call → Refusal → Run → Reply F
+replied l s c (number n) r = record { answer = refused n; state = s; list = c .list }
+replied l s c none r =
     record {
-      answer = accepted (record { trials = r .trials; rounds = r .rounds; place = c .free + length (r .words) });
+      answer = accepted (record { trials = r .trials; rounds = r .rounds; place = c .free + length (entries l (r .words)) });
       state = handed s (r .left);
-      list = sets (c .list) (c .free) (r .words);
+      list = sets (c .list) (c .free) (entries l (r .words));
     }
 
--- What a call does on a state, where nothing refuses it.
+-- What a call does on a state, where nothing refuses it: it has room for as many entries as the free places hold.
 abbrev pub runOf : {F : Type 0} → Engine F → State F → Call → Run
-runOf e s c = run e (s .factor) (s .last) (c .cap) (length (c .list) - c .free) (s .next)
+runOf e s c = run e (s .factor) (s .last) (c .cap) (roomIn (e .listing (s .factor)) (length (c .list)) (c .free)) (s .next)
 
 -- A sweep call.
 unfoldable pub sweepCall : {F : Type 0} → Engine F → State F → Call → Reply F
-sweepCall e s c = replied s c (judged (conditions e s c)) (runOf e s c)
+unfolding judged entries
+sweepCall e s c = replied (e .listing (s .factor)) s c (judged (conditions e s (termsOf c))) (runOf e s c)

@@ -9,38 +9,40 @@ use native.Mathlib.Nat.{zero-add, mul-one}
 use lib.ListN.{length, take}
 use Rattle.marks.specs.declared.Mark.{Mark}
 use Rattle.marks.specs.declared.Mark.the-variants.{Right, Open, Wrong}
+use Rattle.marks.specs.Answers.{NoneHolds, accepted}
+use Rattle.marks.specs.AnswerLaws.{only-accepted}
+use Rattle.calls.specs.State.{State, fresh, Call, Listing, entries}
 use Rattle.calls.specs.Engine.{Engine, Laws, Lawful}
-use Rattle.calls.specs.State.{Refusal, number, none, judged, unless, accepted, State, fresh, newConditions, newState, Call}
-use Rattle.calls.specs.Call.{Reply, sweepCall}
-use Rattle.calls.specs.Plain.{wordsOf, Fed, Plain, begun, untried, plains, plainAfter}
+use Rattle.calls.specs.Call.{ReplyOf, newState, sweepCall}
+use Rattle.calls.specs.Plain.{wordsOf, Fed, Plain, begun, untried, stateOf, plains, plainAfter}
 use Rattle.calls.specs.Whole.{sweeps, stateAfter, Each, trialsIn, wordsIn, acceptedIn, endOf, fedBy, Whole}
-use Rattle.calls.specs.Refusals.{judged-none}
 use Rattle.calls.specs.One.{list-kept, rounds-right, ample}
 use Rattle.calls.specs.Same.{sweeps-same, after-same}
 use Rattle.calls.specs.Sums.{trials-add, words-join}
 use Rattle.calls.specs.Finish.{AllRoomy, Count, counted, closes}
 use Rattle.calls.specs.Words.{holds, stop-from, words-before}
 
-each : {F : Type 0} (P : State F → Call → Reply F → Type 0) (call : State F → Call → Reply F) → ((s : State F) (c : Call) → P s c (call s c)) → (s : State F) (calls : List Call)
+-- What holds of a call on every state holds of each call of a list.
+pub each : {S : Type 0} (P : S → Call → ReplyOf S → Type 0) (call : S → Call → ReplyOf S) → ((s : S) (c : Call) → P s c (call s c)) → (s : S) (calls : List Call)
     → Each P call s calls
 each P call h s [] = tt
 each P call h s (c ∷ cs) = (h s c, each P call h (call s c .state) cs)
 
--- every call that may be accepted has a cap and free places of at least 1
-roomy-one : (calls : List Call) → AllRoomy 1 calls
-roomy-one [] = tt
-roomy-one (c ∷ cs) = ((λ a b. omega arith), roomy-one cs)
+-- Every call that may be accepted has a cap and room of at least 1.
+pub roomy-one : (l : Listing) (calls : List Call) → AllRoomy l 1 calls
+roomy-one l [] = tt
+roomy-one l (c ∷ cs) = ((λ a b. (a, b)), roomy-one l cs)
 
--- what is no suspect is right
-not-suspect : (m : Mark) (t : Bool) → (m ≢ Right → t ≡ true) → t ≡ false → m ≡ Right
+-- What is no suspect is right.
+pub not-suspect : (m : Mark) (t : Bool) → (m ≢ Right → t ≡ true) → t ≡ false → m ≡ Right
 not-suspect Right t q h = refl
 not-suspect Open t q h = absurd (true≢false (sym (q (λ z. let u : _≡_ {A = ℕ} 0 1 = cc in omega arith)) ∙ h))
 not-suspect Wrong t q h = absurd (true≢false (sym (q (λ z. let u : _≡_ {A = ℕ} 0 1 = cc in omega arith)) ∙ h))
 
 module _ {F : Type 0} {suspect : F → ℕ → Bool} {e : Engine F} {B : F → ℕ} (lawful : Lawful suspect e B) where
-  module _ (f : F) (first last : ℕ) (sound : e .faulty f ≡ false) (inside : e .badRange f first last ≡ false) (calls : List Call) where
+  module _ (f : F) (first last : ℕ) (sound : NoneHolds (e .newFaults f first last)) (calls : List Call) where
     abbrev laws : Laws (suspect f) e f (B f) first last
-    laws = lawful f first last sound inside
+    laws = lawful .laws f first last sound
 
     abbrev s : State F
     s = fresh f first last
@@ -51,28 +53,28 @@ module _ {F : Type 0} {suspect : F → ℕ → Bool} {e : Engine F} {B : F → �
     abbrev p : Plain
     p = plainAfter w (begun w) calls
 
-    alike : sweeps (sweepCall e) s calls ≡ plains w (begun w) calls
-    alike = sweeps-same lawful f first last sound inside calls
+    alike : sweeps (sweepCall e) s calls ≡ plains (stateOf w) w (begun w) calls
+    alike = sweeps-same lawful f first last sound calls
 
     finished-alike : stateAfter (sweepCall e) s calls .finished ≡ p .finished
-    finished-alike = ap (λ (s : State F). s .finished) (after-same lawful f first last sound inside calls)
+    finished-alike = ap (λ (s : State F). s .finished) (after-same lawful f first last sound calls)
 
     trials-are : trialsIn (sweeps (sweepCall e) s calls) ≡ p .tried
-    trials-are = rw alike (sym (zero-add _) ∙ trials-add w calls (begun w))
+    trials-are = rw alike (sym (zero-add _) ∙ trials-add (stateOf w) w calls (begun w))
 
-    words-are : wordsIn (sweeps (sweepCall e) s calls) ≡ wordsOf (e .mark f) (take (p .tried) (w .suspects))
-    unfolding wordsOf
-    words-are = rw alike (words-join w calls (begun w))
+    words-are : wordsIn (sweeps (sweepCall e) s calls) ≡ entries (w .listing) (wordsOf (e .mark f) (take (p .tried) (w .suspects)))
+    unfolding wordsOf entries
+    words-are = rw alike (words-join (stateOf w) w calls (begun w))
 
     -- the accepted calls
     abbrev n : ℕ
     n = acceptedIn (sweeps (sweepCall e) s calls)
 
-    count : (m : ℕ) → AllRoomy m calls → Count (length (w .suspects)) m p n
-    count m roomy = rw alike (counted w m calls roomy)
+    count : (m : ℕ) → AllRoomy (w .listing) m calls → Count (length (w .suspects)) m p n
+    count m roomy = rw alike (counted (stateOf w) w (laws .lists) m calls roomy)
 
-    -- Where each call that may be accepted has a cap and free places of at least m, n accepted calls finish a sweep of at most n × m suspects.
-    pub finished-by : (m : ℕ) → AllRoomy m calls → 1 ≤ n → length (w .suspects) ≤ n * m → stateAfter (sweepCall e) s calls .finished ≡ true
+    -- Where each call that may be accepted has a cap and room of at least m, n accepted calls finish a sweep of at most n × m suspects.
+    pub finished-by : (m : ℕ) → AllRoomy (w .listing) m calls → 1 ≤ n → length (w .suspects) ≤ n * m → stateAfter (sweepCall e) s calls .finished ≡ true
     finished-by m roomy a h = finished-alike ∙ closes (count m roomy) a (λ u v. omega arith)
 
     clear : (X : ℕ) → first ≤ X → X ≤ last → suspect f X ≡ false → e .mark f X ≡ Right
@@ -84,26 +86,26 @@ module _ {F : Type 0} {suspect : F → ℕ → Bool} {e : Engine F} {B : F → �
           same = alike;
           lists = each _ (sweepCall e) (list-kept lawful) s calls;
           words =
-              holds (e .mark f) first (endOf last (untried w p)) (wordsIn (sweeps (sweepCall e) s calls))
-              (stop-from (suspect f) (e .mark f) first last clear first (p .tried) (omega (arith, laws .ordered)))
-              (words-are ∙ words-before (suspect f) (e .mark f) first last clear (p .tried) (laws .ordered));
+              record {
+                listed = wordsOf (e .mark f) (take (p .tried) (w .suspects));
+                are = words-are;
+                holds =
+                    holds (e .mark f) first (endOf last (untried w p)) (wordsOf (e .mark f) (take (p .tried) (w .suspects)))
+                    (stop-from (suspect f) (e .mark f) first last clear first (p .tried) (omega (arith, laws .ordered)))
+                    (words-before (suspect f) (e .mark f) first last clear (p .tried) (laws .ordered));
+              };
           trials = trials-are;
           finished = (
-            (λ h. let k = count 1 (roomy-one calls) .closed (sym finished-alike ∙ h) in (k .0, trials-are ∙ k .1)),
-            (λ h. finished-alike ∙ closes (count 1 (roomy-one calls)) (h .0) (λ u v. omega (arith, trials-are))),
+            (λ h. let k = count 1 (roomy-one (w .listing) calls) .closed (sym finished-alike ∙ h) in (k .0, trials-are ∙ k .1)),
+            (λ h. finished-alike ∙ closes (count 1 (roomy-one (w .listing) calls)) (h .0) (λ u v. omega (arith, trials-are))),
           );
-          latest = λ h. finished-by 1 (roomy-one calls) (omega arith) (omega (arith, mul-one n));
+          latest = λ h. finished-by 1 (roomy-one (w .listing) calls) (omega arith) (omega (arith, mul-one n));
           rounds = each _ (sweepCall e) (rounds-right lawful) s calls;
           ample = each _ (sweepCall e) (ample lawful) s calls;
         }
 
   -- Demand 3: the list begins with a new state, over a factor and a range that are not refused.
   pub whole-sweep : (f : F) (first last : ℕ) (s : State F) → newState e f first last ≡ accepted s → (calls : List Call) → Whole suspect e B (sweepCall e) s calls
-  whole-sweep f first last s q calls = go (judged (newConditions e f first last)) refl q
-    where
-      go : (v : Refusal) → judged (newConditions e f first last) ≡ v → unless v (fresh f first last) ≡ accepted s → Whole suspect e B (sweepCall e) s calls
-      go (number n) j k = let z : _≡_ {A = ℕ} 0 1 = cc in absurd (omega arith)
-      go none j k =
-          let good = judged-none (newConditions e f first last) [] j .0 in
-          let i : fresh f first last ≡ s = cc in
-          rw (← i) (from-fresh f first last (good .0) (good .1 .0) calls)
+  whole-sweep f first last s q calls =
+      let good = only-accepted (e .newFaults f first last) (fresh f first last) s q in
+      rw (← good .1) (from-fresh f first last (good .0) calls)

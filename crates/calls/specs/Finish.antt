@@ -6,20 +6,22 @@ use Prim.Native.Nat.{ℕ, suc, _+_, _-_, _*_, _≤_, _<_, min}
 use native.Mathlib.Omega.{arith}
 use native.Mathlib.Nat.{add-zero, zero-add, add-assoc, add-mul, one-mul, zero-mul}
 use lib.ListN.{length, drop, length-drop}
-use Rattle.calls.specs.State.{Refusal, number, none, Call}
+use Rattle.marks.specs.Answers.{Refusal, number, none}
+use Rattle.calls.specs.State.{Call, termsOf, Listing, roomIn}
+use Rattle.calls.specs.Engine.{ListingLaws}
 use Rattle.calls.specs.Plain.{tries, Fed, Plain, begun, untried, moved, plainReplied, plainRefusal, plainCall, plainNext, plains, plainAfter}
 use Rattle.calls.specs.Whole.{acceptedTold, acceptedIn}
 use Rattle.calls.specs.Refusals.{taken}
 use Rattle.calls.specs.Tries.{tries-within, tries-ample}
 
--- A call that may be accepted has a cap and free places of at least m.
-abbrev pub Roomy : ℕ → Call → Type 0
-Roomy m c = 0 < c .cap → c .free < length (c .list) → (m ≤ c .cap) × (m ≤ length (c .list) - c .free)
+-- A call that may be accepted has a cap and room of at least m.
+abbrev pub Roomy : Listing → ℕ → Call → Type 0
+Roomy l m c = 0 < c .cap → 0 < roomIn l (length (c .list)) (c .free) → (m ≤ c .cap) × (m ≤ roomIn l (length (c .list)) (c .free))
 
 -- Each call of a list is such.
-abbrev pub AllRoomy : ℕ → List Call → Type 0
-AllRoomy m [] = Unit {0}
-AllRoomy m (c ∷ cs) = Roomy m c × AllRoomy m cs
+abbrev pub AllRoomy : Listing → ℕ → List Call → Type 0
+AllRoomy l m [] = Unit {0}
+AllRoomy l m (c ∷ cs) = Roomy l m c × AllRoomy l m cs
 
 -- After n accepted calls: finished with all of the row tried, or going on, with at least m tried in each of them and some of the row left.
 pub record Count (total m : ℕ) (p : Plain) (n : ℕ) : Type 0 where
@@ -47,37 +49,40 @@ count-moved total m last n t k l (x ∷ r) a b d g h e =
       going = λ q. (omega (arith, one-more n m), λ i. omega arith);
     }
 
-module _ {F : Type 0} (w : Fed F) (m : ℕ) where
-  count-next : (p : Plain) (n : ℕ) (c : Call) → Roomy m c → Count (length (w .suspects)) m p n
+module _ {F S : Type 0} (view : Plain → S) (w : Fed F) (lists : ListingLaws (w .listing)) (m : ℕ) where
+  count-next : (p : Plain) (n : ℕ) (c : Call) → Roomy (w .listing) m c → Count (length (w .suspects)) m p n
       → Count (length (w .suspects)) m (plainNext w p c .plain) (n + acceptedTold (plainNext w p c .told))
   unfolding plainCall
-  count-next p n c big count = go (plainRefusal (p .finished) (c .cap) (length (c .list)) (c .free)) refl
+  count-next p n c big count = go (plainRefusal (w .listing) (p .finished) (termsOf c)) refl
     where
       l : List ℕ
       l = untried w p
 
-      k : ℕ
-      k = tries (w .mark) (c .cap) (length (c .list) - c .free) l
+      room : ℕ
+      room = roomIn (w .listing) (length (c .list)) (c .free)
 
-      go : (v : Refusal) → plainRefusal (p .finished) (c .cap) (length (c .list)) (c .free) ≡ v
+      k : ℕ
+      k = tries (w .mark) (c .cap) room l
+
+      go : (v : Refusal) → plainRefusal (w .listing) (p .finished) (termsOf c) ≡ v
           → Count (length (w .suspects)) m (plainReplied w p (c .free) v k .plain) (n + acceptedTold (plainReplied w p (c .free) v k .told))
       go (number i) q = rw add-zero count
       go none q =
-          let ok = taken (p .finished) (c .cap) (length (c .list)) (c .free) q in
-          let room = big (ok .some) (ok .place) in
-          let most = tries-ample (w .mark) (min m (length l)) (c .cap) (length (c .list) - c .free) l (omega arith) (omega arith) (omega arith) in
+          let ok = taken lists (p .finished) (termsOf c) q in
+          let enough = big (ok .some) (ok .room) in
+          let most = tries-ample (w .mark) (min m (length l)) (c .cap) room l (omega arith) (omega arith) (omega arith) in
           count-moved (length (w .suspects)) m (w .last) n (p .tried) k l (drop k l) (count .going (ok .going) .0) (count .fits)
-          (length-drop (p .tried) (w .suspects)) (tries-within (w .mark) (c .cap) (length (c .list) - c .free) l) (λ s. omega arith) refl
+          (length-drop (p .tried) (w .suspects)) (tries-within (w .mark) (c .cap) room l) (λ s. omega arith) refl
 
-  counts : (calls : List Call) (p : Plain) (n : ℕ) → AllRoomy m calls → Count (length (w .suspects)) m p n
-      → Count (length (w .suspects)) m (plainAfter w p calls) (n + acceptedIn (plains w p calls))
+  counts : (calls : List Call) (p : Plain) (n : ℕ) → AllRoomy (w .listing) m calls → Count (length (w .suspects)) m p n
+      → Count (length (w .suspects)) m (plainAfter w p calls) (n + acceptedIn (plains view w p calls))
   unfolding plains plainAfter acceptedIn
   counts [] p n big count = rw add-zero count
   counts (c ∷ cs) p n big count =
       rw (← add-assoc n) (counts cs (plainNext w p c .plain) (n + acceptedTold (plainNext w p c .told)) (big .1) (count-next p n c (big .0) count))
 
-  -- Calls from the start of a plain sweep, each with a cap and free places of at least m.
-  pub counted : (calls : List Call) → AllRoomy m calls → Count (length (w .suspects)) m (plainAfter w (begun w) calls) (acceptedIn (plains w (begun w) calls))
+  -- Calls from the start of a plain sweep, each with a cap and room of at least m.
+  pub counted : (calls : List Call) → AllRoomy (w .listing) m calls → Count (length (w .suspects)) m (plainAfter w (begun w) calls) (acceptedIn (plains view w (begun w) calls))
   counted calls big = rw zero-add at (counts calls (begun w) 0 big start)
     where
       start : Count (length (w .suspects)) m (begun w) 0

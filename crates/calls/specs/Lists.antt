@@ -1,14 +1,54 @@
--- Laws of lists into which words are written from a place on. Assumes nothing.
+-- Laws of entries, and of lists into which words are written from a place on. Assumes nothing.
 use mathlib.Core.Path.{_≡_, refl, sym, ap, _∙_}
 use mathlib.Core.List.{List, [], _∷_, _++_, append-assoc, append-nil}
-use Prim.Native.Nat.{ℕ, suc, _+_, _-_, _≤_}
+use Prim.Native.Nat.{ℕ, suc, _+_, _-_, _*_, _/_, _≤_}
 use native.Mathlib.Omega.{arith}
-use native.Mathlib.Nat.{add-zero, add-suc, le-add-right}
+use native.Mathlib.Nat.{add-zero, add-suc, zero-mul, suc-mul, le-add-right, div-one, le-div-iff-mul-le, add-mul-div-right}
 use borrow.Rule.Slice.PartMut.{putMid, midOf}
 use lib.ListN.{length, set, take, drop, length-append, length-drop, take-append-drop}
 use lib.Seq.{sets, length-sets, sets-eq, slice, take-at, drop-at, length-take-le, take-set-le, drop-set-add, drop-length, take-length}
-use Rattle.calls.specs.State.{Call}
+use Rattle.calls.specs.State.{Call, Listing, entries, roomIn}
+use Rattle.calls.specs.Engine.{ListingLaws}
 use Rattle.calls.specs.Whole.{Tail}
+
+-- ---- entries
+
+-- The entries of joined words are those of the parts, joined.
+pub entries-append : (l : Listing) (v w : List ℕ) → entries l (v ++ w) ≡ entries l v ++ entries l w
+unfolding entries
+entries-append l [] w = refl
+entries-append l (x ∷ v) w = ap (λ (z : List ℕ). l .entry x ++ z) (entries-append l v w) ∙ sym (append-assoc (l .entry x) (entries l v) (entries l w))
+
+module _ {l : Listing} (laws : ListingLaws l) where
+  -- They take as many places each.
+  pub entries-length : (w : List ℕ) → length (entries l w) ≡ length w * l .places
+  unfolding entries
+  entries-length [] = sym (zero-mul (l .places))
+  entries-length (x ∷ w) = omega (arith, length-append (l .entry x) (entries l w), laws .long x, entries-length w, suc-mul (length w) (l .places))
+
+  module _ (size place : ℕ) (w : List ℕ) (h : length w ≤ roomIn l size place) where
+    -- As many as there is room for fit into the places.
+    pub entries-fit : length (entries l w) ≤ size - place
+    entries-fit = rw (entries-length w) (le-div-iff-mul-le {x = length w} (laws .some) .0 h)
+
+    -- Each takes its part of the room.
+    pub room-less : roomIn l size place - length w ≡ roomIn l size (place + length (entries l w))
+    room-less =
+        let k : ℕ = length (entries l w) in
+        let e : size - place ≡ size - (place + k) + length w * l .places = omega (arith, entries-fit, entries-length w) in
+        omega (arith, ap (λ (n : ℕ). n / l .places) e ∙ add-mul-div-right (size - (place + k)) (length w) (laws .some))
+
+-- Where an entry is its word and takes one place, the entries are the words.
+pub entries-plain : (l : Listing) → ((w : ℕ) → l .entry w ≡ w ∷ []) → (w : List ℕ) → entries l w ≡ w
+unfolding entries
+entries-plain l h [] = refl
+entries-plain l h (x ∷ w) = rw (h x, entries-plain l h w)
+
+-- and there is room for as many as there are free places.
+pub room-plain : (l : Listing) → l .places ≡ 1 → (size place : ℕ) → roomIn l size place ≡ size - place
+room-plain l h size place = rw h (div-one (size - place))
+
+-- ---- what is written
 
 -- What was written is read back.
 pub read-back : (l w : List ℕ) (i : ℕ) → i + length w ≤ length l → slice i (i + length w) (sets l i w) ≡ w

@@ -2,11 +2,11 @@
 use mathlib.Core.Bool.{Bool, true, false}
 use mathlib.Core.List.{List, [], _∷_, _++_}
 use Prim.Native.Nat.{ℕ, zero, suc, _+_, _-_}
-use lib.Dec.{eqb, leb}
 use lib.ListN.{length, take, drop}
 use Rattle.marks.specs.declared.Mark.{Mark}
 use Rattle.marks.specs.declared.Mark.the-variants.{Right, Open, Wrong}
-use Rattle.calls.specs.State.{Refusal, number, none, judged, Outcome, refused, accepted, State, Call, listed}
+use Rattle.marks.specs.Answers.{Refusal, number, none, judged, Outcome, refused, accepted}
+use Rattle.calls.specs.State.{State, Call, Terms, termsOf, listed, Listing, entries, roomIn}
 
 -- ---- the row
 
@@ -57,17 +57,19 @@ wordsOf mark (x ∷ l) = listed (mark x) x ++ wordsOf mark l
 
 -- ---- the sweep
 
--- What the plain sweep is fed, the factor and the range, with their marks and "the row of all suspects in range, ascending".
+-- What the plain sweep is fed, the factor and the range, with their marks, "the row of all suspects in range, ascending", and how lists are kept.
 pub record Fed (F : Type 0) : Type 0 where
   pub factor : F
   pub first : ℕ
   pub last : ℕ
   pub mark : ℕ → Mark
   pub suspects : List ℕ
+  pub listing : Listing
 
 -- The row and the marks of a factor and a range.
-abbrev pub fed : {F : Type 0} → (F → ℕ → Bool) → (F → ℕ → Mark) → F → ℕ → ℕ → Fed F
-fed suspect mark f first last = record { factor = f; first = first; last = last; mark = mark f; suspects = row (suspect f) first (suc last) }
+abbrev pub fed : {F : Type 0} → (F → ℕ → Bool) → (F → ℕ → Mark) → (F → Listing) → F → ℕ → ℕ → Fed F
+fed suspect mark listing f first last =
+    record { factor = f; first = first; last = last; mark = mark f; suspects = row (suspect f) first (suc last); listing = listing f }
 
 -- It has "the number of them tried", "the next significand" and "a finished mark".
 pub record Plain : Type 0 where
@@ -100,43 +102,50 @@ pub record PlainReply : Type 0 where
   pub told : Outcome Told
   pub plain : Plain
 
--- "A refusal changes nothing." Any other call tries the next k.
+-- "A refusal changes nothing." Any other call tries the next k, and its words are the entries of those that are not right.
 abbrev pub plainReplied : {F : Type 0} → Fed F → Plain → (free : ℕ) → Refusal → (k : ℕ) → PlainReply
 plainReplied w p free (number n) k = record { told = refused n; plain = p }
 plainReplied w p free none k =
-    let words = wordsOf (w .mark) (take k (untried w p)) in
+    let words = entries (w .listing) (wordsOf (w .mark) (take k (untried w p))) in
     record {
       told = accepted (record { trials = k; place = free + length words; words = words });
       plain = moved (w .last) (p .tried + k) (drop k (untried w p));
     }
 
--- "If it is finished, a call is refused with 33; otherwise cap 0 with 18; otherwise a first free place at or past the list's end with 19."
-abbrev pub plainRefusal : Bool → (cap size free : ℕ) → Refusal
-plainRefusal finished cap size free = judged ((33, finished) ∷ (18, eqb cap 0) ∷ (19, leb size free) ∷ [])
+-- "If it is finished, a call is refused with 33"; otherwise by the conditions on calls.
+abbrev pub plainRefusal : Listing → (finished : Bool) → Terms → Refusal
+plainRefusal l finished t = judged ((33, finished) ∷ l .refuses t)
 
--- A call of the plain sweep, fed its "cap, list length and first free place"; it has "f free places, f being the list's length less the first free place".
-unfoldable pub plainCall : {F : Type 0} → Fed F → Plain → (cap size free : ℕ) → PlainReply
-plainCall w p cap size free = plainReplied w p free (plainRefusal (p .finished) cap size free) (tries (w .mark) cap (size - free) (untried w p))
+-- A call of the plain sweep, fed its "cap, list length and first free place"; it has room for as many entries as the free places hold.
+unfoldable pub plainCall : {F : Type 0} → Fed F → Plain → Terms → PlainReply
+unfolding judged entries
+plainCall w p t =
+    plainReplied w p (t .free) (plainRefusal (w .listing) (p .finished) t) (tries (w .mark) (t .cap) (roomIn (w .listing) (t .size) (t .free)) (untried w p))
 
 -- ---- lists of calls
 
 -- What is compared of a call: "accepted, or the refusal's number; if accepted, the trials, the place returned and the words; and always the whole state handed back".
-pub record Seen (F : Type 0) : Type 0 where
+-- S is the type of states.
+pub record SeenOf (S : Type 0) : Type 0 where
   pub told : Outcome Told
-  pub state : State F
+  pub state : S
+
+-- What is compared of a sweep call.
+abbrev pub Seen : Type 0 → Type 0
+Seen F = SeenOf (State F)
 
 -- The plain sweep as a state, "whose factor and range are those fed in".
 abbrev pub stateOf : {F : Type 0} → Fed F → Plain → State F
 stateOf w p = record { factor = w .factor; first = w .first; last = w .last; next = p .next; finished = p .finished }
 
--- What the plain sweep makes of a call of which only cap, list length and first free place count.
+-- What the plain sweep makes of a call.
 abbrev pub plainNext : {F : Type 0} → Fed F → Plain → Call → PlainReply
-plainNext w p c = plainCall w p (c .cap) (length (c .list)) (c .free)
+plainNext w p c = plainCall w p (termsOf c)
 
--- What the plain sweep shows of each call of a list.
-unfoldable pub plains : {F : Type 0} → Fed F → Plain → List Call → List (Seen F)
-plains w p [] = []
-plains w p (c ∷ cs) = record { told = plainNext w p c .told; state = stateOf w (plainNext w p c .plain) } ∷ plains w (plainNext w p c .plain) cs
+-- What the plain sweep shows of each call of a list, with itself as a state of type S.
+unfoldable pub plains : {F S : Type 0} → (Plain → S) → Fed F → Plain → List Call → List (SeenOf S)
+plains view w p [] = []
+plains view w p (c ∷ cs) = record { told = plainNext w p c .told; state = view (plainNext w p c .plain) } ∷ plains view w (plainNext w p c .plain) cs
 
 -- The plain sweep after the calls of a list.
 unfoldable pub plainAfter : {F : Type 0} → Fed F → Plain → List Call → Plain

@@ -1,74 +1,68 @@
 -- Laws of the refusals: what a call and its state have where none is judged. Assumes nothing.
-use mathlib.Core.Path.{_≡_, refl}
-use mathlib.Core.Bool.{Bool, true, false, true≢false, cond, _||_}
-use mathlib.Core.List.{List, [], _∷_, _++_}
-use Prim.Native.Nat.{ℕ, _≤_, _<_}
+use mathlib.Core.Path.{_≡_, ap, _∙_}
+use mathlib.Core.Bool.{Bool, false, _||_}
+use mathlib.Core.Logic.{_↔_}
+use mathlib.Core.List.{List, [], _∷_, append-nil}
+use Prim.Native.Nat.{ℕ, _-_, _≤_, _<_}
 use native.Mathlib.Omega.{arith}
-use borrow.Author.Tests.{ltb-false, leb-false, eqb-false}
-use lib.Dec.{eqb, leb, ltb}
-use lib.ListN.{length}
-use Rattle.calls.specs.Engine.{Engine}
-use Rattle.calls.specs.State.{number, none, judged, refused, State, faults, Call}
+use native.Mathlib.Nat.{one-mul, le-div-iff-mul-le}
+use borrow.Author.Tests.{le-ltb, ltb-false}
+use lib.Dec.{ltb}
+use Rattle.marks.specs.Answers.{number, none, judged, NoneHolds, refused}
+use Rattle.marks.specs.AnswerLaws.{judged-none, or-false}
+use Rattle.calls.specs.State.{State, outOfRange, Call, Terms, termsOf, Listing, roomIn}
+use Rattle.calls.specs.Engine.{Engine, ListingLaws, Lawful}
 use Rattle.calls.specs.Call.{conditions, sweepCall}
 use Rattle.calls.specs.Plain.{plainRefusal}
 
--- None of a list of conditions holds.
-abbrev pub NoneHolds : List (ℕ × Bool) → Type 0
-NoneHolds [] = Unit {0}
-NoneHolds (t ∷ l) = (t .1 ≡ false) × NoneHolds l
+none-holds : (l : List (ℕ × Bool)) → judged l ≡ none → NoneHolds l
+none-holds l q = judged-none l [] (ap judged (append-nil l) ∙ q) .0
 
--- Where no refusal is judged, none of the conditions holds, and none is judged of the rest.
-pub judged-none : (k l : List (ℕ × Bool)) → judged (k ++ l) ≡ none → NoneHolds k × (judged l ≡ none)
-judged-none [] l q = (tt, q)
-judged-none (t ∷ k) l q = go (t .1) refl q (judged-none k l)
-  where
-    go : (b : Bool) → t .1 ≡ b → cond b (number (t .0)) (judged (k ++ l)) ≡ none → (judged (k ++ l) ≡ none → NoneHolds k × (judged l ≡ none))
-        → NoneHolds (t ∷ k) × (judged l ≡ none)
-    go true i q ih = let z : _≡_ {A = ℕ} 0 1 = cc in absurd (omega arith)
-    go false i q ih = let r = ih q in ((i, r .0), r .1)
-
--- Neither of two tests holds.
-pub or-false : (a b : Bool) → a || b ≡ false → (a ≡ false) × (b ≡ false)
-or-false true b q = absurd (true≢false q)
-or-false false b q = (refl, q)
-
--- What a call has that 33, 18 and 19 do not refuse.
-pub record Taken (finished : Bool) (cap size free : ℕ) : Type 0 where
+-- What a call has that neither 33 nor the conditions on calls refuse: room for an entry.
+pub record Taken (l : Listing) (finished : Bool) (t : Terms) : Type 0 where
   pub going : finished ≡ false
-  pub some : 0 < cap
-  pub place : free < size
+  pub some : 0 < t .cap
+  pub places : l .places ≤ t .size - t .free
+  pub room : 0 < roomIn l (t .size) (t .free)
 
 -- The plain sweep takes such calls alone.
-pub taken : (finished : Bool) (cap size free : ℕ) → plainRefusal finished cap size free ≡ none → Taken finished cap size free
-taken finished cap size free q =
-    let n = judged-none ((33, finished) ∷ (18, eqb cap 0) ∷ (19, leb size free) ∷ []) [] q .0 in
-    let k = eqb-false cap 0 (n .1 .0) in
-    record { going = n .0; some = omega arith; place = leb-false size free (n .1 .1 .0) }
+pub taken : {l : Listing} → ListingLaws l → (finished : Bool) (t : Terms) → plainRefusal l finished t ≡ none → Taken l finished t
+taken {l} laws finished t q =
+    let n = judged-none ((33, finished) ∷ []) (l .refuses t) q in
+    let k = laws .takes t (none-holds (l .refuses t) (n .1)) in
+    record { going = n .0 .0; some = k .0; places = k .1; room = le-div-iff-mul-le {x = 1} (laws .some) .1 (omega (arith, k .1, one-mul (l .places))) }
 
 -- What a call and its state have where no condition refuses them.
-pub record Ready {F : Type 0} (e : Engine F) (s : State F) (c : Call) : Type 0 where
-  pub sound : e .faulty (s .factor) ≡ false
-  pub inside : e .badRange (s .factor) (s .first) (s .last) ≡ false
+pub record Ready {F : Type 0} (e : Engine F) (s : State F) (t : Terms) : Type 0 where
+  pub sound : NoneHolds (e .newFaults (s .factor) (s .first) (s .last))
   pub from : s .first ≤ s .next
   pub upto : s .next ≤ s .last
-  pub takes : Taken (s .finished) (c .cap) (length (c .list)) (c .free)
+  pub lists : ListingLaws (e .listing (s .factor))
+  pub takes : Taken (e .listing (s .factor)) (s .finished) t
 
 -- A call that no condition refuses.
-pub ready : {F : Type 0} (e : Engine F) (s : State F) (c : Call) → judged (conditions e s c) ≡ none → Ready e s c
-ready e s c q =
-    let n = judged-none (faults e s) ((33, s .finished) ∷ (18, eqb (c .cap) 0) ∷ (19, leb (length (c .list)) (c .free)) ∷ []) q in
-    let outer = or-false (e .badRange (s .factor) (s .first) (s .last) || ltb (s .next) (s .first)) (ltb (s .last) (s .next)) (n .0 .1 .0) in
-    let inner = or-false (e .badRange (s .factor) (s .first) (s .last)) (ltb (s .next) (s .first)) (outer .0) in
-    record {
-      sound = n .0 .0;
-      inside = inner .0;
-      from = ltb-false (s .next) (s .first) (inner .1);
-      upto = ltb-false (s .last) (s .next) (outer .1);
-      takes = taken (s .finished) (c .cap) (length (c .list)) (c .free) (n .1);
-    }
+pub ready : {F : Type 0} {suspect : F → ℕ → Bool} {e : Engine F} {B : F → ℕ} → Lawful suspect e B → (s : State F) (t : Terms) → judged (conditions e s t) ≡ none → Ready e s t
+ready {F} {suspect} {e} {B} lawful s t q =
+    let n = judged-none (e .faults s) ((33, s .finished) ∷ e .listing (s .factor) .refuses t) q in
+    let stands = lawful .states s .0 (n .0) in
+    let lists = lawful .laws (s .factor) (s .first) (s .last) (stands .sound) .lists in
+    record { sound = stands .sound; from = stands .from; upto = stands .upto; lists = lists; takes = taken lists (s .finished) t (n .1) }
+
+-- Where a state is not out of range, its range is good and its next significand lies in it.
+pub in-range : {F : Type 0} (bad : Bool) (s : State F) → (outOfRange bad s ≡ false) ↔ ((bad ≡ false) × (s .first ≤ s .next) × (s .next ≤ s .last))
+in-range bad s = (there, back)
+  where
+    there : outOfRange bad s ≡ false → (bad ≡ false) × (s .first ≤ s .next) × (s .next ≤ s .last)
+    there q =
+        let outer = or-false (bad || ltb (s .next) (s .first)) (ltb (s .last) (s .next)) q in
+        let inner = or-false bad (ltb (s .next) (s .first)) (outer .0) in
+        (inner .0, ltb-false (s .next) (s .first) (inner .1), ltb-false (s .last) (s .next) (outer .1))
+
+    back : (bad ≡ false) × (s .first ≤ s .next) × (s .next ≤ s .last) → outOfRange bad s ≡ false
+    back h = rw (h .0, le-ltb (s .next) (s .first) (h .1), le-ltb (s .last) (s .next) (h .2))
 
 -- A call that a condition refuses.
-pub call-refused : {F : Type 0} (e : Engine F) (s : State F) (c : Call) (n : ℕ) → judged (conditions e s c) ≡ number n
+pub call-refused : {F : Type 0} (e : Engine F) (s : State F) (c : Call) (n : ℕ) → judged (conditions e s (termsOf c)) ≡ number n
     → record { answer = refused n; state = s; list = c .list } ≡ sweepCall e s c
 unfolding sweepCall
 call-refused e s c n q = rw q

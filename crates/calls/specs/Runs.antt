@@ -1,5 +1,5 @@
 -- Laws: what a call does by searches is what the row of suspects says, and its rounds are few. Assumes nothing.
-use mathlib.Core.Path.{_≡_, refl, sym}
+use mathlib.Core.Path.{_≡_, refl, sym, ap, _∙_}
 use mathlib.Core.Bool.{Bool, true, false, false≢true, _&&_}
 use mathlib.Core.List.{List, [], _∷_, _++_}
 use Prim.Native.Nat.{ℕ, zero, suc, _+_, _-_, _*_, _≤_, _<_, min}
@@ -84,8 +84,7 @@ module _ {F : Type 0} (e : Engine F) (f : F) where
   passed : (half : Half) (a end : ℕ) → end ≤ a → sought e f half a end ≡ record { place = Nowhere; rounds = 0 }
   passed half a end k = rw (le-ltb a end k)
 
-  -- Past the range there is no search.
-  pub ahead-past : (a last : ℕ) → last < a → ahead e f last a ≡ record { place = Nowhere; rounds = 0 }
+  ahead-past : (a last : ℕ) → last < a → ahead e f last a ≡ record { place = Nowhere; rounds = 0 }
   unfolding ahead
   ahead-past a last k =
       rw (passed low a (lowEnd (e .firstHigh f) last) (omega arith), passed high (highStart (e .firstHigh f) a) (suc last) (omega arith))
@@ -203,6 +202,14 @@ module _ {F : Type 0} {suspect : ℕ → Bool} {e : Engine F} {f : F} {B first l
       go (yes k) (no j) g = ahead-high a i k (omega arith)
       go (yes k) (yes j) (no g) = ahead-low a i k (omega arith)
       go (yes k) (yes j) (yes g) = ahead-both a i j g
+
+  -- A suspect that is found lies from a on, in the range.
+  pub ahead-found : (a : ℕ) → first ≤ a → (X : ℕ) → ahead e f last a .place ≡ At X → (a ≤ X) × (X ≤ last)
+  ahead-found a i X q = go (rowFrom a) refl (sym (ap (λ (w : Found). w .place) (ahead-is a i)) ∙ q)
+    where
+      go : (l : List ℕ) → rowFrom a ≡ l → headOf l ≡ At X → (a ≤ X) × (X ≤ last)
+      go [] r q = let z : _≡_ {A = ℕ} 0 1 = cc in absurd (omega arith)
+      go (x ∷ l) r q = let z = begins suspect a (suc last) 0 x l r in let e : x ≡ X = cc in (omega arith, omega arith)
 
   -- ---- the run
 

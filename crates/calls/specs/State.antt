@@ -1,33 +1,11 @@
--- Definitions: refusals, states, calls and words, which the call by searches and the plain sweep share. What stands in quotes is document 01's.
-use mathlib.Core.Bool.{Bool, false, cond, _||_}
-use mathlib.Core.List.{List, [], _∷_}
-use Prim.Native.Nat.{ℕ, _+_, _*_}
+-- Definitions: states, calls, words and how a list keeps them, which the call by searches and the plain sweep share. What stands in quotes is document 01's.
+use mathlib.Core.Bool.{Bool, false, _||_}
+use mathlib.Core.List.{List, [], _∷_, _++_}
+use Prim.Native.Nat.{ℕ, _+_, _-_, _*_, _/_}
 use lib.Dec.{ltb}
+use lib.ListN.{length}
 use Rattle.marks.specs.declared.Mark.{Mark}
 use Rattle.marks.specs.declared.Mark.the-variants.{Right, Open, Wrong}
-use Rattle.calls.specs.Engine.{Engine}
-
--- ---- refusals
-
--- The number of a refusal, or none.
-pub data Refusal : Type 0 where
-  number : ℕ → Refusal
-  none : Refusal
-
--- The refusal of the first condition that holds, of a list of conditions with their numbers.
-abbrev pub judged : List (ℕ × Bool) → Refusal
-judged [] = none
-judged (t ∷ l) = cond (t .1) (number (t .0)) (judged l)
-
--- An answer: "accepted, or the refusal's number".
-pub data Outcome (A : Type 0) : Type 0 where
-  refused : ℕ → Outcome A
-  accepted : A → Outcome A
-
--- What a refusal leaves of an answer.
-abbrev pub unless : {A : Type 0} → Refusal → A → Outcome A
-unless (number n) a = refused n
-unless none a = accepted a
 
 -- ---- states
 
@@ -43,23 +21,11 @@ pub record State (F : Type 0) : Type 0 where
 abbrev pub fresh : {F : Type 0} → F → ℕ → ℕ → State F
 fresh f first last = record { factor = f; first = first; last = last; next = first; finished = false }
 
--- The conditions that refuse a new state: 31 by the factor, then 17 by the range.
-abbrev pub newConditions : {F : Type 0} → Engine F → F → ℕ → ℕ → List (ℕ × Bool)
-newConditions e f first last = (31, e .faulty f) ∷ (17, e .badRange f first last) ∷ []
-
--- A new state, or its refusal.
-abbrev pub newState : {F : Type 0} → Engine F → F → ℕ → ℕ → Outcome (State F)
-newState e f first last = unless (judged (newConditions e f first last)) (fresh f first last)
-
 -- "the range is one that 17 refuses, or the next significand lies outside it"
-abbrev pub outOfRange : {F : Type 0} → Engine F → State F → Bool
-outOfRange e s = e .badRange (s .factor) (s .first) (s .last) || ltb (s .next) (s .first) || ltb (s .last) (s .next)
+abbrev pub outOfRange : {F : Type 0} → (bad : Bool) → State F → Bool
+outOfRange bad s = bad || ltb (s .next) (s .first) || ltb (s .last) (s .next)
 
--- What is wrong with a state, whether finished or not: 31 by its factor, then 32.
-abbrev pub faults : {F : Type 0} → Engine F → State F → List (ℕ × Bool)
-faults e s = (31, e .faulty (s .factor)) ∷ (32, outOfRange e s) ∷ []
-
--- ---- calls and words
+-- ---- calls
 
 -- "A call has the state, a cap on trials, a list of 32-bit words and its first free place." The state stands beside it.
 pub record Call : Type 0 where
@@ -67,8 +33,37 @@ pub record Call : Type 0 where
   pub list : List ℕ
   pub free : ℕ
 
+-- What a call is judged by, and all that the plain sweep is told of it: its "cap, list length and first free place".
+pub record Terms : Type 0 where
+  pub cap : ℕ
+  pub size : ℕ
+  pub free : ℕ
+
+abbrev pub termsOf : Call → Terms
+termsOf c = record { cap = c .cap; size = length (c .list); free = c .free }
+
+-- ---- words
+
 -- "X is listed if open or wrong, as 2X, plus 1 for open."
 abbrev pub listed : Mark → ℕ → List ℕ
 listed Right X = []
 listed Open X = (2 * X + 1) ∷ []
 listed Wrong X = (2 * X) ∷ []
+
+-- How a list keeps listed words, as entries, and which calls it refuses.
+pub record Listing : Type 0 where
+  -- the conditions on a call, judged after 33, with their numbers
+  pub refuses : Terms → List (ℕ × Bool)
+  -- how many places an entry takes
+  pub places : ℕ
+  -- the entry of a listed word
+  pub entry : ℕ → List ℕ
+
+-- The entries of listed words, one after another.
+unfoldable pub entries : Listing → List ℕ → List ℕ
+entries l [] = []
+entries l (w ∷ ws) = l .entry w ++ entries l ws
+
+-- For how many entries a list of a size has room from a place on.
+abbrev pub roomIn : Listing → (size place : ℕ) → ℕ
+roomIn l size place = (size - place) / l .places

@@ -3,19 +3,21 @@ use mathlib.Core.Path.{_≡_, refl}
 use mathlib.Core.Bool.{Bool, true, false, cond, _||_}
 use mathlib.Core.Logic.{_≢_}
 use mathlib.Core.List.{List, [], _∷_}
-use Prim.Native.Nat.{ℕ, suc, _+_, _*_, _%_, _≤_}
+use Prim.Native.Nat.{ℕ, suc, _+_, _-_, _*_, _/_, _%_, _≤_}
 use native.Mathlib.Omega.{arith}
-use borrow.Author.Tests.{eq-eqb, ne-eqb, ltb-false}
+use borrow.Author.Tests.{eq-eqb, ne-eqb, eqb-false, leb-false, ltb-false}
 use lib.Dec.{eqb, ltb, leb}
 use Rattle.marks.specs.declared.Mark.{Mark}
 use Rattle.marks.specs.declared.Mark.the-variants.{Right, Open, Wrong}
+use Rattle.marks.specs.Answers.{refused, accepted, answer}
+use Rattle.marks.specs.AnswerLaws.{or-false}
 use Rattle.search.specs.declared.Place.the-variants.{At}
-use Rattle.calls.specs.Engine.{Half, low, high, halfOf, lowEnd, Engine, Least, Lawful}
-use Rattle.calls.specs.State.{refused, accepted, State, fresh, newState, Call}
-use Rattle.calls.specs.Call.{ahead, run, sweepCall}
-use Rattle.calls.specs.Plain.{fed, begun, plains, plainCall, row, tries, wordsOf}
+use Rattle.calls.specs.State.{State, fresh, outOfRange, Call, Listing}
+use Rattle.calls.specs.Engine.{Half, low, high, halfOf, lowEnd, Engine, Least, ListingLaws, Lawful}
+use Rattle.calls.specs.Call.{newState, ahead, run, sweepCall}
+use Rattle.calls.specs.Plain.{row, tries, wordsOf, Fed, fed, begun, plainCall, Seen, stateOf, plains}
 use Rattle.calls.specs.Whole.{Whole}
-use Rattle.calls.specs.Refusals.{or-false}
+use Rattle.calls.specs.Refusals.{in-range}
 use Rattle.calls.specs.Demand.{whole-sweep}
 
 -- X is a suspect for the factor f, from 0 to 6, if X + f is a multiple of 7.
@@ -29,15 +31,49 @@ abbrev toyRounds : Half → ℕ → ℕ
 toyRounds low a = a % 5
 toyRounds high a = a % 3
 
--- Significands from 64 to 127, of which those from 100 on are high.
-abbrev pub toy : Engine ℕ
-toy =
+abbrev badRange : ℕ → ℕ → Bool
+badRange first last = ltb first 64 || leb 128 last || ltb last first
+
+-- Significands from 64 to 127, of which those from 100 on are high, and lists kept in some way.
+abbrev pub toyBy : Listing → Engine ℕ
+toyBy l =
     record {
-      faulty = λ f. leb 7 f;
-      badRange = λ f first last. ltb first 64 || leb 128 last || ltb last first;
+      newFaults = λ f first last. (31, leb 7 f) ∷ (17, badRange first last) ∷ [];
+      faults = λ s. (31, leb 7 (s .factor)) ∷ (32, outOfRange (badRange (s .first) (s .last)) s) ∷ [];
+      listing = λ f. l;
       mark = toyMark;
       firstHigh = λ f. 100;
       find = λ f h a. record { place = At (a + (6 * (a + f)) % 7); rounds = toyRounds h a };
+    }
+
+-- An entry is the listed word, as in document 01.
+abbrev pub oneWord : Listing
+oneWord = record { refuses = λ t. (18, eqb (t .cap) 0) ∷ (19, leb (t .size) (t .free)) ∷ []; places = 1; entry = λ w. w ∷ [] }
+
+-- An entry has two words, the significand and 1 for open, and a call with fewer than two free places is refused by a number of its own.
+abbrev pub twoWords : Listing
+twoWords = record { refuses = λ t. (18, eqb (t .cap) 0) ∷ (44, ltb (t .size - t .free) 2) ∷ []; places = 2; entry = λ w. w / 2 ∷ w % 2 ∷ [] }
+
+abbrev pub toy : Engine ℕ
+toy = toyBy oneWord
+
+abbrev pub pairs : Engine ℕ
+pairs = toyBy twoWords
+
+one-laws : ListingLaws oneWord
+one-laws =
+    record {
+      some = omega arith;
+      long = λ w. refl;
+      takes = λ t h. (omega (arith, eqb-false (t .cap) 0 (h .0)), omega (arith, leb-false (t .size) (t .free) (h .1 .0)));
+    }
+
+two-laws : ListingLaws twoWords
+two-laws =
+    record {
+      some = omega arith;
+      long = λ w. refl;
+      takes = λ t h. (omega (arith, eqb-false (t .cap) 0 (h .0)), ltb-false (t .size - t .free) 2 (h .1 .0));
     }
 
 least : (f end a : ℕ) → Least (toySuspect f) end a (At (a + (6 * (a + f)) % 7))
@@ -52,20 +88,32 @@ suspected X true q = refl
 suspected X false q = absurd (q refl)
 
 -- The laws hold of it, with at most 4 rounds a search.
-pub toy-lawful : Lawful toySuspect toy (λ f. 4)
-toy-lawful f first last sound inside =
-    let i = or-false (ltb first 64 || leb 128 last) (ltb last first) inside in
+pub toy-lawful : {l : Listing} → ListingLaws l → Lawful toySuspect (toyBy l) (λ f. 4)
+toy-lawful lists =
     record {
-      ordered = ltb-false last first (i .1);
-      suspected = λ X h k q. suspected X (toySuspect f X) q;
-      finds-low = λ a h k i. least f (lowEnd 100 last) a;
-      finds-high = λ a h k i. least f (suc last) a;
-      few = λ a h k. few (halfOf 100 a) a;
+      states = λ s.
+          let r = in-range (badRange (s .first) (s .last)) s in (
+            (λ h. let i = r .0 (h .1 .0) in record { sound = (h .0, (i .0, tt)); from = i .1; upto = i .2 }),
+            (λ h. (h .sound .0, (r .1 (h .sound .1 .0, h .from, h .upto), tt))),
+          );
+      laws = λ f first last h.
+          let i = or-false (ltb first 64 || leb 128 last) (ltb last first) (h .1 .0) in
+          record {
+            ordered = ltb-false last first (i .1);
+            lists = lists;
+            suspected = λ X h k q. suspected X (toySuspect f X) q;
+            finds-low = λ a h k i. least f (lowEnd 100 last) a;
+            finds-high = λ a h k i. least f (suc last) a;
+            few = λ a h k. few (halfOf 100 a) a;
+          };
     }
 
--- Demand 3 holds of it.
+-- Demand 3 holds of it, however its lists are kept.
 pub toy-whole : (f first last : ℕ) (s : State ℕ) → newState toy f first last ≡ accepted s → (calls : List Call) → Whole toySuspect toy (λ f. 4) (sweepCall toy) s calls
-toy-whole = whole-sweep toy-lawful
+toy-whole = whole-sweep (toy-lawful one-laws)
+
+pub pairs-whole : (f first last : ℕ) (s : State ℕ) → newState pairs f first last ≡ accepted s → (calls : List Call) → Whole toySuspect pairs (λ f. 4) (sweepCall pairs) s calls
+pairs-whole = whole-sweep (toy-lawful two-laws)
 
 -- ---- calls over 81 to 127 for the factor 2, with the suspects 82, 89, 96, 103, 110, 117 and 124, of which 89 and 103 are wrong and 117 is open
 
@@ -77,6 +125,7 @@ end = record { factor = 2; first = 81; last = 127; next = 127; finished = true }
 
 -- 31 comes before 17.
 new-refused : newState toy 7 127 81 ≡ refused 31
+unfolding answer
 new-refused = refl
 
 -- The cap stops the first call, at 96.
@@ -107,21 +156,59 @@ closing-call : sweepCall toy (fresh 2 121 124) (record { cap = 5; list = 9 ∷ [
 unfolding sweepCall run ahead
 closing-call = refl
 
--- a sweep of four calls, the last of them past its finish
-abbrev calls : List Call
-calls =
-    record { cap = 2; list = 9 ∷ 9 ∷ 9 ∷ []; free = 1 }
+-- A finished state is refused before a cap of 0.
+finished-call : sweepCall toy end (record { cap = 0; list = []; free = 0 }) ≡ record { answer = refused 33; state = end; list = [] }
+unfolding sweepCall run ahead
+finished-call = refl
+
+-- The plain sweep of calls over the range, and what it shows.
+fedIn : Listing → Fed ℕ
+fedIn l = fed toySuspect toyMark (λ f. l) 2 81 127
+
+plainCalls : Listing → List Call → List (Seen ℕ)
+unfolding fedIn plains plainCall row tries wordsOf
+plainCalls l calls = plains (stateOf (fedIn l)) (fedIn l) (begun (fedIn l)) calls
+
+-- four calls, the last of them past the finish
+plain-calls :
+    plainCalls oneWord
+    (record { cap = 2; list = 9 ∷ 9 ∷ 9 ∷ []; free = 1 }
     ∷ record { cap = 5; list = 9 ∷ 9 ∷ []; free = 0 }
     ∷ record { cap = 9; list = 9 ∷ []; free = 0 }
     ∷ record { cap = 0; list = []; free = 0 }
-    ∷ []
-
--- The plain sweep computes the same.
-plain-calls : plains (fed toySuspect toyMark 2 81 127) (begun (fed toySuspect toyMark 2 81 127)) calls
+    ∷ [])
     ≡ record { told = accepted (record { trials = 2; place = 2; words = 178 ∷ [] }); state = before 96 }
     ∷ record { told = accepted (record { trials = 4; place = 2; words = 206 ∷ 235 ∷ [] }); state = before 124 }
     ∷ record { told = accepted (record { trials = 1; place = 0; words = [] }); state = end }
     ∷ record { told = refused 33; state = end }
     ∷ []
-unfolding plains plainCall row tries wordsOf
+unfolding plainCalls
 plain-calls = refl
+
+-- ---- the same with two words to an entry
+
+-- Five places hold two entries, so that the call is stopped by a full list at 124, and the fifth place is left.
+pair-call : sweepCall pairs (before 96) (record { cap = 5; list = 9 ∷ 9 ∷ 9 ∷ 9 ∷ 9 ∷ []; free = 0 })
+    ≡ record { answer = accepted (record { trials = 4; rounds = 7; place = 4 }); state = before 124; list = 103 ∷ 0 ∷ 117 ∷ 1 ∷ 9 ∷ [] }
+unfolding sweepCall run ahead
+pair-call = refl
+
+-- One free place is not enough.
+pair-refused : sweepCall pairs (before 124) (record { cap = 5; list = 9 ∷ 9 ∷ 9 ∷ 9 ∷ 9 ∷ []; free = 4 })
+    ≡ record { answer = refused 44; state = before 124; list = 9 ∷ 9 ∷ 9 ∷ 9 ∷ 9 ∷ [] }
+unfolding sweepCall run ahead
+pair-refused = refl
+
+-- The plain sweep has the same.
+pair-calls :
+    plainCalls twoWords
+    (record { cap = 3; list = 9 ∷ 9 ∷ 9 ∷ []; free = 0 }
+    ∷ record { cap = 5; list = 9 ∷ 9 ∷ 9 ∷ 9 ∷ 9 ∷ []; free = 4 }
+    ∷ record { cap = 5; list = 9 ∷ 9 ∷ 9 ∷ 9 ∷ 9 ∷ []; free = 0 }
+    ∷ [])
+    ≡ record { told = accepted (record { trials = 2; place = 2; words = 89 ∷ 0 ∷ [] }); state = before 96 }
+    ∷ record { told = refused 44; state = before 96 }
+    ∷ record { told = accepted (record { trials = 4; place = 4; words = 103 ∷ 0 ∷ 117 ∷ 1 ∷ [] }); state = before 124 }
+    ∷ []
+unfolding plainCalls
+pair-calls = refl

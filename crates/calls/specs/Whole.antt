@@ -3,15 +3,16 @@ use mathlib.Core.Path.{_≡_}
 use mathlib.Core.Bool.{Bool, true}
 use mathlib.Core.Logic.{_⊎_, _↔_}
 use mathlib.Core.List.{List, [], _∷_, _++_, List·Memᴰ}
-use Prim.Native.Nat.{ℕ, suc, _+_, _-_, _*_, _≤_, _<_, min, max}
+use Prim.Native.Nat.{ℕ, suc, _+_, _*_, _≤_, _<_, min, max}
 use lib.ListN.{length, take, drop}
 use lib.Seq.{slice}
 use Rattle.marks.specs.declared.Mark.{Mark}
 use Rattle.marks.specs.declared.Mark.the-variants.{Open, Wrong}
+use Rattle.marks.specs.Answers.{Outcome, refused, accepted}
+use Rattle.calls.specs.State.{State, Call, Listing, entries, roomIn}
 use Rattle.calls.specs.Engine.{Engine}
-use Rattle.calls.specs.State.{Outcome, refused, accepted, State, Call}
-use Rattle.calls.specs.Call.{Result, Reply}
-use Rattle.calls.specs.Plain.{span, wordsOf, Fed, fed, Plain, begun, untried, Told, Seen, plains, plainAfter}
+use Rattle.calls.specs.Call.{Result, ReplyOf, Reply}
+use Rattle.calls.specs.Plain.{span, wordsOf, Fed, fed, Plain, begun, untried, Told, SeenOf, Seen, stateOf, plains, plainAfter}
 use Rattle.calls.specs.ByRow.{starts, roundsFrom, rowAhead}
 
 -- ---- what is seen of calls; `call` is any account of a call, good or bad
@@ -22,21 +23,21 @@ toldBy c list (refused n) = refused n
 toldBy c list (accepted r) = accepted (record { trials = r .trials; place = r .place; words = slice (c .free) (r .place) list })
 
 -- What is compared of a call with the plain sweep.
-abbrev pub seen : {F : Type 0} → Call → Reply F → Seen F
+abbrev pub seen : {S : Type 0} → Call → ReplyOf S → SeenOf S
 seen c r = record { told = toldBy c (r .list) (r .answer); state = r .state }
 
 -- What is seen of each call of a list. "Each call is given the state that the one before returned, refused or not".
-unfoldable pub sweeps : {F : Type 0} → (State F → Call → Reply F) → State F → List Call → List (Seen F)
+unfoldable pub sweeps : {S : Type 0} → (S → Call → ReplyOf S) → S → List Call → List (SeenOf S)
 sweeps call s [] = []
 sweeps call s (c ∷ cs) = seen c (call s c) ∷ sweeps call (call s c .state) cs
 
 -- The state that the last call of a list hands back.
-unfoldable pub stateAfter : {F : Type 0} → (State F → Call → Reply F) → State F → List Call → State F
+unfoldable pub stateAfter : {S : Type 0} → (S → Call → ReplyOf S) → S → List Call → S
 stateAfter call s [] = s
 stateAfter call s (c ∷ cs) = stateAfter call (call s c .state) cs
 
 -- P of each call of a list, with the state that it is given and its reply.
-abbrev pub Each : {F : Type 0} → (State F → Call → Reply F → Type 0) → (State F → Call → Reply F) → State F → List Call → Type 0
+abbrev pub Each : {S : Type 0} → (S → Call → ReplyOf S → Type 0) → (S → Call → ReplyOf S) → S → List Call → Type 0
 Each P call s [] = Unit {0}
 Each P call s (c ∷ cs) = P s c (call s c) × Each P call (call s c .state) cs
 
@@ -63,17 +64,17 @@ acceptedTold (refused n) = 0
 acceptedTold (accepted t) = 1
 
 -- The trials of calls, added up.
-unfoldable pub trialsIn : {F : Type 0} → List (Seen F) → ℕ
+unfoldable pub trialsIn : {S : Type 0} → List (SeenOf S) → ℕ
 trialsIn [] = 0
 trialsIn (x ∷ l) = trialsTold (x .told) + trialsIn l
 
 -- The words of calls, joined.
-unfoldable pub wordsIn : {F : Type 0} → List (Seen F) → List ℕ
+unfoldable pub wordsIn : {S : Type 0} → List (SeenOf S) → List ℕ
 wordsIn [] = []
 wordsIn (x ∷ l) = wordsTold (x .told) ++ wordsIn l
 
 -- The number of accepted calls.
-unfoldable pub acceptedIn : {F : Type 0} → List (Seen F) → ℕ
+unfoldable pub acceptedIn : {S : Type 0} → List (SeenOf S) → ℕ
 acceptedIn [] = 0
 acceptedIn (x ∷ l) = acceptedTold (x .told) + acceptedIn l
 
@@ -120,22 +121,28 @@ pub record Holds (mark : ℕ → Mark) (a b : ℕ) (words : List ℕ) : Type 0 w
   -- and each is above the one before, so that none stands twice
   pub ascending : Ascends (2 * a) (2 * b) words
 
+-- They do so as entries: the words are the entries of listed words that do.
+pub record HoldsAs (l : Listing) (mark : ℕ → Mark) (a b : ℕ) (words : List ℕ) : Type 0 where
+  pub listed : List ℕ
+  pub are : words ≡ entries l listed
+  pub holds : Holds mark a b listed
+
 -- An accepted call's rounds are the sum over its searches' starts, read off the row of suspects, and at most B of the factor for each trial and two more.
 pub record RoundsRight {F : Type 0} (suspect : F → ℕ → Bool) (e : Engine F) (B : F → ℕ) (s : State F) (r : Result) : Type 0 where
   pub are : r .rounds ≡ roundsFrom e (s .factor) (starts (e .firstHigh (s .factor)) (s .last) (s .next) (r .trials) (rowAhead suspect s))
   pub few : r .rounds ≤ B (s .factor) * (r .trials + 2)
 
--- An accepted call tries at least the smallest of cap, free places and suspects left.
-abbrev pub Ample : {F : Type 0} → (F → ℕ → Bool) → State F → Call → Result → Type 0
-Ample suspect s c r = min (c .cap) (min (length (c .list) - c .free) (length (rowAhead suspect s))) ≤ r .trials
+-- An accepted call tries at least the smallest of cap, room for entries and suspects left.
+abbrev pub Ample : {F : Type 0} → (F → ℕ → Bool) → Engine F → State F → Call → Result → Type 0
+Ample suspect e s c r = min (c .cap) (min (roomIn (e .listing (s .factor)) (length (c .list)) (c .free)) (length (rowAhead suspect s))) ≤ r .trials
 
 -- What the plain sweep is fed for a new state.
 abbrev pub fedBy : {F : Type 0} → (F → ℕ → Bool) → Engine F → State F → Fed F
-fedBy suspect e s = fed suspect (e .mark) (s .factor) (s .first) (s .last)
+fedBy suspect e s = fed suspect (e .mark) (e .listing) (s .factor) (s .first) (s .last)
 
 -- What it shows of calls from there on.
 abbrev pub plainly : {F : Type 0} → (F → ℕ → Bool) → Engine F → State F → List Call → List (Seen F)
-plainly suspect e s calls = plains (fedBy suspect e s) (begun (fedBy suspect e s)) calls
+plainly suspect e s calls = plains (stateOf (fedBy suspect e s)) (fedBy suspect e s) (begun (fedBy suspect e s)) calls
 
 -- Where it is after them.
 abbrev pub plainEnd : {F : Type 0} → (F → ℕ → Bool) → Engine F → State F → List Call → Plain
@@ -151,7 +158,7 @@ pub record Whole {F : Type 0} (suspect : F → ℕ → Bool) (e : Engine F) (B :
   -- the words of a call are all that it writes: places before its first free place and unused ones are as they were, and a refused call leaves the list
   pub lists : Each (λ s c r. ListKept c (r .answer) (r .list)) call s calls
   -- "joined words hold exactly the significands in range that are not right below the first suspect not yet tried (all if none is left), once each, ascending, with marks"
-  pub words : Holds (e .mark (s .factor)) (s .first) (endOf (s .last) (untried (fedBy suspect e s) (plainEnd suspect e s calls))) (wordsIn (sweeps call s calls))
+  pub words : HoldsAs (e .listing (s .factor)) (e .mark (s .factor)) (s .first) (endOf (s .last) (untried (fedBy suspect e s) (plainEnd suspect e s calls))) (wordsIn (sweeps call s calls))
   -- "trials add up": to the number of suspects tried
   pub trials : trialsIn (sweeps call s calls) ≡ plainEnd suspect e s calls .tried
   -- "it is finished exactly when all suspects are tried", and a call was accepted
@@ -162,6 +169,6 @@ pub record Whole {F : Type 0} (suspect : F → ℕ → Bool) (e : Engine F) (B :
   -- "rounds are the searches' and at most 64 × (trials + 2)"
   -- (shut out: invented rounds)
   pub rounds : Each (λ s c r. IfAccepted (RoundsRight suspect e B s) (r .answer)) call s calls
-  -- the stop rule's least: an accepted call has a cap and free places of at least 1, so it tries its first suspect
+  -- the stop rule's least: an accepted call has a cap of at least 1 and room for an entry, so it tries its first suspect
   -- (shut out: one that stops before its first suspect)
-  pub ample : Each (λ s c r. IfAccepted (Ample suspect s c) (r .answer)) call s calls
+  pub ample : Each (λ s c r. IfAccepted (Ample suspect e s c) (r .answer)) call s calls

@@ -15,9 +15,8 @@ use Rattle.factor.specs.SetUp.{setUp}
 use Rattle.product.specs.declared.Product.{Product}
 use Rattle.product.specs.Answer.{multiplied}
 use Rattle.reading.specs.Reading.{applied}
-use Rattle.calls.specs.State as calls
-use Rattle.calls.specs.State.{State, newState}
-use Rattle.calls.specs.Call.{Reply, sweepCall}
+use Rattle.calls.specs.State.{State}
+use Rattle.calls.specs.Call.{newState, Reply, sweepCall}
 use Rattle.sweep.specs.Engine.{engine}
 use Rattle.sweep.specs.Answers.{callOf}
 use Rattle.exports.specs.Words.{factorFrom, stateFrom}
@@ -82,7 +81,7 @@ module _ (factor : List ℕ) (first last : ℕ) (out : List ℕ) where
   unfolding newSweepTo
   new-sweep-short h = rw h
 
-  pub new-sweep-is : (a : calls.Outcome (State Factor)) → short 9 factor 13 out ≡ false → newState engine (factorFrom factor) first last ≡ a → newSweepTo factor first last out ≡ newSweepAnswer a
+  pub new-sweep-is : (a : Outcome (State Factor)) → short 9 factor 13 out ≡ false → newState engine (factorFrom factor) first last ≡ a → newSweepTo factor first last out ≡ newSweepAnswer a
   unfolding newSweepTo
   new-sweep-is a h e = rw (h, e)
 

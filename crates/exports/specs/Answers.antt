@@ -14,9 +14,8 @@ use Rattle.factor.specs.SetUp.{setUp}
 use Rattle.product.specs.declared.Product.{Product}
 use Rattle.product.specs.Answer.{multiplied}
 use Rattle.reading.specs.Reading.{applied}
-use Rattle.calls.specs.State as calls
-use Rattle.calls.specs.State.{State, newState}
-use Rattle.calls.specs.Call.{Result, Reply, sweepCall}
+use Rattle.calls.specs.State.{State}
+use Rattle.calls.specs.Call.{newState, Result, Reply, sweepCall}
 use Rattle.sweep.specs.Engine.{engine}
 use Rattle.sweep.specs.Answers.{callOf}
 use Rattle.exports.specs.Words.{factorLength, factorFrom, factorWords, stateLength, stateFrom, stateWords}
@@ -38,6 +37,11 @@ short k xs l ys = ltb (length xs) k || ltb (length ys) l
 abbrev pub leaves : Answer → List ℕ → List ℕ
 leaves a to = sets to 0 (a .words)
 
+-- the number and the words of a value, or the refusal
+abbrev pub toWords : {A : Type 0} → (A → ℕ) → (A → List ℕ) → Outcome A → Answer
+toWords number words (accepted a) = record { number = number a; words = words a }
+toWords number words (refused k) = record { number = k; words = [] }
+
 -- a mark's number
 abbrev pub markNumber : Mark → ℕ
 markNumber Mark.Right = 1
@@ -46,13 +50,11 @@ markNumber Mark.Wrong = 3
 
 -- the number of the mark and the words of the value, or the refusal
 abbrev pub markedAnswer : {A : Type 0} → (A → List ℕ) → Outcome (Marked A) → Answer
-markedAnswer words (accepted a) = record { number = markNumber (a .mark); words = words (a .value) }
-markedAnswer words (refused k) = record { number = k; words = [] }
+markedAnswer words o = toWords (λ a. markNumber (a .mark)) (λ a. words (a .value)) o
 
 -- ---- set-up: 0 and the factor, or the refusal
 abbrev pub setUpAnswer : Outcome Factor → Answer
-setUpAnswer (accepted f) = record { number = 0; words = factorWords f }
-setUpAnswer (refused k) = record { number = k; words = [] }
+setUpAnswer o = toWords (λ f. 0) factorWords o
 
 unfoldable pub setUpTo : Description → (out : List ℕ) → Answer
 unfolding setUp factorWords
@@ -77,9 +79,8 @@ readTo factor reading out =
     cond (short factorLength factor 1 out) tooShort (markedAnswer readingWords (applied (factorFrom factor) (ofBits binary32 reading)))
 
 -- ---- a new sweep: 0 and the state, or the refusal
-abbrev pub newSweepAnswer : calls.Outcome (State Factor) → Answer
-newSweepAnswer (calls.accepted s) = record { number = 0; words = stateWords s }
-newSweepAnswer (calls.refused k) = record { number = k; words = [] }
+abbrev pub newSweepAnswer : Outcome (State Factor) → Answer
+newSweepAnswer o = toWords (λ s. 0) stateWords o
 
 unfoldable pub newSweepTo : (factor : List ℕ) (first last : ℕ) (out : List ℕ) → Answer
 unfolding factorFrom stateWords
@@ -96,9 +97,9 @@ pub record SweepWords : Type 0 where
 abbrev pub tooShortFor : List ℕ → SweepWords
 tooShortFor list = record { number = 255; state = []; list = list; counts = [] }
 
-abbrev pub sweepAnswer : calls.Outcome Result → State Factor → List ℕ → SweepWords
-sweepAnswer (calls.accepted r) s list = record { number = 0; state = stateWords s; list = list; counts = r .trials ∷ r .rounds ∷ r .place ∷ [] }
-sweepAnswer (calls.refused k) s list = record { number = k; state = []; list = list; counts = [] }
+abbrev pub sweepAnswer : Outcome Result → State Factor → List ℕ → SweepWords
+sweepAnswer (accepted r) s list = record { number = 0; state = stateWords s; list = list; counts = r .trials ∷ r .rounds ∷ r .place ∷ [] }
+sweepAnswer (refused k) s list = record { number = k; state = []; list = list; counts = [] }
 
 abbrev pub replyWords : Reply Factor → SweepWords
 replyWords r = sweepAnswer (r .answer) (r .state) (r .list)

@@ -8,10 +8,11 @@ use lib.ListN.{length, take}
 use lib.Seq.{sets, length-sets}
 use borrow.Author.Tests.{le-ltb}
 use Rattle.marks.specs.declared.Mark.{Mark}
+use Rattle.marks.specs.Answers.{none, judged, Outcome, refused, accepted}
 use Rattle.factor.specs.declared.Factor.{Factor}
 use Rattle.search.specs.declared.Place.{Place}
 use Rattle.search.specs.declared.Place.the-variants.{At, Nowhere}
-use Rattle.calls.specs.State.{none, judged, Outcome, refused, accepted, State}
+use Rattle.calls.specs.State.{State}
 use Rattle.calls.specs.Call.{conditions, handed, Result, Reply, sweepCall}
 use Rattle.calls.specs.Plain.{wordsOf}
 use Rattle.calls.specs.ByRow.{headOf, rowRun}
@@ -21,7 +22,8 @@ use Rattle.sweep.specs.declared.SweepState.{SweepState}
 use Rattle.sweep.specs.declared.SweepAnswer
 use Rattle.sweep.specs.declared.SweepAnswer.{SweepAnswer}
 use Rattle.sweep.specs.Engine.{engine}
-use Rattle.sweep.specs.Answers.{viewOf, callOf, replyOf}
+use Rattle.sweep.specs.EngineLaws.{entries-are}
+use Rattle.sweep.specs.Answers.{viewOf, callOf, termsBy, replyOf}
 use Rattle.sweep.specs.Demand3.{call-by-row}
 use Rattle.stream.specs.declared.Tally.{Tally}
 use Rattle.stream.specs.Output.{markOf, isWrong, isOpen, counted}
@@ -106,7 +108,8 @@ abbrev codeOf : State Factor → SweepState
 codeOf s = record { factor = s .factor; first = s .first; last = s .last; next = s .next; finished = s .finished }
 
 module _ (s : SweepState) (g : Going s) (list : List ℕ) (size : length list ≡ listSize) where
-  not-refused : judged (conditions engine (viewOf s) (callOf noCap list 0)) ≡ none
+  not-refused : judged (conditions engine (viewOf s) (termsBy noCap (length list) 0)) ≡ none
+  unfolding judged
   not-refused = rw (g .whole, g .inside, le-ltb (s .next) (s .first) (g .from), le-ltb (s .last) (s .next) (g .upto), g .going, size)
 
   few-words : length (wordsBy s) ≤ listSize
@@ -124,7 +127,7 @@ module _ (s : SweepState) (g : Going s) (list : List ℕ) (size : length list �
         state = handed (viewOf s) (headOf (afterOf s));
         list = sets list 0 (wordsBy s);
       }
-  reply-is = call-by-row (viewOf s) (callOf noCap list 0) ∙ rw (not-refused, size) refl
+  reply-is = call-by-row (viewOf s) (callOf noCap list 0) ∙ rw (not-refused, size, entries-are (wordsBy s)) refl
 
   -- What the call answers.
   pub answered : (a : SweepAnswer) (left : List ℕ) → replyOf a left ≡ sweepCall engine (viewOf s) (callOf noCap list 0) → AnsweredBy s a left

@@ -1,8 +1,9 @@
 -- Definitions: what the code's states and answers say, in document 01's numbers and values. Assumes nothing.
 use mathlib.Core.List.{List}
 use Prim.Native.Nat.{ℕ}
+use Rattle.marks.specs.Answers.{Refusal, number, none, Outcome, refused, accepted}
 use Rattle.factor.specs.declared.Factor.{Factor}
-use Rattle.calls.specs.State.{Refusal, number, none, Outcome, refused, accepted, State, Call}
+use Rattle.calls.specs.State.{State, Call, Terms}
 use Rattle.calls.specs.Call.{Result, Reply}
 use Rattle.sweep.specs.declared.SweepState.{SweepState}
 use Rattle.sweep.specs.declared.NewSweep.{NewSweep}
@@ -22,6 +23,10 @@ newOf (NewSweep.Refused n) = refused n
 -- a call: cap, list and first free place
 abbrev pub callOf : (cap : ℕ) → List ℕ → (free : ℕ) → Call
 callOf cap list free = record { cap = cap; list = list; free = free }
+
+-- what it is judged by: cap, the list's length and first free place
+abbrev pub termsBy : (cap size free : ℕ) → Terms
+termsBy cap size free = record { cap = cap; size = size; free = free }
 
 -- what an accepted call returns as numbers
 abbrev pub resultOf : Swept → Result

@@ -4,17 +4,18 @@ use mathlib.Core.Path.{_≡_, refl, sym, ap, ap₂, _∙_, subst}
 use mathlib.Core.List.{List, [], _∷_}
 use Prim.Native.Nat.{ℕ}
 use Rattle.factor.specs.declared.Factor.{Factor}
-use Rattle.calls.specs.State.{State, newState, Call}
-use Rattle.calls.specs.Call.{Reply, sweepCall}
+use Rattle.calls.specs.State.{State, Call}
+use Rattle.calls.specs.Call.{newState, Reply, sweepCall}
 use Rattle.calls.specs.ByRow.{rowCall}
-use Rattle.calls.specs.Whole.{Whole}
+use Rattle.calls.specs.Plain.{untried}
+use Rattle.calls.specs.Whole.{sweeps, wordsIn, endOf, Holds, fedBy, plainEnd, Whole}
 use Rattle.calls.specs.One.{by-row}
 use Rattle.calls.specs.Demand.{whole-sweep}
 use Rattle.sweep.specs.declared.SweepState.{SweepState}
 use Rattle.sweep.specs.declared.NewSweep.{NewSweep}
 use Rattle.sweep.specs.declared.SweepAnswer.{SweepAnswer}
 use Rattle.sweep.specs.Engine.{suspect, mostRounds, engine}
-use Rattle.sweep.specs.EngineLaws.{lawful}
+use Rattle.sweep.specs.EngineLaws.{entries-are, lawful}
 use Rattle.sweep.specs.Answers.{viewOf, newOf, replyOf}
 
 -- One call, on every state, also one that no calls lead to: what the searches make of it is what is read off the row of suspects, answer, state, list and
@@ -52,6 +53,11 @@ pub demand-3 : (new : Factor → ℕ → ℕ → NewSweep) → Begins new → (c
 demand-3 new begins call sweeps f first last s q calls =
     subst (λ (by : State Factor → Call → Reply Factor). Whole suspect engine mostRounds by (viewOf s) calls) (λ i z c. sym (sweeps (held z) c) i)
     (whole-sweep lawful f first last (viewOf s) (sym (begins f first last) ∙ ap newOf q) calls)
+
+-- Entries are the listed words, so that the joined words themselves hold exactly the significands that are not right, once each, ascending, with their marks.
+pub joined-words : {call : State Factor → Call → Reply Factor} {s : State Factor} {calls : List Call} → Whole suspect engine mostRounds call s calls
+    → Holds (engine .mark (s .factor)) (s .first) (endOf (s .last) (untried (fedBy suspect engine s) (plainEnd suspect engine s calls))) (wordsIn (sweeps call s calls))
+joined-words w = rw (w .words .are ∙ entries-are (w .words .listed)) (w .words .holds)
 
 -- ---- the same of calls that were made
 

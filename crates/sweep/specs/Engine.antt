@@ -1,7 +1,8 @@
 -- Definitions: a factor as a sweep sees it (document 01, "Suspects and rounds" and "A sweep"). What stands in quotes is document 01's. Assumes nothing.
 use mathlib.Core.Bool.{Bool, not, _||_}
+use mathlib.Core.List.{[], _∷_}
 use Prim.Native.Nat.{ℕ, _-_, _^_}
-use lib.Dec.{ltb}
+use lib.Dec.{eqb, leb, ltb}
 use Rattle.search.specs.declared.Found.{Found}
 use Rattle.factor.specs.declared.Factor.{Factor}
 use Rattle.factor.specs.Precision.{scaleOf, roundsOf, significandOut}
@@ -11,6 +12,7 @@ use Rattle.product.specs.Marks.{markBy}
 use Rattle.suspects.specs.declared.Halves.{Halves}
 use Rattle.suspects.specs.Suspects.{isSuspect}
 use Rattle.suspects.specs.Next.{nextFrom, firstHigh, halves}
+use Rattle.calls.specs.State.{State, outOfRange, Listing}
 use Rattle.calls.specs.Engine.{Half, low, high, Engine}
 
 -- whether X is a suspect of a factor
@@ -20,6 +22,14 @@ suspect f X = let n = f .precision .bits in isSuspect n (scaleOf n) (f .lower) (
 -- 17: "a significand outside 2^(n−1) to 2^n − 1, or a range's first above its last"
 abbrev pub rangeOut : (n first last : ℕ) → Bool
 rangeOut n first last = significandOut n first || significandOut n last || ltb last first
+
+-- 32: "the range is one that 17 refuses, or the next significand lies outside it"
+abbrev pub stateOut : State Factor → Bool
+stateOut s = outOfRange (rangeOut (s .factor .precision .bits) (s .first) (s .last)) s
+
+-- a list of 32-bit words, whose entries are the listed words: 18, "cap 0", and 19, "first free place at or past the list's end"
+abbrev pub wordList : Listing
+wordList = record { refuses = λ t. (18, eqb (t .cap) 0) ∷ (19, leb (t .size) (t .free)) ∷ []; places = 1; entry = λ w. w ∷ [] }
 
 -- what is sought in each half, and the first high significand
 abbrev pub halvesOf : Factor → Halves
@@ -38,8 +48,9 @@ mostRounds f = roundsOf (f .precision .bits)
 abbrev pub engine : Engine Factor
 engine =
     record {
-      faulty = λ f. not (intact f);
-      badRange = λ f first last. rangeOut (f .precision .bits) first last;
+      newFaults = λ f first last. (31, not (intact f)) ∷ (17, rangeOut (f .precision .bits) first last) ∷ [];
+      faults = λ s. (31, not (intact (s .factor))) ∷ (32, stateOut s) ∷ [];
+      listing = λ f. wordList;
       mark = λ f X. markBy f X (productBy f X);
       firstHigh = λ f. firstHigh (f .precision .bits) (scaleOf (f .precision .bits)) (f .lower);
       find = findIn;

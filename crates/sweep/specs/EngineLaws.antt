@@ -3,11 +3,13 @@
 use mathlib.Core.Path.{_≡_, refl, subst}
 use mathlib.Core.Bool.{Bool, true, false, not, _||_, true≢false}
 use mathlib.Core.Logic.{_≢_, _↔_}
+use mathlib.Core.List.{List}
 use Prim.Native.Nat.{ℕ, suc, _-_, _*_, _≤_}
 use native.Mathlib.Omega.{arith}
 use lib.Dec.{ltb}
-use borrow.Author.Tests.{ltb-false}
+use borrow.Author.Tests.{eqb-false, leb-false, ltb-false}
 use Rattle.marks.specs.declared.Mark.the-variants.{Right}
+use Rattle.marks.specs.AnswerLaws.{or-false}
 use Rattle.rounding.specs.Grid.{toEven}
 use Rattle.rounding.specs.RoundLaws.{HasBits}
 use Rattle.factor.specs.declared.Parts.{Parts}
@@ -22,9 +24,11 @@ use Rattle.product.specs.AnswerLaws.{significand-in}
 use Rattle.suspects.specs.Suspects.{Suspect}
 use Rattle.suspects.specs.Window.{suspect-iff, not-right-suspect}
 use Rattle.suspects.specs.NextLaws as next
-use Rattle.calls.specs.Engine.{Half, low, high, halfOf, Lawful}
-use Rattle.calls.specs.Refusals.{or-false}
-use Rattle.sweep.specs.Engine.{suspect, rangeOut, findIn, mostRounds, engine}
+use Rattle.calls.specs.State.{entries, roomIn}
+use Rattle.calls.specs.Engine.{Half, low, high, halfOf, ListingLaws, Lawful}
+use Rattle.calls.specs.Refusals as calls
+use Rattle.calls.specs.Lists.{entries-plain, room-plain}
+use Rattle.sweep.specs.Engine.{suspect, rangeOut, wordList, findIn, mostRounds, engine}
 
 -- A factor that 31 does not refuse is sound.
 pub sound-of : (f : Factor) → not (intact f) ≡ false → Sound f
@@ -82,15 +86,41 @@ module _ (f : Factor) (s : Sound f) where
       suspect-is X .1
       (not-right-suspect toEven n 62 two fine L U (s .lower-end) (s .upper-end) (s .ordered) (s .same) X (x .least) (x .most) z)
 
+-- A call that neither 18 nor 19 refuses has a cap of at least 1 and a free place.
+word-laws : ListingLaws wordList
+word-laws =
+    record {
+      some = omega arith;
+      long = λ w. refl;
+      takes = λ t h. (omega (arith, eqb-false (t .cap) 0 (h .0)), omega (arith, leb-false (t .size) (t .free) (h .1 .0)));
+    }
+
+-- Entries are the listed words themselves.
+pub entries-are : (w : List ℕ) → entries wordList w ≡ w
+entries-are = entries-plain wordList (λ w. refl)
+
+-- There is room for as many as there are free places.
+pub room-is : (size place : ℕ) → roomIn wordList size place ≡ size - place
+room-is = room-plain wordList refl
+
 -- The engine is lawful.
 pub lawful : Lawful suspect engine mostRounds
-lawful f first last sound inside =
-    let s = sound-of f sound in
-    let r = in-range (f .precision .bits) first last inside in
+lawful =
     record {
-      ordered = r .ordered;
-      suspected = λ X h k q. not-right f s X (record { least = omega (arith, r .first-bits .least); most = omega (arith, r .last-bits .most) }) q;
-      finds-low = λ a h k i. next.finds-low toEven (f .precision .bits) 62 (two f s) (fine f s) (f .lower) (f .upper) (s .lower-end) (s .upper-end) (s .same) a _ (omega arith);
-      finds-high = λ a h k i. next.finds-high toEven (f .precision .bits) 62 (two f s) (fine f s) (f .lower) (f .upper) (s .lower-end) (s .upper-end) (s .same) a (suc last) i;
-      few = λ a h k. few f s (halfOf (engine .firstHigh f) a) a;
+      states = λ s.
+          let r = calls.in-range (rangeOut (s .factor .precision .bits) (s .first) (s .last)) s in (
+            (λ h. let i = r .0 (h .1 .0) in record { sound = (h .0, (i .0, tt)); from = i .1; upto = i .2 }),
+            (λ h. (h .sound .0, (r .1 (h .sound .1 .0, h .from, h .upto), tt))),
+          );
+      laws = λ f first last good.
+          let s = sound-of f (good .0) in
+          let r = in-range (f .precision .bits) first last (good .1 .0) in
+          record {
+            ordered = r .ordered;
+            lists = word-laws;
+            suspected = λ X h k q. not-right f s X (record { least = omega (arith, r .first-bits .least); most = omega (arith, r .last-bits .most) }) q;
+            finds-low = λ a h k i. next.finds-low toEven (f .precision .bits) 62 (two f s) (fine f s) (f .lower) (f .upper) (s .lower-end) (s .upper-end) (s .same) a _ (omega arith);
+            finds-high = λ a h k i. next.finds-high toEven (f .precision .bits) 62 (two f s) (fine f s) (f .lower) (f .upper) (s .lower-end) (s .upper-end) (s .same) a (suc last) i;
+            few = λ a h k. few f s (halfOf (engine .firstHigh f) a) a;
+          };
     }

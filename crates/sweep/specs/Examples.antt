@@ -6,7 +6,7 @@ use Prim.Native.Nat.{ℕ, _*_, _^_}
 use native.Mathlib.Decide.{decLe, decLt, ℕ-discrete}
 use lib.IntN.{pos}
 use lib.Ieee
-use Rattle.marks.specs.Answers.{answer}
+use Rattle.marks.specs.Answers.{Outcome, refused, accepted, answer}
 use Rattle.rounding.specs.Grid.{nearest}
 use Rattle.rounding.specs.Round.{rounded}
 use Rattle.factor.specs.declared.Factor.{Factor}
@@ -16,8 +16,8 @@ use Rattle.product.specs.Product.{product}
 use Rattle.product.specs.Marks.{mark}
 use Rattle.search.specs.Search.{ceilDiv, negMod, test, placeAfter, afterRound, searchWithin, searchWindow, shift, searchFrom}
 use Rattle.suspects.specs.Next.{nextIn, firstHigh}
-use Rattle.calls.specs.State.{Outcome, refused, accepted, State, newState}
-use Rattle.calls.specs.Call.{Reply, ahead, run, sweepCall}
+use Rattle.calls.specs.State.{State}
+use Rattle.calls.specs.Call.{newState, Reply, ahead, run, sweepCall}
 use Rattle.sweep.specs.Engine.{engine}
 use Rattle.sweep.specs.Answers.{callOf}
 
@@ -43,7 +43,7 @@ unfolding sweepCall run ahead firstHigh nextIn ceilDiv negMod test placeAfter af
 called s cap list free = sweepCall engine s (callOf cap list free)
 
 begun : Factor → (first last : ℕ) → Outcome (State Factor)
-unfolding intact answer setUp partsOf appliedOf partsAt rounded nearest Ieee.round Ieee.size Ieee.span Ieee.climb Ieee.toBits
+unfolding answer intact setUp partsOf appliedOf partsAt rounded nearest Ieee.round Ieee.size Ieee.span Ieee.climb Ieee.toBits
 begun f first last = newState engine f first last
 
 -- what an accepted call answers

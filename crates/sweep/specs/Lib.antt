@@ -3,7 +3,6 @@ pub mod Engine
 pub mod EngineLaws
 pub mod Answers
 pub mod Steps
-pub mod RefusalLaws
 pub mod StepLaws
 pub mod LoopLaws
 pub mod TailLaws

@@ -1,147 +1,147 @@
 -- Laws for the loop over a call's steps, on a tail that is free from its first place on. Assumes nothing.
 use mathlib.Core.Path.{_≡_, refl, sym, ap, _∙_}
-use mathlib.Core.Bool.{Bool, true, false, _||_}
+use mathlib.Core.Bool.{Bool, true, false, cond, true≢false, false≢true}
 use mathlib.Core.Logic.{_⊎_, inl, inr}
 use mathlib.Core.List.{List}
 use Prim.Native.Nat.{ℕ, suc, _+_, _-_, _^_, _≤_, _<_}
 use native.Mathlib.Omega.{arith}
-use native.Mathlib.Nat.{mul-le-mul-left}
-use lib.Dec.{eqb}
-use lib.ListN.{length}
+use native.Mathlib.Nat.{add-zero, mul-le-mul-left}
+use lib.ListN.{length, set}
 use lib.Seq.{sets}
-use borrow.Author.Tests.{eqb-true, eqb-false}
 use Rattle.marks.specs.declared.Mark.{Mark}
+use Rattle.marks.specs.declared.Mark.the-variants.{Right, Open, Wrong}
+use Rattle.marks.specs.Answers.{accepted}
 use Rattle.search.specs.declared.Place.{Place}
 use Rattle.search.specs.declared.Place.the-variants.{At, Nowhere}
 use Rattle.search.specs.declared.Found.{Found}
-use Rattle.factor.specs.declared.Factor.{Factor}
 use Rattle.factor.specs.SetUp.{Sound}
 use Rattle.suspects.specs.declared.Halves.{Halves}
-use Rattle.calls.specs.State.{accepted, State, Call, listed}
-use Rattle.calls.specs.Call.{Reply, ahead, handed, sweepCall}
-use Rattle.calls.specs.Refusals.{Ready, ready, or-false}
-use Rattle.calls.specs.Loop as calls
-use Rattle.calls.specs.Loop.{Looping}
+use Rattle.calls.specs.State.{listed, entries, roomIn}
+use Rattle.calls.specs.Call.{handed, sweepCall}
+use Rattle.calls.specs.Refusals.{ready}
+use Rattle.calls.specs.Runs.{ahead-found}
+use Rattle.calls.specs.Loop.{Looping, loop-start, loop-ready, loop-end, loop-rounds, loop-trial}
 use Rattle.sweep.specs.declared.SweepState.{SweepState}
-use Rattle.sweep.specs.declared.Trial.{Trial}
-use Rattle.sweep.specs.declared.Event.{Event}
-use Rattle.sweep.specs.declared.Step.{Step}
-use Rattle.sweep.specs.Engine.{halvesOf, engine}
-use Rattle.sweep.specs.EngineLaws.{sound-of, lawful}
-use Rattle.sweep.specs.Answers.{viewOf, callOf}
-use Rattle.sweep.specs.Steps.{mustStop, eventAt, stepOf, Stepping, judgedBy, Taken}
-use Rattle.sweep.specs.StepLaws.{Tried, step-last, step-found, tried-tells, stopped-tells, over-tells}
+use Rattle.sweep.specs.declared.Work.{Work}
+use Rattle.sweep.specs.Engine.{wordList, halvesOf, engine}
+use Rattle.sweep.specs.EngineLaws.{sound-of, entries-are, room-is, lawful}
+use Rattle.sweep.specs.Answers.{viewOf, callOf, termsBy}
+use Rattle.sweep.specs.Steps.{mustStop, begunAt, haltedAt, triedAt, stepAt, aheadOf, stepOf, resultIn, Stepping, Taken}
+use Rattle.sweep.specs.StepLaws.{must-stop, may-go, last-short}
 
--- The loop of a call on a tail, before its step from a on.
-pub record LoopingOn (s : SweepState) (cap : ℕ) (tail₀ : List ℕ) (a trials rounds place : ℕ) (tail : List ℕ) : Type 0 where
-  pub looping : Looping engine (viewOf s) (callOf cap tail₀ 0) a trials rounds place tail
+-- The call is done: its answer, its state and the tail are what the call comes to.
+abbrev pub Done : SweepState → (cap : ℕ) → (tail₀ : List ℕ) → Work → (tail : List ℕ) → Type 0
+Done s cap tail₀ w tail =
+    record { answer = accepted (resultIn w); state = handed (viewOf s) (w .left); list = tail } ≡ sweepCall engine (viewOf s) (callOf cap tail₀ 0)
+
+-- The loop of a call on a tail: it goes on, what is done and what is left to do being what the call does; or it is done.
+pub record Working (s : SweepState) (cap : ℕ) (tail₀ : List ℕ) (w : Work) (tail : List ℕ) : Type 0 where
+  pub on : w .going ≡ true → Looping engine (viewOf s) (callOf cap tail₀ 0) (w .at) (w .trials) (w .rounds) (w .place) tail
+  pub off : w .going ≡ false → Done s cap tail₀ w tail
+  pub fits : w .place ≤ length tail₀
+  pub long : length tail ≡ length tail₀
+
+-- What is left of the range, and the end.
+abbrev pub ahead-of : SweepState → Work → ℕ
+ahead-of s w = cond (w .going) (suc (suc (s .last) - w .at)) 0
 
 -- It begins at the next significand.
-pub on-start : {s : SweepState} {cap : ℕ} {tail : List ℕ} → Taken s cap (length tail) → LoopingOn s cap tail (s .next) 0 0 0 tail
-unfolding judgedBy
-on-start {s} {cap} {tail} q = record { looping = calls.loop-start engine (viewOf s) (callOf cap tail 0) q }
+pub work-start : {s : SweepState} {cap : ℕ} {tail : List ℕ} {w : Work} → Taken s cap (length tail) → w ≡ begunAt (s .next) → Working s cap tail w tail
+work-start {s} {cap} {tail} q e = rw e (record { on = λ g. loop-start lawful q; off = λ g. absurd (true≢false g); fits = omega arith; long = refl })
 
 -- The factor of a call that is taken is sound.
-pub on-sound : (s : SweepState) (cap : ℕ) (tail : List ℕ) → Taken s cap (length tail) → Sound (s .factor)
-unfolding judgedBy
-on-sound s cap tail q = sound-of (s .factor) (ready engine (viewOf s) (callOf cap tail 0) q .sound)
+pub work-sound : (s : SweepState) (cap size : ℕ) → Taken s cap size → Sound (s .factor)
+work-sound s cap size q = sound-of (s .factor) (ready lawful (viewOf s) (termsBy cap size 0) q .sound .0)
 
--- Where a call stops, the cap is reached or no place is free; where it goes on, neither.
-must-stop : (t c p n : ℕ) → mustStop t c p n ≡ true → (t ≡ c) ⊎ (p ≡ n)
-must-stop t c p n = go (eqb t c) refl
-  where
-    go : (b : Bool) → eqb t c ≡ b → b || eqb p n ≡ true → (t ≡ c) ⊎ (p ≡ n)
-    go true e q = inl (eqb-true t c e)
-    go false e q = inr (eqb-true p n q)
+module _ {s : SweepState} {cap : ℕ} {tail₀ : List ℕ} {w : Work} {tail : List ℕ} (k : Working s cap tail₀ w tail) (g : w .going ≡ true) where
+  l : Looping engine (viewOf s) (callOf cap tail₀ 0) (w .at) (w .trials) (w .rounds) (w .place) tail
+  l = k .on g
 
-may-go : (t c p n : ℕ) → mustStop t c p n ≡ false → ¬ (t ≡ c) × ¬ (p ≡ n)
-may-go t c p n q = let o = or-false (eqb t c) (eqb p n) q in (eqb-false t c (o .0), eqb-false p n (o .1))
+  abbrev found : Found
+  found = aheadOf s (w .at)
 
-module _ {s : SweepState} {cap : ℕ} {tail₀ : List ℕ} {a trials rounds place : ℕ} {tail : List ℕ} (k : LoopingOn s cap tail₀ a trials rounds place tail) where
-  abbrev l : Looping engine (viewOf s) (callOf cap tail₀ 0) a trials rounds place tail
-  l = k .looping
+  abbrev mark : ℕ → Mark
+  mark = engine .mark (s .factor)
 
-  abbrev view : State Factor
-  view = viewOf s
+  short : s .last < 2 ^ 24
+  short = last-short (s .factor) (s .first) (s .last) (loop-ready lawful l .sound)
 
-  abbrev call : Call
-  call = callOf cap tail₀ 0
+  -- A step may be made.
+  pub work-steps : {h : Halves} → h ≡ halvesOf (s .factor) → Stepping s h cap (length tail₀) w
+  work-steps are =
+      let m : suc (s .last) - s .next + 2 ≤ 2 ^ 24 + 2 = omega (arith, short) in
+      record {
+        sound = loop-ready lawful l .sound;
+        are = are;
+        from = l .from;
+        turns = omega (arith, loop-rounds lawful l, mul-le-mul-left 64 m);
+        capped = l .capped;
+        fits = l .fits;
+      }
 
-  abbrev replied : (trials rounds place : ℕ) → Place → List ℕ → Reply Factor
-  replied t r p left list = record { answer = accepted (record { trials = t; rounds = r; place = p }); state = handed view left; list = list }
+  -- What a step leads to: a place to write to, where it has moved, with a word that fits; the loop again, with the word written or none; and less ahead.
+  pub record Stepped (next : Work) : Type 0 where
+    pub fits : w .place < next .place → (w .place < length tail) × (next .word < 2 ^ 32)
+    pub wrote : w .place < next .place → Working s cap tail₀ next (set tail (w .place) (next .word))
+    pub kept : next .place ≤ w .place → Working s cap tail₀ next tail
+    pub less : ahead-of s next < ahead-of s w
 
-  is-ready : Ready engine view call
-  is-ready = ready engine view call (l .accepts)
+  -- the call ends
+  halts : (p : Place) → found .place ≡ p → (p ≡ Nowhere) ⊎ (w .trials ≡ cap) ⊎ (w .place ≡ length tail₀) → Stepped (haltedAt w (w .rounds + found .rounds) p)
+  halts p q h =
+      record {
+        fits = λ i. absurd (omega arith);
+        wrote = λ i. absurd (omega arith);
+        kept = λ i. record { on = λ z. absurd (false≢true z); off = λ z. loop-end lawful l p q (by h); fits = l .fits; long = l .long };
+        less = rw g (omega arith);
+      }
+    where
+      by : (p ≡ Nowhere) ⊎ (w .trials ≡ cap) ⊎ (w .place ≡ length tail₀) → (p ≡ Nowhere) ⊎ (w .trials ≡ cap) ⊎ (roomIn wordList (length tail₀) (w .place) ≡ 0)
+      by (inl z) = inl z
+      by (inr (inl z)) = inr (inl z)
+      by (inr (inr z)) = inr (inr (room-is (length tail₀) (w .place) ∙ omega arith))
 
-  -- The tail keeps its length.
-  pub on-long : length tail ≡ length tail₀
-  on-long = l .long
+  -- X is tried
+  module _ {X : ℕ} (q : found .place ≡ At X) (h : ¬ (w .trials ≡ cap)) (i : ¬ (w .place ≡ length tail₀)) where
+    inside : (w .at ≤ X) × (X ≤ s .last)
+    inside = ahead-found (lawful .laws (s .factor) (s .first) (s .last) (loop-ready lawful l .sound)) (w .at) (l .from) X q
 
-  -- Where nothing of the range is left, the call is over.
-  pub on-past : s .last < a → replied trials rounds place Nowhere tail ≡ sweepCall engine view call
-  on-past h = calls.loop-over engine view call a trials rounds place tail l h
+    -- the loop goes on past it, its word being written
+    past : (m : Mark) → mark X ≡ m
+        → Looping engine (viewOf s) (callOf cap tail₀ 0) (X + 1) (w .trials + 1) (w .rounds + found .rounds) (w .place + length (listed m X)) (sets tail (w .place) (listed m X))
+    past m e =
+        let are : entries wordList (listed (mark X) X) ≡ listed m X = entries-are (listed (mark X) X) ∙ ap (λ (m : Mark). listed m X) e in
+        let room : 0 < roomIn wordList (length tail₀) (w .place) = rw (room-is (length tail₀) (w .place)) (omega (arith, l .fits, i)) in
+        loop-trial lawful l q (omega (arith, l .capped, h)) room (ap length (sym are)) (ap (sets tail (w .place)) (sym are))
 
-  module _ {h : Halves} (are : h ≡ halvesOf (s .factor)) where
-    -- A step may be made.
-    pub on-stepping : Stepping s h a
-    on-stepping = record { sound = is-ready .sound; inside = is-ready .inside; are = are; from = l .from }
+    goes-on : (m : Mark) → mark X ≡ m → Stepped (triedAt w (w .rounds + found .rounds) X m)
+    goes-on Right e =
+        record {
+          fits = λ z. absurd (omega arith);
+          wrote = λ z. absurd (omega arith);
+          kept = λ z. record { on = λ y. rw add-zero at (past Right e); off = λ y. absurd (true≢false (sym g ∙ y)); fits = l .fits; long = l .long };
+          less = rw g (omega (arith, inside));
+        }
+    goes-on Open e =
+        record {
+          fits = λ z. (omega (arith, l .fits, l .long, i), omega (arith, inside, short));
+          wrote = λ z. record { on = λ y. past Open e; off = λ y. absurd (true≢false (sym g ∙ y)); fits = past Open e .fits; long = past Open e .long };
+          kept = λ z. absurd (omega arith);
+          less = rw g (omega (arith, inside));
+        }
+    goes-on Wrong e =
+        record {
+          fits = λ z. (omega (arith, l .fits, l .long, i), omega (arith, inside, short));
+          wrote = λ z. record { on = λ y. past Wrong e; off = λ y. absurd (true≢false (sym g ∙ y)); fits = past Wrong e .fits; long = past Wrong e .long };
+          kept = λ z. absurd (omega arith);
+          less = rw g (omega (arith, inside));
+        }
 
-    -- a step, as code has it
-    module _ {stop : Bool} (told : stop ≡ mustStop trials cap place (length tail₀)) {v : Step} (is : v ≡ stepOf s a stop) where
-      abbrev w : Found
-      w = ahead engine (s .factor) (s .last) a
-
-      abbrev mark : ℕ → Mark
-      mark = engine .mark (s .factor)
-
-      rounds-are : v .rounds ≡ w .rounds
-      rounds-are = ap (λ (v : Step). v .rounds) is
-
-      event-is : eventAt mark stop (w .place) ≡ v .event
-      event-is = ap (λ (v : Step). v .event) (sym is)
-
-      -- The rounds stay small.
-      pub on-rounds : rounds + v .rounds < 2 ^ 32
-      on-rounds =
-          let b = calls.loop-rounds engine view call a trials rounds place tail l lawful w refl in
-          let m : suc (s .last) - s .next + 2 ≤ 2 ^ 24 + 2 = omega (arith, step-last on-stepping) in
-          omega (arith, b, rounds-are, mul-le-mul-left 64 m)
-
-      -- ---- a trial
-
-      module _ {t : Trial} (q : v .event ≡ Event.Tried t) where
-        tells : Tried mark stop (w .place) t
-        tells = tried-tells mark stop (w .place) t (event-is ∙ q)
-
-        -- The cap is not reached and a place is free.
-        pub on-room : (trials < cap) × (place < length tail₀)
-        on-room =
-            let g = may-go trials cap place (length tail₀) (sym told ∙ tells .going) in
-            (omega (arith, l .capped, g .0), omega (arith, l .fits, g .1))
-
-        -- The suspect lies from a on, in the range.
-        pub on-found : (a ≤ t .significand) × (t .significand ≤ s .last)
-        on-found = step-found on-stepping (t .significand) (tells .found)
-
-        -- The loop goes on past it.
-        pub on-trial : {n : ℕ} {tail′ : List ℕ} → n ≡ length (listed (t .mark) (t .significand)) → tail′ ≡ sets tail place (listed (t .mark) (t .significand))
-            → LoopingOn s cap tail₀ (t .significand + 1) (trials + 1) (rounds + v .rounds) (place + n) tail′
-        on-trial {n} {tail′} size written =
-            let m = tells .marked in
-            record {
-              looping =
-                  rw rounds-are
-                  (calls.loop-trial engine view call a trials rounds place tail l lawful w refl (t .significand) n tail′ (tells .found) (on-room .0) (on-room .1)
-                  (rw m size) (rw m written));
-            }
-
-      -- ---- the end
-
-      pub on-stop : {X : ℕ} → v .event ≡ Event.Stopped X → replied trials (rounds + v .rounds) place (At X) tail ≡ sweepCall engine view call
-      on-stop {X} q =
-          let t = stopped-tells mark stop (w .place) X (event-is ∙ q) in
-          rw rounds-are (calls.loop-end engine view call a trials rounds place tail l w refl (At X) (t .0) (inr (must-stop trials cap place (length tail₀) (sym told ∙ t .1))))
-
-      pub on-over : v .event ≡ Event.Over → replied trials (rounds + v .rounds) place Nowhere tail ≡ sweepCall engine view call
-      on-over q =
-          rw rounds-are (calls.loop-end engine view call a trials rounds place tail l w refl Nowhere (over-tells mark stop (w .place) (event-is ∙ q)) (inl refl))
+  -- The step that is made.
+  pub work-stepped : {next : Work} → next ≡ stepOf s cap (length tail₀) w → Stepped next
+  work-stepped is = rw is (go (found .place) refl (mustStop (w .trials) cap (w .place) (length tail₀)) refl)
+    where
+      go : (p : Place) → found .place ≡ p → (b : Bool) → mustStop (w .trials) cap (w .place) (length tail₀) ≡ b → Stepped (stepAt mark b w (w .rounds + found .rounds) p)
+      go Nowhere q b e = halts Nowhere q (inl refl)
+      go (At X) q true e = halts (At X) q (inr (must-stop (w .trials) cap (w .place) (length tail₀) e))
+      go (At X) q false e = let z = may-go (w .trials) cap (w .place) (length tail₀) e in goes-on q (z .0) (z .1) (mark X) refl

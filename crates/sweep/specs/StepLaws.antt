@@ -1,14 +1,16 @@
--- Laws of a step: what is found lies in the range, and what each event tells. Assumes nothing.
+-- Laws of a step: the search ahead, what is found, and what is done at it. Assumes nothing.
 use mathlib.Core.Path.{_≡_, refl, sym, ap, _∙_, subst}
-use mathlib.Core.Bool.{Bool, true, false, cond}
-use mathlib.Core.List.{List, [], _∷_}
+use mathlib.Core.Bool.{Bool, true, false, cond, _||_}
+use mathlib.Core.Logic.{_⊎_, inl, inr}
 use Prim.Native.Nat.{ℕ, suc, _+_, _^_, _≤_, _<_, min, max}
 use native.Mathlib.Omega.{arith}
 use native.Mathlib.Numerals.{add-one}
-use lib.Dec.{ltb}
+use lib.Dec.{eqb, ltb}
 use lib.Pow.{pow-mono}
-use borrow.Author.Tests.{lt-ltb, le-ltb}
+use borrow.Author.Tests.{eqb-true, eqb-false, lt-ltb, le-ltb}
 use Rattle.marks.specs.declared.Mark.{Mark}
+use Rattle.marks.specs.Answers.{NoneHolds}
+use Rattle.marks.specs.AnswerLaws.{or-false}
 use Rattle.search.specs.declared.Place.{Place}
 use Rattle.search.specs.declared.Place.the-variants.{At, Nowhere}
 use Rattle.search.specs.declared.Found.{Found}
@@ -19,18 +21,14 @@ use Rattle.suspects.specs.declared.Sought.{Sought}
 use Rattle.suspects.specs.declared.Halves.{Halves}
 use Rattle.suspects.specs.Next.{nextIn, Askable}
 use Rattle.suspects.specs.Asked.{low-askable, high-askable}
-use Rattle.calls.specs.Engine.{low, high, Laws}
+use Rattle.calls.specs.Engine.{low, high}
 use Rattle.calls.specs.Call.{within, orElse, highStart, ahead}
-use Rattle.calls.specs.Plain.{row}
-use Rattle.calls.specs.ByRow.{headOf}
-use Rattle.calls.specs.Rows.{begins}
-use Rattle.calls.specs.Runs.{ahead-is}
+use Rattle.calls.specs.Runs.{ahead-found}
 use Rattle.sweep.specs.declared.SweepState.{SweepState}
-use Rattle.sweep.specs.declared.Trial.{Trial}
-use Rattle.sweep.specs.declared.Event.{Event}
-use Rattle.sweep.specs.Engine.{suspect, halvesOf, mostRounds, engine}
-use Rattle.sweep.specs.EngineLaws.{sound-of, InRange, in-range, few, lawful}
-use Rattle.sweep.specs.Steps.{cutAt, soughtBefore, aheadIn, Searchable, eventAt, stepOf, Stepping}
+use Rattle.sweep.specs.declared.Work.{Work}
+use Rattle.sweep.specs.Engine.{halvesOf, engine}
+use Rattle.sweep.specs.EngineLaws.{sound-of, in-range, few, lawful}
+use Rattle.sweep.specs.Steps.{cutAt, soughtBefore, aheadIn, Searchable, mustStop, haltedAt, triedAt, stepAt, aheadOf, stepOf, Room, Stepping}
 
 -- ---- a place that is cut
 
@@ -86,99 +84,84 @@ module _ (h : Halves) (last a : ℕ) {end : ℕ} (ends : end ≡ min (h .«first
       let e : v ≡ upper = that ∙ ap (λ (z : ℕ). soughtBefore (h .high) z (last + 1)) starts ∙ ap (soughtBefore (h .high) (max a (h .«first_high»))) (add-one last) in
       ap (λ (v : Found). record { place = v .place; rounds = lower .rounds + v .rounds }) e ∙ sym (ahead-by ∙ ap (λ (p : Place). orElse p lower upper) q)
 
--- ---- what is found
+-- ---- whether the call stops
+
+-- Where it does, the cap is reached or no place is free; where it goes on, neither.
+pub must-stop : (t c p n : ℕ) → mustStop t c p n ≡ true → (t ≡ c) ⊎ (p ≡ n)
+must-stop t c p n = go (eqb t c) refl
+  where
+    go : (b : Bool) → eqb t c ≡ b → b || eqb p n ≡ true → (t ≡ c) ⊎ (p ≡ n)
+    go true e q = inl (eqb-true t c e)
+    go false e q = inr (eqb-true p n q)
+
+pub may-go : (t c p n : ℕ) → mustStop t c p n ≡ false → ¬ (t ≡ c) × ¬ (p ≡ n)
+may-go t c p n q = let o = or-false (eqb t c) (eqb p n) q in (eqb-false t c (o .0), eqb-false p n (o .1))
+
+-- ---- the step
+
+-- a range that 17 does not refuse ends below 2 ^ 24
+pub last-short : (f : Factor) (first last : ℕ) → NoneHolds (engine .newFaults f first last) → last < 2 ^ 24
+last-short f first last good =
+    let n : ℕ = f .precision .bits in
+    omega (arith, in-range n first last (good .1 .0) .last-bits .most, pow-mono {i = n} {j = 24} (sound-of f (good .0) .most))
 
 -- the halves are the factor's, so the search ahead is the engine's
 pub ahead-in : (f : Factor) (last a : ℕ) → aheadIn (halvesOf f) last a ≡ ahead engine f last a
 unfolding ahead
 ahead-in f last a = refl
 
-module _ {s : SweepState} {h : Halves} {a : ℕ} (k : Stepping s h a) where
+module _ {s : SweepState} {h : Halves} {cap size : ℕ} {w : Work} (k : Stepping s h cap size w) where
   abbrev n : ℕ
   n = s .factor .precision .bits
 
   pub step-sound : Sound (s .factor)
-  step-sound = sound-of (s .factor) (k .sound)
-
-  pub step-range : InRange n (s .first) (s .last)
-  step-range = in-range n (s .first) (s .last) (k .inside)
-
-  laws : Laws (suspect (s .factor)) engine (s .factor) (mostRounds (s .factor)) (s .first) (s .last)
-  laws = lawful (s .factor) (s .first) (s .last) (k .sound) (k .inside)
+  step-sound = sound-of (s .factor) (k .sound .0)
 
   pub step-last : s .last < 2 ^ 24
-  step-last = omega (arith, step-range .last-bits .most, pow-mono {i = n} {j = 24} (step-sound .most))
-
-  -- a suspect that is found lies from a on, in the range
-  pub step-found : (X : ℕ) → ahead engine (s .factor) (s .last) a .place ≡ At X → (a ≤ X) × (X ≤ s .last)
-  step-found X q = go here refl (sym (ap (λ (w : Found). w .place) (ahead-is laws a (k .from))) ∙ q)
-    where
-      here : List ℕ
-      here = row (suspect (s .factor)) a (suc (s .last))
-
-      go : (l : List ℕ) → here ≡ l → headOf l ≡ At X → (a ≤ X) × (X ≤ s .last)
-      go [] r q = let z : _≡_ {A = ℕ} 0 1 = cc in absurd (omega arith)
-      go (x ∷ l) r q = let z = begins (suspect (s .factor)) a (suc (s .last)) 0 x l r in let e : x ≡ X = cc in (omega arith, omega arith)
-
-  pub step-bits : (X : ℕ) → ahead engine (s .factor) (s .last) a .place ≡ At X → HasBits n X
-  step-bits X q =
-      let z = step-found X q in
-      record { least = omega (arith, step-range .first-bits .least, k .from); most = omega (arith, step-range .last-bits .most) }
+  step-last = last-short (s .factor) (s .first) (s .last) (k .sound)
 
   -- the step, from what the search ahead found
-  module _ {w : Found} (is : w ≡ aheadIn h (s .last) a) where
+  module _ {found : Found} (is : found ≡ aheadIn h (s .last) (w .at)) where
     abbrev mark : ℕ → Mark
     mark = engine .mark (s .factor)
 
-    step-ahead : w ≡ ahead engine (s .factor) (s .last) a
-    step-ahead = is ∙ ap (λ (h : Halves). aheadIn h (s .last) a) (k .are) ∙ ahead-in (s .factor) (s .last) a
+    abbrev stop : Bool
+    stop = mustStop (w .trials) cap (w .place) size
 
-    pub found-bits : {X : ℕ} → w .place ≡ At X → HasBits n X
-    found-bits {X} q = step-bits X (ap (λ (w : Found). w .place) (sym step-ahead) ∙ q)
+    step-ahead : found ≡ aheadOf s (w .at)
+    step-ahead = is ∙ ap (λ (h : Halves). aheadIn h (s .last) (w .at)) (k .are) ∙ ahead-in (s .factor) (s .last) (w .at)
 
-    step-by : (stop : Bool) (e : Event) → e ≡ eventAt mark stop (w .place) → record { event = e; rounds = w .rounds } ≡ stepOf s a stop
-    step-by stop e q = (λ i. record { event = q i; rounds = w .rounds }) ∙ ap (λ (w : Found). record { event = eventAt mark stop (w .place); rounds = w .rounds }) step-ahead
+    -- the rounds can be counted
+    pub step-rounds : w .rounds + found .rounds < 2 ^ 64
+    step-rounds = rw step-ahead (k .turns)
 
-    pub stop-step : {stop : Bool} {X : ℕ} → w .place ≡ At X → stop ≡ true → record { event = Event.Stopped X; rounds = w .rounds } ≡ stepOf s a stop
-    stop-step {stop} {X} q b = step-by stop (Event.Stopped X) (rw (q, b))
+    -- a suspect that is found lies in the range
+    step-found : {X : ℕ} → found .place ≡ At X → (w .at ≤ X) × (X ≤ s .last)
+    step-found {X} q =
+        ahead-found (lawful .laws (s .factor) (s .first) (s .last) (k .sound)) (w .at) (k .from) X (ap (λ (w : Found). w .place) (sym step-ahead) ∙ q)
 
-    pub trial-step : {stop : Bool} {X : ℕ} {m : Mark} → w .place ≡ At X → stop ≡ false → m ≡ mark X
-        → record { event = Event.Tried (record { significand = X; mark = m }); rounds = w .rounds } ≡ stepOf s a stop
-    trial-step {stop} {X} {m} q b e = step-by stop (Event.Tried (record { significand = X; mark = m })) (rw (q, b, e))
+    pub found-bits : {X : ℕ} → found .place ≡ At X → HasBits n X
+    found-bits q =
+        let z = step-found q in
+        let r = in-range n (s .first) (s .last) (k .sound .1 .0) in
+        record { least = omega (arith, r .first-bits .least, k .from); most = omega (arith, r .last-bits .most) }
 
-    pub over-step : (stop : Bool) → w .place ≡ Nowhere → record { event = Event.Over; rounds = w .rounds } ≡ stepOf s a stop
-    over-step stop q = step-by stop Event.Over (rw q)
+    -- where the call does not stop, one more can be counted
+    pub step-room : {X b : _} → found .place ≡ At X → b ≡ stop → b ≡ false → cap < 2 ^ 64 → size < 2 ^ 64 → Room w X
+    step-room q told b c d =
+        let g = may-go (w .trials) cap (w .place) size (sym told ∙ b) in
+        record { tried = omega (arith, k .capped, g .0); placed = omega (arith, k .fits, g .1); found = omega (arith, step-found q, step-last) }
 
--- ---- what an event tells
+    step-by : (b : Bool) → stop ≡ b → (p : Place) → found .place ≡ p → stepAt mark b w (w .rounds + found .rounds) p ≡ stepOf s cap size w
+    step-by b e p q =
+        sym (λ i. stepAt mark (e i) w (w .rounds + found .rounds) (q i)) ∙ ap (λ (f : Found). stepAt mark stop w (w .rounds + f .rounds) (f .place)) step-ahead
 
-module _ (mark : ℕ → Mark) (stop : Bool) (p : Place) where
-  pub record Tried (t : Trial) : Type 0 where
-    pub found : p ≡ At (t .significand)
-    pub marked : mark (t .significand) ≡ t .mark
-    pub going : stop ≡ false
+    pub stop-step : {X : ℕ} {b : Bool} {r : Work} → found .place ≡ At X → b ≡ stop → b ≡ true → r ≡ haltedAt w (w .rounds + found .rounds) (At X) → r ≡ stepOf s cap size w
+    stop-step {X} q told b e = e ∙ step-by true (sym told ∙ b) (At X) q
 
-  pub tried-tells : (t : Trial) → eventAt mark stop p ≡ Event.Tried t → Tried t
-  tried-tells t = go p stop refl refl
-    where
-      go : (p′ : Place) (b : Bool) → p ≡ p′ → stop ≡ b → eventAt mark b p′ ≡ Event.Tried t → Tried t
-      go (At X) true i j q = let z : _≡_ {A = ℕ} 0 1 = cc in absurd (omega arith)
-      go (At X) false i j q =
-          let e : record { significand = X; mark = mark X } ≡ t = cc in
-          record { found = i ∙ ap (λ (t : Trial). At (t .significand)) e; marked = ap (λ (t : Trial). mark (t .significand)) (sym e) ∙ ap (λ (t : Trial). t .mark) e; going = j }
-      go Nowhere b i j q = let z : _≡_ {A = ℕ} 0 1 = cc in absurd (omega arith)
+    pub trial-step : {X : ℕ} {b : Bool} {m : Mark} {r : Work} → found .place ≡ At X → b ≡ stop → b ≡ false → m ≡ mark X → r ≡ triedAt w (w .rounds + found .rounds) X m
+        → r ≡ stepOf s cap size w
+    trial-step {X} q told b marked e = e ∙ ap (triedAt w (w .rounds + found .rounds) X) marked ∙ step-by false (sym told ∙ b) (At X) q
 
-  pub stopped-tells : (X : ℕ) → eventAt mark stop p ≡ Event.Stopped X → (p ≡ At X) × (stop ≡ true)
-  stopped-tells X = go p stop refl refl
-    where
-      go : (p′ : Place) (b : Bool) → p ≡ p′ → stop ≡ b → eventAt mark b p′ ≡ Event.Stopped X → (p ≡ At X) × (stop ≡ true)
-      go (At Y) true i j q = let e : Y ≡ X = cc in (i ∙ ap At e, j)
-      go (At Y) false i j q = let z : _≡_ {A = ℕ} 0 1 = cc in absurd (omega arith)
-      go Nowhere b i j q = let z : _≡_ {A = ℕ} 0 1 = cc in absurd (omega arith)
-
-  pub over-tells : eventAt mark stop p ≡ Event.Over → p ≡ Nowhere
-  over-tells = go p stop refl
-    where
-      go : (p′ : Place) (b : Bool) → p ≡ p′ → eventAt mark b p′ ≡ Event.Over → p ≡ Nowhere
-      go (At Y) true i q = let z : _≡_ {A = ℕ} 0 1 = cc in absurd (omega arith)
-      go (At Y) false i q = let z : _≡_ {A = ℕ} 0 1 = cc in absurd (omega arith)
-      go Nowhere b i q = i
+    pub over-step : {r : Work} → found .place ≡ Nowhere → r ≡ haltedAt w (w .rounds + found .rounds) (found .place) → r ≡ stepOf s cap size w
+    over-step q e = e ∙ ap (haltedAt w (w .rounds + found .rounds)) q ∙ step-by stop refl Nowhere q

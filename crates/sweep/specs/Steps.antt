@@ -1,10 +1,11 @@
 -- Definitions: a step of a sweep call, and what the functions that make it may be asked. Assumes nothing.
 use mathlib.Core.Path.{_≡_}
-use mathlib.Core.Bool.{Bool, false, cond, _||_}
-use mathlib.Core.List.{[], _∷_, _++_}
-use Prim.Native.Nat.{ℕ, suc, _≤_}
-use lib.Dec.{eqb, leb, ltb}
+use mathlib.Core.Bool.{Bool, true, false, cond, _||_}
+use Prim.Native.Nat.{ℕ, suc, _+_, _*_, _^_, _≤_, _<_}
+use lib.Dec.{eqb, ltb}
 use Rattle.marks.specs.declared.Mark.{Mark}
+use Rattle.marks.specs.declared.Mark.the-variants.{Right, Open, Wrong}
+use Rattle.marks.specs.Answers.{none, judged, NoneHolds}
 use Rattle.search.specs.declared.Place.{Place}
 use Rattle.search.specs.declared.Place.the-variants.{At, Nowhere}
 use Rattle.search.specs.declared.Found.{Found}
@@ -14,13 +15,11 @@ use Rattle.suspects.specs.declared.Sought.{Sought}
 use Rattle.suspects.specs.declared.Halves.{Halves}
 use Rattle.suspects.specs.Next.{nextIn}
 use Rattle.calls.specs.Engine.{lowEnd}
-use Rattle.calls.specs.State.{Refusal, none, judged, faults}
-use Rattle.calls.specs.Call.{within, orElse, highStart, ahead}
+use Rattle.calls.specs.Call.{Result, conditions, within, orElse, highStart, ahead}
 use Rattle.sweep.specs.declared.SweepState.{SweepState}
-use Rattle.sweep.specs.declared.Event.{Event}
-use Rattle.sweep.specs.declared.Step.{Step}
+use Rattle.sweep.specs.declared.Work.{Work}
 use Rattle.sweep.specs.Engine.{halvesOf, engine}
-use Rattle.sweep.specs.Answers.{viewOf}
+use Rattle.sweep.specs.Answers.{viewOf, termsBy}
 
 -- ---- searches
 
@@ -50,30 +49,65 @@ pub record Searchable (h : Halves) : Type 0 where
 abbrev pub mustStop : (trials cap place size : ℕ) → Bool
 mustStop trials cap place size = eqb trials cap || eqb place size
 
+-- at first nothing is done, and the call goes on from a
+abbrev pub begunAt : ℕ → Work
+begunAt a = record { at = a; trials = 0; rounds = 0; place = 0; going = true; word = 0; left = Nowhere }
+
+-- the call stops at a suspect, or is over
+abbrev pub haltedAt : Work → (rounds : ℕ) → Place → Work
+haltedAt w n p = record { at = w .at; trials = w .trials; rounds = n; place = w .place; going = false; word = w .word; left = p }
+
+-- a word goes into the next free place
+abbrev pub withWord : Work → (word : ℕ) → Work
+withWord w v = record { at = w .at; trials = w .trials; rounds = w .rounds; place = w .place + 1; going = w .going; word = v; left = w .left }
+
+-- the word of X, if it has one: 2X, plus 1 for open
+abbrev pub markedAt : Work → (X : ℕ) → Mark → Work
+markedAt w X Right = w
+markedAt w X Open = withWord w (2 * X + 1)
+markedAt w X Wrong = withWord w (2 * X)
+
+-- X was tried: the call goes on past it, with its word if it has one
+abbrev pub triedAt : Work → (rounds X : ℕ) → Mark → Work
+triedAt w n X m =
+    markedAt (record { at = X + 1; trials = w .trials + 1; rounds = n; place = w .place; going = w .going; word = w .word; left = w .left }) X m
+
 -- what is done at a place: a suspect is tried, or the call stops at it; none found is the end
-abbrev pub eventAt : (ℕ → Mark) → Bool → Place → Event
-eventAt mark stop (At X) = cond stop (Event.Stopped X) (Event.Tried (record { significand = X; mark = mark X }))
-eventAt mark stop Nowhere = Event.Over
+abbrev pub stepAt : (ℕ → Mark) → (stop : Bool) → Work → (rounds : ℕ) → Place → Work
+stepAt mark stop w n (At X) = cond stop (haltedAt w n (At X)) (triedAt w n X (mark X))
+stepAt mark stop w n Nowhere = haltedAt w n Nowhere
 
--- the step of a call from a on
-abbrev pub stepOf : SweepState → (a : ℕ) → (stop : Bool) → Step
-stepOf s a stop =
-    let w = ahead engine (s .factor) (s .last) a in
-    record { event = eventAt (engine .mark (s .factor)) stop (w .place); rounds = w .rounds }
+-- the search ahead
+abbrev pub aheadOf : SweepState → (a : ℕ) → Found
+aheadOf s a = ahead engine (s .factor) (s .last) a
 
--- a step may be made from a on: neither 31 nor 17 refuses the state, and the halves are those of its factor
-pub record Stepping (s : SweepState) (h : Halves) (a : ℕ) : Type 0 where
-  pub sound : engine .faulty (s .factor) ≡ false
-  pub inside : engine .badRange (s .factor) (s .first) (s .last) ≡ false
+-- the step of a call
+abbrev pub stepOf : SweepState → (cap size : ℕ) → Work → Work
+stepOf s cap size w =
+    let found = aheadOf s (w .at) in
+    stepAt (engine .mark (s .factor)) (mustStop (w .trials) cap (w .place) size) w (w .rounds + found .rounds) (found .place)
+
+-- what a call answers as numbers, once it is done
+abbrev pub resultIn : Work → Result
+resultIn w = record { trials = w .trials; rounds = w .rounds; place = w .place }
+
+-- ---- what is asked
+
+-- room to count one more trial and word
+pub record Room (w : Work) (X : ℕ) : Type 0 where
+  pub tried : w .trials + 1 < 2 ^ 64
+  pub placed : w .place + 1 < 2 ^ 64
+  pub found : X < 2 ^ 24
+
+-- a step may be made: a new state over the factor and the range is not refused, the halves are those of the factor, and the counts fit
+pub record Stepping (s : SweepState) (h : Halves) (cap size : ℕ) (w : Work) : Type 0 where
+  pub sound : NoneHolds (engine .newFaults (s .factor) (s .first) (s .last))
   pub are : h ≡ halvesOf (s .factor)
-  pub from : s .first ≤ a
-
--- ---- refusals
-
--- the refusal of a call with a list of that size
-unfoldable pub judgedBy : SweepState → (cap size free : ℕ) → Refusal
-judgedBy s cap size free = judged (faults engine (viewOf s) ++ (33, s .finished) ∷ (18, eqb cap 0) ∷ (19, leb size free) ∷ [])
+  pub from : s .first ≤ w .at
+  pub turns : w .rounds + aheadOf s (w .at) .rounds < 2 ^ 64
+  pub capped : w .trials ≤ cap
+  pub fits : w .place ≤ size
 
 -- a call on a list of that size, all of it free, is not refused
 abbrev pub Taken : SweepState → (cap size : ℕ) → Type 0
-Taken s cap size = judgedBy s cap size 0 ≡ none
+Taken s cap size = judged (conditions engine (viewOf s) (termsBy cap size 0)) ≡ none

@@ -7,17 +7,16 @@ use search::Place;
 use suspects::Halves;
 use suspects::Sought;
 ghost use mathlib.Core.Path.{_≡_};
-ghost use Prim.Native.Nat.{_≤_, _<_, _^_, min, max};
+ghost use Prim.Native.Nat.{_+_, _≤_, _<_, _^_, min, max};
 ghost use lib.ListN.{length};
-ghost use lib.Seq.{sets};
 ghost use Rattle.factor.specs.Precision.{Kept};
 ghost use Rattle.suspects.specs.Next.{Askable};
-ghost use Rattle.calls.specs.State.{newState, outOfRange, listed};
-ghost use Rattle.calls.specs.Call.{sweepCall};
+ghost use Rattle.marks.specs.AnswerLaws.{First};
+ghost use Rattle.calls.specs.Call.{newState, conditions, sweepCall};
 ghost use Rattle.calls.specs.Call;
-ghost use Rattle.sweep.specs.Engine.{rangeOut, engine};
-ghost use Rattle.sweep.specs.Answers.{viewOf, newOf, callOf, replyOf, refusalOf};
-ghost use Rattle.sweep.specs.Steps.{cutAt, soughtBefore, aheadIn, mustStop, stepOf, judgedBy, Searchable, Stepping, Taken};
+ghost use Rattle.sweep.specs.Engine.{rangeOut, stateOut, engine};
+ghost use Rattle.sweep.specs.Answers.{viewOf, newOf, callOf, termsBy, resultOf, replyOf, refusalOf};
+ghost use Rattle.sweep.specs.Steps.{cutAt, soughtBefore, aheadIn, Searchable, mustStop, begunAt, haltedAt, withWord, triedAt, stepOf, resultIn, Room, Stepping, Taken};
 
 // A sweep's state: the factor, the first, last and next significand, and whether the sweep is finished.
 pub struct SweepState {
@@ -54,23 +53,16 @@ pub enum SweepAnswer {
     Refused(SweepRefusal),
 }
 
-// A suspect that was tried, with its mark.
-struct Trial {
-    significand: u64,
-    mark: Mark,
-}
-
-// What a step of a call comes to: a trial, a suspect that it stops at, or the end, no suspect being left.
-enum Event {
-    Tried(Trial),
-    Stopped(u64),
-    Over,
-}
-
-// A step, with the rounds of its searches.
-struct Step {
-    event: Event,
+// What a call has done so far: where it goes on, its trials and rounds, and the next free place. Its last step says whether it goes on, which word to write where the place
+// has moved, and where it stopped.
+struct Work {
+    at: u64,
+    trials: u64,
     rounds: u64,
+    place: usize,
+    going: bool,
+    word: u64,
+    left: Place,
 }
 
 // Whether a call is refused.
@@ -97,26 +89,26 @@ fn range_out(p: Precision, first: u64, last: u64) -> bool
 pub fn new_state(f: Factor, first: u64, last: u64) -> NewSweep
     ensures { λ r. ⌜ newOf r ≡ newState engine f first last ⌝ }
 {
-    if factor::is_intact(f) {
-        let p = f.precision;
-        if range_out(p, first, last) {
-            return NewSweep::Refused(17);
-        }
-        return NewSweep::Accepted(SweepState {
-            factor: f,
-            first,
-            last,
-            next: first,
-            finished: false,
-        });
+    if !factor::is_intact(f) {
+        return NewSweep::Refused(31);
     }
-    NewSweep::Refused(31)
+    let p = f.precision;
+    if range_out(p, first, last) {
+        return NewSweep::Refused(17);
+    }
+    NewSweep::Accepted(SweepState {
+        factor: f,
+        first,
+        last,
+        next: first,
+        finished: false,
+    })
 }
 
 // Refusal 32: the range is one that 17 refuses, or the next significand lies outside it.
 fn state_out(s: SweepState) -> bool
     requires { ⌜ Kept (s .factor .precision .bits) ⌝ }
-    ensures { λ r. ⌜ r ≡ outOfRange engine (viewOf s) ⌝ }
+    ensures { λ r. ⌜ r ≡ stateOut (viewOf s) ⌝ }
 {
     let f = s.factor;
     let p = f.precision;
@@ -131,25 +123,25 @@ fn state_out(s: SweepState) -> bool
 
 // The first refusal of a call whose condition holds: state before input, the smaller number first.
 fn refusal_of(s: SweepState, cap: u64, size: usize, free: usize) -> Verdict
-    ensures { λ r. ⌜ refusalOf r ≡ judgedBy s cap size free ⌝ }
+    ensures { λ r. ⌜ First (conditions engine (viewOf s) (termsBy cap size free)) (refusalOf r) ⌝ }
 {
     let f = s.factor;
-    if factor::is_intact(f) {
-        if state_out(s) {
-            return Verdict::Refused(32);
-        }
-        if s.finished {
-            return Verdict::Refused(33);
-        }
-        if cap == 0 {
-            return Verdict::Refused(18);
-        }
-        if size <= free {
-            return Verdict::Refused(19);
-        }
-        return Verdict::Taken;
+    if !factor::is_intact(f) {
+        return Verdict::Refused(31);
     }
-    Verdict::Refused(31)
+    if state_out(s) {
+        return Verdict::Refused(32);
+    }
+    if s.finished {
+        return Verdict::Refused(33);
+    }
+    if cap == 0 {
+        return Verdict::Refused(18);
+    }
+    if size <= free {
+        return Verdict::Refused(19);
+    }
+    Verdict::Taken
 }
 
 // A place at or past the end is none found; its rounds count.
@@ -237,56 +229,81 @@ fn must_stop(trials: u64, cap: u64, place: usize, size: usize) -> bool
     place == size
 }
 
-// The next suspect from `at` on and its trial, or where the call stops, or the end.
-fn next_step(s: SweepState, h: Halves, at: u64, stop: bool) -> Step
-    requires { ⌜ Stepping s h at ⌝ }
-    ensures { λ r. ⌜ r ≡ stepOf s at stop ⌝ }
+// Nothing is done yet.
+fn begun(s: SweepState) -> Work
+    ensures { λ r. ⌜ r ≡ begunAt (s .next) ⌝ }
 {
-    let f = s.factor;
-    let found = ahead(h, s.last, at);
-    let rounds = found.rounds;
-    let place = found.place;
-    match place {
-        Place::At(x) => {
-            if stop {
-                return Step {
-                    event: Event::Stopped(x),
-                    rounds,
-                };
-            }
-            let mark = product::trial(f, x);
-            Step {
-                event: Event::Tried(Trial {
-                    significand: x,
-                    mark,
-                }),
-                rounds,
-            }
-        }
-        Place::Nowhere => Step {
-            event: Event::Over,
-            rounds,
-        },
+    let rounds: u64 = 0;
+    Work {
+        at: s.next,
+        trials: 0,
+        rounds,
+        place: 0,
+        going: true,
+        word: 0,
+        left: Place::Nowhere,
     }
 }
 
-// The word of a trial goes into the first place of the tail: 2X, plus 1 for open. It answers how many were written.
-fn write_word(tail: &mut [u32], t: Trial) -> usize
-    requires { ⌜ (0 < length (now tail)) × (t .significand < 2 ^ 24) ⌝ }
-    ensures { λ r. ⌜ (now (tail .exit) ≡ sets (now (tail .entry)) 0 (listed (t .mark) (t .significand))) × (r ≡ length (listed (t .mark) (t .significand))) ⌝ }
+// The call stops at a suspect, or is over.
+fn halted(w: Work, rounds: u64, left: Place) -> Work
+    ensures { λ r. ⌜ r ≡ haltedAt w rounds left ⌝ }
 {
-    let x = t.significand as u32;
-    let mark = t.mark;
+    Work {
+        at: w.at,
+        trials: w.trials,
+        rounds,
+        place: w.place,
+        going: false,
+        word: w.word,
+        left,
+    }
+}
+
+// A word goes into the next free place.
+fn with_word(w: Work, word: u64) -> Work
+    requires { ⌜ w .place + 1 < 2 ^ 64 ⌝ }
+    ensures { λ r. ⌜ r ≡ withWord w word ⌝ }
+{
+    let mut next = w;
+    next.place = w.place + 1;
+    next.word = word;
+    next
+}
+
+// X was tried: its word is 2X, plus 1 for open.
+fn tried(w: Work, rounds: u64, x: u64, mark: Mark) -> Work
+    requires { ⌜ Room w x ⌝ }
+    ensures { λ r. ⌜ r ≡ triedAt w rounds x mark ⌝ }
+{
+    let mut next = w;
+    next.at = x + 1;
+    next.trials = w.trials + 1;
+    next.rounds = rounds;
     match mark {
-        Mark::Right => 0,
-        Mark::Open => {
-            tail[0] = 2 * x + 1;
-            1
+        Mark::Right => next,
+        Mark::Open => with_word(next, 2 * x + 1),
+        Mark::Wrong => with_word(next, 2 * x),
+    }
+}
+
+// A step: the next suspect and its trial, or where the call stops, or the end.
+fn step(s: SweepState, h: Halves, cap: u64, size: usize, w: Work) -> Work
+    requires { ⌜ Stepping s h cap size w ⌝ }
+    ensures { λ r. ⌜ r ≡ stepOf s cap size w ⌝ }
+{
+    let f = s.factor;
+    let found = ahead(h, s.last, w.at);
+    let rounds = w.rounds + found.rounds;
+    let place = found.place;
+    match place {
+        Place::At(x) => {
+            if must_stop(w.trials, cap, w.place, size) {
+                return halted(w, rounds, place);
+            }
+            tried(w, rounds, x, product::trial(f, x))
         }
-        Mark::Wrong => {
-            tail[0] = 2 * x;
-            1
-        }
+        Place::Nowhere => halted(w, rounds, place),
     }
 }
 
@@ -308,54 +325,37 @@ fn handed(s: SweepState, left: Place) -> SweepState
     t
 }
 
+// What an accepted call answers, once it is done.
+fn ended(s: SweepState, w: Work) -> Swept
+    ensures { λ r. ⌜ (viewOf (r .state) ≡ Call.handed (viewOf s) (w .left)) × (resultOf r ≡ resultIn w) ⌝ }
+{
+    let left = w.left;
+    Swept {
+        state: handed(s, left),
+        trials: w.trials,
+        rounds: w.rounds,
+        place: w.place,
+    }
+}
+
 // The steps of an accepted call, which write into the tail that is lent to them, from its first place on.
 fn sweep_on(s: SweepState, cap: u64, tail: &mut [u32]) -> Swept
     requires { ⌜ Taken s cap (length (now tail)) ⌝ }
-    ensures { λ r. ⌜ replyOf (SweepAnswer.Accepted r) (now (tail .exit)) ≡ sweepCall engine (viewOf s) (callOf cap (now (tail .entry)) 0) ⌝ }
+    ensures { λ r. ⌜ (replyOf (SweepAnswer.Accepted r) (now (tail .exit)) ≡ sweepCall engine (viewOf s) (callOf cap (now (tail .entry)) 0)) × (r .place ≤ length (now (tail .entry))) ⌝ }
 {
     let f = s.factor;
-    let last = s.last;
     let h = suspects::prepare(f);
     let size = tail.len();
-    let mut at = s.next;
-    let mut trials: u64 = 0;
-    let mut rounds: u64 = 0;
-    let mut place: usize = 0;
-    while at <= last {
-        let step = next_step(s, h, at, must_stop(trials, cap, place, size));
-        let event = step.event;
-        rounds += step.rounds;
-        match event {
-            Event::Tried(t) => {
-                let written = write_word(&mut tail[place..], t);
-                trials += 1;
-                place += written;
-                at = t.significand + 1;
-            }
-            Event::Stopped(x) => {
-                return Swept {
-                    state: handed(s, Place::At(x)),
-                    trials,
-                    rounds,
-                    place,
-                };
-            }
-            Event::Over => {
-                return Swept {
-                    state: handed(s, Place::Nowhere),
-                    trials,
-                    rounds,
-                    place,
-                };
-            }
+    let mut w = begun(s);
+    while w.going {
+        let next = step(s, h, cap, size, w);
+        let place = w.place;
+        if place < next.place {
+            tail[place] = next.word as u32;
         }
+        w = next;
     }
-    Swept {
-        state: handed(s, Place::Nowhere),
-        trials,
-        rounds,
-        place,
-    }
+    ended(s, w)
 }
 
 // A refusal answers the number and the state as given, and no counts.

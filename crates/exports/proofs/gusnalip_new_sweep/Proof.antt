@@ -1,7 +1,7 @@
 -- `exports::gusnalip_new_sweep` meets its contract: the engine's answer as a number and words. Assumes nothing.
 use mathlib.Core.Path.{_≡_, sym, ap, _∙_}
 use Rattle.factor.specs.declared.Factor.{Factor}
-use Rattle.calls.specs.State.{newState}
+use Rattle.calls.specs.Call.{newState}
 use Rattle.sweep.specs.declared.NewSweep.{NewSweep}
 use Rattle.sweep.specs.Engine.{engine}
 use Rattle.sweep.specs.Answers.{newOf}

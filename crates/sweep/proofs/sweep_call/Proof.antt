@@ -1,17 +1,17 @@
 -- `sweep::sweep_call` meets its contract: refused, or the steps on the free tail that is lent on. Assumes nothing.
-use mathlib.Core.Path.{_≡_, sym, ap, _∙_}
-use Prim.Native.Nat.{_-_, _^_, _≤_, _<_}
+use mathlib.Core.Path.{ap, _∙_}
+use Prim.Native.Nat.{_^_, _<_}
 use native.Mathlib.Omega.{arith}
 use lib.ListN.{length}
 use borrow.Author.Needs.{needs}
-use Rattle.factor.specs.declared.Factor.{Factor}
-use Rattle.calls.specs.State.{none}
-use Rattle.calls.specs.Call.{Reply, sweepCall}
+use Rattle.marks.specs.Answers.{none}
+use Rattle.marks.specs.AnswerLaws.{First}
+use Rattle.calls.specs.Call.{conditions}
+use Rattle.calls.specs.Refusals.{call-refused}
 use Rattle.sweep.specs.declared.SweepAnswer.{SweepAnswer}
 use Rattle.sweep.specs.Engine.{engine}
-use Rattle.sweep.specs.Answers.{viewOf, callOf, replyOf, refusalOf}
-use Rattle.sweep.specs.Steps.{judgedBy}
-use Rattle.sweep.specs.TailLaws.{lent, moved, placeOf, lent-length, tail-refused, place-fits, tail-free, tail-taken, tail-moved}
+use Rattle.sweep.specs.Answers.{viewOf, callOf, termsBy, replyOf}
+use Rattle.sweep.specs.TailLaws.{moved, lent-length, tail-free, tail-taken, tail-moved}
 use Rattle.sweep.proofs.sweep_call.Statement.{statement}
 use Rattle.sweep.proofs.sweep_call.Tie as tie
 
@@ -28,8 +28,8 @@ enum-told : tie.Need-enum-told
 enum-told c = search needs
 
 -- nothing refuses the call
-taken : (c : tie.After-enum-told) → let a = c .before .before .before .before .args in none ≡ judgedBy (a .state) (a .cap) (length (a .list .now)) (a .free)
-taken c = ap refusalOf (sym (c .enum-told .given .1)) ∙ c .before .before .refusal-of .ensures
+taken : (c : tie.After-enum-told) → let a = c .before .before .before .before .args in First (conditions engine (viewOf (a .state)) (termsBy (a .cap) (length (a .list .now)) (a .free))) none
+taken c = rw (c .enum-told .given .1) at (c .before .before .refusal-of .ensures)
 
 -- a list in memory has fewer than 2 ^ 64 places
 short : (c : tie.After-enum-told) → length (c .before .before .before .before .args .list .now) < 2 ^ 64
@@ -68,9 +68,8 @@ add-moved c =
     let a = told .before .before .before .before .args in
     let list = a .list .now in
     let free = tail-free (a .state) (a .cap) list (a .free) (taken told) in
-    let is : on .sweep-on .result .place ≡ placeOf (sweepCall engine (viewOf (a .state)) (callOf (a .cap) (lent list (a .free)) 0) .answer) = ap (λ (r : Reply Factor). placeOf (r .answer)) (on .sweep-on .ensures) in
-    let fits : on .sweep-on .result .place ≤ length list - a .free = omega (arith, is, place-fits (a .state) (a .cap) (lent list (a .free)), lent-length list (a .free)) in
-    omega (arith, short told, free, fits)
+    let fits = on .sweep-on .ensures .1 in
+    omega (arith, short told, free, fits, lent-length list (a .free))
 
 returns : tie.Need-returns
 returns c =
@@ -78,7 +77,7 @@ returns c =
     let a = told .before .before .before .before .before .args in
     let number = told .before .verdict .given in
     ap (λ (r : SweepAnswer). replyOf r (a .list .now)) (c .refused .ensures)
-    ∙ tail-refused (a .state) (a .cap) (a .list .now) (a .free) (number .0 .0) (ap refusalOf (sym (number .1)) ∙ told .before .before .before .refusal-of .ensures)
+    ∙ call-refused engine (viewOf (a .state)) (callOf (a .cap) (a .list .now) (a .free)) (number .0 .0) (rw (number .1) at (told .before .before .before .refusal-of .ensures) .is)
 
 same-length : tie.Need-same-length
 same-length c = search needs
@@ -88,7 +87,7 @@ returns-2 c =
     let on = c .before .before .before in
     let told = on .before .before in
     let a = told .before .before .before .before .args in
-    ap (moved (a .list .now) (a .free)) (on .sweep-on .ensures) ∙ tail-moved (a .state) (a .cap) (a .list .now) (a .free) (taken told)
+    ap (moved (a .list .now) (a .free)) (on .sweep-on .ensures .0) ∙ tail-moved (a .state) (a .cap) (a .list .now) (a .free) (taken told)
 
 pub sweep-call-spec : {M : Type 1} → statement M
 sweep-call-spec =

@@ -1,189 +1,90 @@
 -- `sweep::sweep_on` makes the steps of an accepted call: what is done so far and what is left to do are what the call does. Assumes nothing.
-use mathlib.Core.Path.{_≡_, ap, _∙_}
-use mathlib.Core.List.{List}
-use Prim.Native.Nat.{ℕ, suc, _+_, _-_, _^_, _≤_, _<_}
+use mathlib.Core.Path.{ap, _∙_}
+use Prim.Native.Nat.{_*_, _^_, _<_}
 use native.Mathlib.Omega.{arith}
-use lib.ListN.{length}
-use lib.Seq.{sets}
-use borrow.Rule.Slice.PartMut.{putMid, midOf}
 use borrow.Author.Needs.{needs}
-use Rattle.factor.specs.declared.Factor.{Factor}
-use Rattle.calls.specs.State.{accepted, State, listed}
-use Rattle.calls.specs.Call.{Reply}
-use Rattle.calls.specs.Lists.{put-tail}
-use Rattle.calls.specs.Tries.{listed-few}
-use Rattle.sweep.specs.declared.Trial.{Trial}
-use Rattle.sweep.specs.StepLaws.{step-last}
-use Rattle.sweep.specs.LoopLaws.{LoopingOn, on-start, on-sound, on-past, on-stepping, on-rounds, on-long, on-room, on-found, on-trial, on-stop, on-over}
-use Rattle.sweep.specs.TailLaws.{lent-length}
+use lib.ListN.{length}
+use Rattle.marks.specs.Answers.{accepted}
+use Rattle.calls.specs.Call.{Result}
+use Rattle.sweep.specs.LoopLaws.{Working, ahead-of, work-start, work-sound, work-steps, Stepped, work-stepped}
 use Rattle.sweep.proofs.sweep_on.Statement.{statement}
 use Rattle.sweep.proofs.sweep_on.Tie as tie
 
--- what a call answers, with the state that it hands back
-abbrev replied : (trials rounds place : ℕ) → State Factor → List ℕ → Reply Factor
-replied t r p z list = record { answer = accepted (record { trials = t; rounds = r; place = p }); state = z; list = list }
-
 abbrev Inv-loop : tie.InvT-loop
-Inv-loop s cap tail₀ last h size at₀ trials₀ rounds₀ place₀ tail at trials rounds place = LoopingOn s cap tail₀ at trials rounds place tail
+Inv-loop s cap tail₀ h size w₀ tail w = Working s cap tail₀ w tail
 
 abbrev μ-loop : tie.MeasureT-loop
-μ-loop s cap tail₀ last h size at₀ trials₀ rounds₀ place₀ tail at trials rounds place = suc (s .last) - at
+μ-loop s cap tail₀ h size w₀ tail w = ahead-of s w
 
 prepare-requires : tie.Need-prepare-requires Inv-loop μ-loop
-prepare-requires c κs =
-    let start = c .before .before in
-    on-sound (start .args .s) (start .args .cap) (start .args .tail .now) (start .pre)
+prepare-requires c κs = let start = c .before .before in work-sound (start .args .s) (start .args .cap) (length (start .args .tail .now)) (start .pre)
+
+begun-requires : tie.Need-begun-requires Inv-loop μ-loop
+begun-requires c κs = search needs
 
 loop-holds : tie.Need-loop-holds Inv-loop μ-loop
-loop-holds c = on-start (c .before .before .before .pre)
+loop-holds c = work-start (c .before .before .before .before .pre) (c .begun .ensures)
 
-must-stop-requires : tie.Need-must-stop-requires Inv-loop μ-loop
-must-stop-requires c κs = search needs
+step-requires : tie.Need-step-requires Inv-loop μ-loop
+step-requires c κs = let head = c .before in work-steps (head .loop .inv) (c .loop-test .taken) (head .before .before .prepare .ensures)
 
-next-step-requires : tie.Need-next-step-requires Inv-loop μ-loop
-next-step-requires c κs = let head = c .before .before in on-stepping (head .loop .inv) (head .before .prepare .ensures)
-
-add-rounds : tie.Need-add-rounds Inv-loop μ-loop
-add-rounds c =
-    let step = c .before in
-    let stop = step .before in
-    let head = stop .before .before in
-    omega (arith, on-rounds (head .loop .inv) (head .before .prepare .ensures) (stop .must-stop .ensures) (step .next-step .ensures))
-
-enum-known-event : tie.Need-enum-known-event Inv-loop μ-loop
-enum-known-event c = search needs
-
--- what is known where a suspect was tried
-module _ (c : tie.After-known-told Inv-loop μ-loop) where
-  abbrev step : tie.After-next-step Inv-loop μ-loop
-  step = c .before .before .before .before
-
-  abbrev stop : tie.After-must-stop Inv-loop μ-loop
-  stop = step .before
-
+-- what the step leads to
+module _ (c : tie.After-step Inv-loop μ-loop) where
   abbrev head : tie.At-loop Inv-loop μ-loop
-  head = stop .before .before
+  head = c .before .before
 
-  abbrev trial : Trial
-  trial = c .before .event .given .0 .0
+  stepped : Stepped (head .loop .inv) (c .before .loop-test .taken) (c .step .result)
+  stepped = work-stepped (head .loop .inv) (c .before .loop-test .taken) (c .step .ensures)
 
-  abbrev tail : List ℕ
-  tail = head .loop .tail
+-- a list in memory is short
+short : (c : tie.After-slice-known Inv-loop μ-loop) → length (c .before .args .tail .now) * 4 < 2 ^ 64
+short c = search needs
 
-  abbrev start : tie.Start Inv-loop μ-loop
-  start = head .before .before .before .before
+-- what it leads to where the place has moved
+module _ (c : tie.Then1 Inv-loop μ-loop) where
+  abbrev made : tie.After-step Inv-loop μ-loop
+  made = c .before .before
 
-  room : (head .loop .trials < start .args .cap) × (head .loop .place < length tail)
-  room =
-      let r = on-room (head .loop .inv) (head .before .prepare .ensures) (stop .must-stop .ensures) (step .next-step .ensures) (c .before .event .given .1) in
-      (r .0, omega (arith, r .1, on-long (head .loop .inv)))
+  moved : head made .loop .w .place < made .step .result .place
+  moved = omega (arith, c .if1 .taken)
 
-  found : (head .loop .at ≤ trial .significand) × (trial .significand ≤ start .args .s .last)
-  found = on-found (head .loop .inv) (head .before .prepare .ensures) (stop .must-stop .ensures) (step .next-step .ensures) (c .before .event .given .1)
+cast-tail : tie.Need-cast-tail Inv-loop μ-loop
+cast-tail c = let fits = stepped (made (c .before)) .fits (moved (c .before)) .1 in search needs
 
-  short : start .args .s .last < 2 ^ 24
-  short = step-last (on-stepping (head .loop .inv) (head .before .prepare .ensures))
+mul-tail : tie.Need-mul-tail Inv-loop μ-loop
+mul-tail c =
+    let step = made (c .before) in
+    let fits = stepped step .fits (moved (c .before)) .0 in
+    let long = head step .loop .inv .long in
+    let few = short (head step .before .before .before .before) in
+    search needs
 
-  -- the loop goes on, the tail being back with the words in their place
-  again : {n : ℕ} {ys : List ℕ} → n ≡ length (listed (trial .mark) (trial .significand))
-      → ys ≡ sets (midOf (head .loop .place) (length tail - head .loop .place) tail) 0 (listed (trial .mark) (trial .significand))
-      → LoopingOn (start .args .s) (start .args .cap) (start .args .tail .now) (trial .significand + 1) (head .loop .trials + 1) (head .loop .rounds + step .next-step .result .rounds)
-      (head .loop .place + n) (putMid (head .loop .place) (length tail - head .loop .place) tail ys)
-  again {n} {ys} size written =
-      on-trial (head .loop .inv) (head .before .prepare .ensures) (stop .must-stop .ensures) (step .next-step .ensures) (c .before .event .given .1)
-      size (put-tail tail ys (listed (trial .mark) (trial .significand)) (head .loop .place) written)
-
-mul-write-word : tie.Need-mul-write-word Inv-loop μ-loop
-mul-write-word c = let r = room c .1 in search needs
-
-sub-write-word : tie.Need-sub-write-word Inv-loop μ-loop
-sub-write-word c = let r = room c .1 in search needs
-
-part-write-word-start : tie.Need-part-write-word-start Inv-loop μ-loop
-part-write-word-start c = let r = room c .1 in search needs
-
-part-write-word-end : tie.Need-part-write-word-end Inv-loop μ-loop
-part-write-word-end c = let r = room c .1 in search needs
-
-write-word-requires : tie.Need-write-word-requires Inv-loop μ-loop
-write-word-requires c κs =
-    let k = c .before in
-    let l = head k .loop in
-    (omega (arith, room k .1, lent-length (l .tail) (l .place)), omega (arith, found k .1, short k))
-
-add-trials : tie.Need-add-trials Inv-loop μ-loop
-add-trials c = let r = room (c .before .before .before .before) .0 in search needs
-
-add-place : tie.Need-add-place Inv-loop μ-loop
-add-place c =
-    let k = c .before .before .before .before in
-    let few = listed-few (trial k .mark) (trial k .significand) in
-    let fits = mul-write-word k .fits in
-    let n = c .before .before .write-word .ensures .1 in
-    omega arith
-
-add-at : tie.Need-add-at Inv-loop μ-loop
-add-at c =
-    let k = c .before .before .before .before .before in
-    omega (arith, found k .1, short k)
+slice-write-tail : tie.Need-slice-write-tail Inv-loop μ-loop
+slice-write-tail c = let fits = stepped (made (c .before)) .fits (moved (c .before)) .0 in search needs
 
 loop-less : tie.Need-loop-less Inv-loop μ-loop
-loop-less c =
-    let k = c .before .before .before .before .before in
-    omega (arith, found k .0, found k .1)
+loop-less c = stepped (made (c .before)) .less
 
 loop-again : tie.Need-loop-again Inv-loop μ-loop
-loop-again c =
-    let k = c .before .before .before .before .before in
-    let w = c .before .before .before .write-word in
-    again k (w .ensures .1) (w .ensures .0)
+loop-again c = stepped (made (c .before)) .wrote (moved (c .before))
 
-enum-known-event-2 : tie.Need-enum-known-event-2 Inv-loop μ-loop
-enum-known-event-2 c = search needs
+loop-less-2 : tie.Need-loop-less-2 Inv-loop μ-loop
+loop-less-2 c = stepped (c .before .before) .less
 
-handed-requires : tie.Need-handed-requires Inv-loop μ-loop
-handed-requires c κs = search needs
+loop-again-2 : tie.Need-loop-again-2 Inv-loop μ-loop
+loop-again-2 c = stepped (c .before .before) .kept (omega (arith, c .if1 .left))
+
+ended-requires : tie.Need-ended-requires Inv-loop μ-loop
+ended-requires c κs = search needs
 
 same-length : tie.Need-same-length Inv-loop μ-loop
-same-length c = search needs
+same-length c = let long = c .before .before .loop .inv .long in search needs
 
 returns : tie.Need-returns Inv-loop μ-loop
 returns c =
-    let step = c .before .before .before .before .before in
-    let stop = step .before in
-    let head = stop .before .before in
-    let l = head .loop in
-    ap (λ (z : State Factor). replied (l .trials) (l .rounds + step .next-step .result .rounds) (l .place) z (l .tail)) (c .handed .ensures)
-    ∙ on-stop (l .inv) (head .before .prepare .ensures) (stop .must-stop .ensures) (step .next-step .ensures) (c .before .before .event2 .given .1)
-
-enum-told : tie.Need-enum-told Inv-loop μ-loop
-enum-told c = search needs
-
-handed-requires-2 : tie.Need-handed-requires-2 Inv-loop μ-loop
-handed-requires-2 c κs = search needs
-
-same-length-2 : tie.Need-same-length-2 Inv-loop μ-loop
-same-length-2 c = search needs
-
-returns-2 : tie.Need-returns-2 Inv-loop μ-loop
-returns-2 c =
-    let step = c .before .before .before .before in
-    let stop = step .before in
-    let head = stop .before .before in
-    let l = head .loop in
-    ap (λ (z : State Factor). replied (l .trials) (l .rounds + step .next-step .result .rounds) (l .place) z (l .tail)) (c .handed2 .ensures)
-    ∙ on-over (l .inv) (head .before .prepare .ensures) (stop .must-stop .ensures) (step .next-step .ensures) (c .before .enum-told .given .1)
-
-handed-requires-3 : tie.Need-handed-requires-3 Inv-loop μ-loop
-handed-requires-3 c κs = search needs
-
-same-length-3 : tie.Need-same-length-3 Inv-loop μ-loop
-same-length-3 c = search needs
-
-returns-3 : tie.Need-returns-3 Inv-loop μ-loop
-returns-3 c =
     let l = c .before .before .loop in
-    ap (λ (z : State Factor). replied (l .trials) (l .rounds) (l .place) z (l .tail)) (c .handed3 .ensures) ∙ on-past (l .inv) (c .before .loop-test .left)
+    let e = c .ended .ensures in
+    ((λ i. record { answer = accepted (e .1 i); state = e .0 i; list = l .tail }) ∙ l .inv .off (c .before .loop-test .left), omega (arith, ap (λ (r : Result). r .place) (e .1), l .inv .fits))
 
 pub sweep-on-spec : {M : Type 1} → statement M
 sweep-on-spec =
@@ -192,29 +93,16 @@ sweep-on-spec =
     Inv-loop
     μ-loop
     prepare-requires
+    begun-requires
     loop-holds
-    must-stop-requires
-    next-step-requires
-    add-rounds
-    enum-known-event
-    mul-write-word
-    sub-write-word
-    part-write-word-start
-    part-write-word-end
-    write-word-requires
-    add-trials
-    add-place
-    add-at
+    step-requires
+    cast-tail
+    mul-tail
+    slice-write-tail
     loop-less
     loop-again
-    enum-known-event-2
-    handed-requires
+    loop-less-2
+    loop-again-2
+    ended-requires
     same-length
-    returns
-    enum-told
-    handed-requires-2
-    same-length-2
-    returns-2
-    handed-requires-3
-    same-length-3
-    returns-3)
+    returns)
