@@ -119,20 +119,20 @@ module _ {s : SweepState} {cap : ℕ} {tail₀ : List ℕ} {w : Work} {tail : Li
         record {
           fits = λ z. absurd (omega arith);
           wrote = λ z. absurd (omega arith);
-          kept = λ z. record { on = λ y. rw add-zero at (past Right e); off = λ y. absurd (true≢false (sym g ∙ y)); fits = l .fits; long = l .long };
+          kept = λ z. record { on = λ y. rw add-zero at (past Right e); off = λ y. absurd (true≢false y); fits = l .fits; long = l .long };
           less = rw g (omega (arith, inside));
         }
     goes-on Open e =
         record {
           fits = λ z. (omega (arith, l .fits, l .long, i), omega (arith, inside, short));
-          wrote = λ z. record { on = λ y. past Open e; off = λ y. absurd (true≢false (sym g ∙ y)); fits = past Open e .fits; long = past Open e .long };
+          wrote = λ z. record { on = λ y. past Open e; off = λ y. absurd (true≢false y); fits = past Open e .fits; long = past Open e .long };
           kept = λ z. absurd (omega arith);
           less = rw g (omega (arith, inside));
         }
     goes-on Wrong e =
         record {
           fits = λ z. (omega (arith, l .fits, l .long, i), omega (arith, inside, short));
-          wrote = λ z. record { on = λ y. past Wrong e; off = λ y. absurd (true≢false (sym g ∙ y)); fits = past Wrong e .fits; long = past Wrong e .long };
+          wrote = λ z. record { on = λ y. past Wrong e; off = λ y. absurd (true≢false y); fits = past Wrong e .fits; long = past Wrong e .long };
           kept = λ z. absurd (omega arith);
           less = rw g (omega (arith, inside));
         }

@@ -55,7 +55,7 @@ begunAt a = record { at = a; trials = 0; rounds = 0; place = 0; going = true; wo
 
 -- the call stops at a suspect, or is over
 abbrev pub haltedAt : Work → (rounds : ℕ) → Place → Work
-haltedAt w n p = record { at = w .at; trials = w .trials; rounds = n; place = w .place; going = false; word = w .word; left = p }
+haltedAt w n p = record { at = w .at; trials = w .trials; rounds = n; place = w .place; going = false; word = 0; left = p }
 
 -- a word goes into the next free place
 abbrev pub withWord : Work → (word : ℕ) → Work
@@ -70,7 +70,7 @@ markedAt w X Wrong = withWord w (2 * X)
 -- X was tried: the call goes on past it, with its word if it has one
 abbrev pub triedAt : Work → (rounds X : ℕ) → Mark → Work
 triedAt w n X m =
-    markedAt (record { at = X + 1; trials = w .trials + 1; rounds = n; place = w .place; going = w .going; word = w .word; left = w .left }) X m
+    markedAt (record { at = X + 1; trials = w .trials + 1; rounds = n; place = w .place; going = true; word = 0; left = Nowhere }) X m
 
 -- what is done at a place: a suspect is tried, or the call stops at it; none found is the end
 abbrev pub stepAt : (ℕ → Mark) → (stop : Bool) → Work → (rounds : ℕ) → Place → Work
