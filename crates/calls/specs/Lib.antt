@@ -1,6 +1,6 @@
--- The theory of sweep calls. Definitions: Engine, State, Call, Plain, ByRow and Whole. Laws: the others, of which Demand has demand 3 and Loop what a loop over a call's steps wants. Examples: Toy.
-pub mod Engine
+-- The theory of sweep calls. Definitions: State, Engine, Call, Plain, ByRow and Whole. Laws: the others, of which Demand has demand 3 and Loop what a loop over a call's steps wants. Examples: Toy.
 pub mod State
+pub mod Engine
 pub mod Call
 pub mod Plain
 pub mod ByRow

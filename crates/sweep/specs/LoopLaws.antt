@@ -2,8 +2,8 @@
 use mathlib.Core.Path.{_≡_, refl, sym, ap, _∙_}
 use mathlib.Core.Bool.{Bool, true, false, cond, true≢false, false≢true}
 use mathlib.Core.Logic.{_⊎_, inl, inr}
-use mathlib.Core.List.{List}
-use Prim.Native.Nat.{ℕ, suc, _+_, _-_, _^_, _≤_, _<_}
+use mathlib.Core.List.{List, [], _∷_}
+use Prim.Native.Nat.{ℕ, suc, _+_, _-_, _*_, _^_, _≤_, _<_}
 use native.Mathlib.Omega.{arith}
 use native.Mathlib.Nat.{add-zero, mul-le-mul-left}
 use lib.ListN.{length, set}
@@ -26,7 +26,7 @@ use Rattle.sweep.specs.declared.Work.{Work}
 use Rattle.sweep.specs.Engine.{wordList, halvesOf, engine}
 use Rattle.sweep.specs.EngineLaws.{sound-of, entries-are, room-is, lawful}
 use Rattle.sweep.specs.Answers.{viewOf, callOf, termsBy}
-use Rattle.sweep.specs.Steps.{mustStop, begunAt, haltedAt, triedAt, stepAt, aheadOf, stepOf, resultIn, Stepping, Taken}
+use Rattle.sweep.specs.Steps.{mustStop, begunAt, haltedAt, passedAt, withWord, triedAt, stepAt, aheadOf, stepOf, resultIn, Stepping, Taken}
 use Rattle.sweep.specs.StepLaws.{must-stop, may-go, last-short}
 
 -- The call is done: its answer, its state and the tail are what the call comes to.
@@ -114,28 +114,27 @@ module _ {s : SweepState} {cap : ℕ} {tail₀ : List ℕ} {w : Work} {tail : Li
         let room : 0 < roomIn wordList (length tail₀) (w .place) = rw (room-is (length tail₀) (w .place)) (omega (arith, l .fits, i)) in
         loop-trial lawful l q (omega (arith, l .capped, h)) room (ap length (sym are)) (ap (sets tail (w .place)) (sym are))
 
+    -- with a word
+    writes : (m : Mark) → mark X ≡ m → (v : ℕ) → listed m X ≡ v ∷ [] → v < 2 ^ 32 → Stepped (withWord (passedAt w (w .rounds + found .rounds) X) v)
+    writes m e v is small =
+        let again = rw is at (past m e) in
+        record {
+          fits = λ z. (omega (arith, l .fits, l .long, i), small);
+          wrote = λ z. record { on = λ y. again; off = λ y. absurd (true≢false y); fits = again .fits; long = again .long };
+          kept = λ z. absurd (omega arith);
+          less = rw g (omega (arith, inside));
+        }
+
     goes-on : (m : Mark) → mark X ≡ m → Stepped (triedAt w (w .rounds + found .rounds) X m)
     goes-on Right e =
         record {
           fits = λ z. absurd (omega arith);
           wrote = λ z. absurd (omega arith);
-          kept = λ z. record { on = λ y. rw add-zero at (past Right e); off = λ y. absurd (true≢false (sym g ∙ y)); fits = l .fits; long = l .long };
+          kept = λ z. record { on = λ y. rw add-zero at (past Right e); off = λ y. absurd (true≢false y); fits = l .fits; long = l .long };
           less = rw g (omega (arith, inside));
         }
-    goes-on Open e =
-        record {
-          fits = λ z. (omega (arith, l .fits, l .long, i), omega (arith, inside, short));
-          wrote = λ z. record { on = λ y. past Open e; off = λ y. absurd (true≢false (sym g ∙ y)); fits = past Open e .fits; long = past Open e .long };
-          kept = λ z. absurd (omega arith);
-          less = rw g (omega (arith, inside));
-        }
-    goes-on Wrong e =
-        record {
-          fits = λ z. (omega (arith, l .fits, l .long, i), omega (arith, inside, short));
-          wrote = λ z. record { on = λ y. past Wrong e; off = λ y. absurd (true≢false (sym g ∙ y)); fits = past Wrong e .fits; long = past Wrong e .long };
-          kept = λ z. absurd (omega arith);
-          less = rw g (omega (arith, inside));
-        }
+    goes-on Open e = writes Open e (2 * X + 1) refl (omega (arith, inside, short))
+    goes-on Wrong e = writes Wrong e (2 * X) refl (omega (arith, inside, short))
 
   -- The step that is made.
   pub work-stepped : {next : Work} → next ≡ stepOf s cap (length tail₀) w → Stepped next

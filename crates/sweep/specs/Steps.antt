@@ -55,22 +55,21 @@ begunAt a = record { at = a; trials = 0; rounds = 0; place = 0; going = true; wo
 
 -- the call stops at a suspect, or is over
 abbrev pub haltedAt : Work → (rounds : ℕ) → Place → Work
-haltedAt w n p = record { at = w .at; trials = w .trials; rounds = n; place = w .place; going = false; word = w .word; left = p }
+haltedAt w n p = record { at = w .at; trials = w .trials; rounds = n; place = w .place; going = false; word = 0; left = p }
+
+-- X was tried, and the call goes on past it
+abbrev pub passedAt : Work → (rounds X : ℕ) → Work
+passedAt w n X = record { at = X + 1; trials = w .trials + 1; rounds = n; place = w .place; going = true; word = 0; left = Nowhere }
 
 -- a word goes into the next free place
 abbrev pub withWord : Work → (word : ℕ) → Work
 withWord w v = record { at = w .at; trials = w .trials; rounds = w .rounds; place = w .place + 1; going = w .going; word = v; left = w .left }
 
--- the word of X, if it has one: 2X, plus 1 for open
-abbrev pub markedAt : Work → (X : ℕ) → Mark → Work
-markedAt w X Right = w
-markedAt w X Open = withWord w (2 * X + 1)
-markedAt w X Wrong = withWord w (2 * X)
-
--- X was tried: the call goes on past it, with its word if it has one
+-- X was tried, with its word if it has one: 2X, plus 1 for open
 abbrev pub triedAt : Work → (rounds X : ℕ) → Mark → Work
-triedAt w n X m =
-    markedAt (record { at = X + 1; trials = w .trials + 1; rounds = n; place = w .place; going = w .going; word = w .word; left = w .left }) X m
+triedAt w n X Right = passedAt w n X
+triedAt w n X Open = withWord (passedAt w n X) (2 * X + 1)
+triedAt w n X Wrong = withWord (passedAt w n X) (2 * X)
 
 -- what is done at a place: a suspect is tried, or the call stops at it; none found is the end
 abbrev pub stepAt : (ℕ → Mark) → (stop : Bool) → Work → (rounds : ℕ) → Place → Work

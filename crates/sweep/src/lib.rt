@@ -255,7 +255,7 @@ fn halted(w: Work, rounds: u64, left: Place) -> Work
         rounds,
         place: w.place,
         going: false,
-        word: w.word,
+        word: 0,
         left,
     }
 }
@@ -276,10 +276,17 @@ fn tried(w: Work, rounds: u64, x: u64, mark: Mark) -> Work
     requires { ⌜ Room w x ⌝ }
     ensures { λ r. ⌜ r ≡ triedAt w rounds x mark ⌝ }
 {
-    let mut next = w;
-    next.at = x + 1;
-    next.trials = w.trials + 1;
-    next.rounds = rounds;
+    let at = x + 1;
+    let trials = w.trials + 1;
+    let next = Work {
+        at,
+        trials,
+        rounds,
+        place: w.place,
+        going: true,
+        word: 0,
+        left: Place::Nowhere,
+    };
     match mark {
         Mark::Right => next,
         Mark::Open => with_word(next, 2 * x + 1),

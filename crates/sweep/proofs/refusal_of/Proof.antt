@@ -1,6 +1,6 @@
 -- `sweep::refusal_of` is the first refusal whose condition holds: 31, 32, 33, 18, 19. Assumes nothing.
 use mathlib.Core.Path.{_≡_, sym, ap, _∙_}
-use mathlib.Core.Bool.{false, not}
+use mathlib.Core.Bool.{true, false, not}
 use borrow.Author.Needs.{needs}
 use borrow.Author.Tests.{eq-eqb, ne-eqb, le-leb, lt-leb}
 use Rattle.marks.specs.AnswerLaws.{pass, stop, end}
@@ -33,7 +33,10 @@ in-state : (c : tie.Else2) → stateOut (viewOf (c .before .before .before .befo
 in-state c = sym (c .before .state-out .ensures) ∙ c .if2 .left
 
 returns-3 : tie.Need-returns-3
-returns-3 c = let state = c .before in pass (let-through (state .before .before)) (pass (in-state state) (stop (c .if3 .taken)))
+returns-3 c =
+    let state = c .before in
+    let done : state .before .before .before .before .before .args .s .finished ≡ true = c .if3 .taken in
+    pass (let-through (state .before .before)) (pass (in-state state) (stop done))
 
 returns-4 : tie.Need-returns-4
 returns-4 c =

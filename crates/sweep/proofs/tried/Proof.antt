@@ -3,11 +3,11 @@ use borrow.Author.Needs.{needs}
 use Rattle.sweep.proofs.tried.Statement.{statement}
 use Rattle.sweep.proofs.tried.Tie as tie
 
-add-next : tie.Need-add-next
-add-next c = search needs
+add-at : tie.Need-add-at
+add-at c = search needs
 
-add-next-2 : tie.Need-add-next-2
-add-next-2 c = search needs
+add-trials : tie.Need-add-trials
+add-trials c = search needs
 
 enum-told : tie.Need-enum-told
 enum-told c = search needs
@@ -46,8 +46,8 @@ pub tried-spec : {M : Type 1} → statement M
 tried-spec =
     tie.close
     (tie.spec
-    add-next
-    add-next-2
+    add-at
+    add-trials
     enum-told
     enum-told-2
     mul-with-word
