@@ -35,7 +35,7 @@ in-state c = sym (c .before .state-out .ensures) ∙ c .if2 .left
 returns-3 : tie.Need-returns-3
 returns-3 c =
     let state = c .before in
-    let done : state .before .before .before .before .before .args .s .finished ≡ true = c .if3 .taken in
+    let done : state .before .before .before .before .before .args .s .finished ≡ true = search needs in
     pass (let-through (state .before .before)) (pass (in-state state) (stop done))
 
 returns-4 : tie.Need-returns-4
