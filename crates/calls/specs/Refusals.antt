@@ -1,22 +1,19 @@
 -- Laws of the refusals: what a call and its state have where none is judged. Assumes nothing.
-use mathlib.Core.Path.{_≡_, ap, _∙_}
+use mathlib.Core.Path.{_≡_}
 use mathlib.Core.Bool.{Bool, false, _||_}
 use mathlib.Core.Logic.{_↔_}
-use mathlib.Core.List.{List, [], _∷_, append-nil}
+use mathlib.Core.List.{[], _∷_}
 use Prim.Native.Nat.{ℕ, _-_, _≤_, _<_}
 use native.Mathlib.Omega.{arith}
 use native.Mathlib.Nat.{one-mul, le-div-iff-mul-le}
 use borrow.Author.Tests.{le-ltb, ltb-false}
 use lib.Dec.{ltb}
 use Rattle.marks.specs.Answers.{number, none, judged, NoneHolds, refused}
-use Rattle.marks.specs.AnswerLaws.{judged-none, or-false}
+use Rattle.marks.specs.AnswerLaws.{judged-none, none-holds, or-false}
 use Rattle.calls.specs.State.{State, outOfRange, Call, Terms, termsOf, Listing, roomIn}
 use Rattle.calls.specs.Engine.{Engine, ListingLaws, Lawful}
 use Rattle.calls.specs.Call.{conditions, sweepCall}
 use Rattle.calls.specs.Plain.{plainRefusal}
-
-none-holds : (l : List (ℕ × Bool)) → judged l ≡ none → NoneHolds l
-none-holds l q = judged-none l [] (ap judged (append-nil l) ∙ q) .0
 
 -- What a call has that neither 33 nor the conditions on calls refuse: room for an entry.
 pub record Taken (l : Listing) (finished : Bool) (t : Terms) : Type 0 where

@@ -1,6 +1,6 @@
 -- What acceptance tells of a factor: whatever set-up gave, and whatever 31 lets through, is sound. Assumes nothing.
 use mathlib.Core.Path.{_≡_, refl, sym, ap, _∙_, subst}
-use mathlib.Core.Bool.{Bool, true, false, not, _&&_, true≢false}
+use mathlib.Core.Bool.{true, false, true≢false}
 use Prim.Native.Nat.{ℕ, suc, _^_}
 use lib.Dec.{eqb, ltb, leb}
 use lib.IntN.{ℤ, pos, negsuc}
@@ -13,7 +13,7 @@ use Rattle.factor.specs.declared.Parts.{Parts}
 use Rattle.factor.specs.declared.Factor.{Factor}
 use Rattle.factor.specs.Precision.{Kept, precisionOut}
 use Rattle.factor.specs.Whole.{End}
-use Rattle.factor.specs.SetUp.{endOut, scaleOut, sameHigh, sameZ, sameLow, partsOf, appliedOf, factorOf, conditions, setUp, sameFloat, sameFactor, given, described, intact, Sound}
+use Rattle.factor.specs.SetUp.{endOut, sameHigh, sameZ, sameLow, partsOf, appliedOf, factorOf, conditions, setUp, sameFloat, sameFactor, given, described, intact, Sound}
 
 -- ---- tests
 pub sameZ-true : (x y : ℤ) → sameZ x y ≡ true → x ≡ y

@@ -13,7 +13,7 @@ use lib.Seq.{drop-cons}
 use lib.Signed.{mag}
 use borrow.Author.Tests.{lt-ltb, le-ltb, eqb-true, not-false}
 use Rattle.marks.specs.Answers.{NoneHolds, Outcome, accepted}
-use Rattle.marks.specs.AnswerLaws.{pass, end, accepts, only-accepted, not-fails}
+use Rattle.marks.specs.AnswerLaws.{pass, end, accepts, only-accepted}
 use Rattle.factor.specs.declared.Description.{Description}
 use Rattle.frame.specs.declared.Field.the-variants.{Value}
 use Rattle.frame.specs.Digits.{digits, hexDigits, valueAfter, fieldAt, malformed, numberOf}
@@ -88,7 +88,7 @@ module _ (d : Description) (p : Printable d) where
   -- The line that a frame's fields print is that frame.
   pub frame-read : frameOf text ≡ accepted d
   frame-read =
-      sym (frame-is text (not-fails spaced-out) precision-read scale-read lower-read upper-read)
+      sym (frame-is text (ap not spaced-out) precision-read scale-read lower-read upper-read)
       ∙ ap (λ (k : ℤ). accepted (record { precision = d .precision; scale = k; lower = d .lower; upper = d .upper })) (byte-signed (d .scale) (p .scale))
 
 -- ---- read, then printed

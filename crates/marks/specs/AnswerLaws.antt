@@ -1,7 +1,7 @@
 -- The law of answers, "the first condition that holds", both ways: from the tests to the answer, and from the answer to the tests. Assumes nothing.
 use mathlib.Core.Path.{_≡_, refl, sym, ap, _∙_}
-use mathlib.Core.Bool.{Bool, true, false, cond, not, _&&_, _||_, true≢false}
-use mathlib.Core.List.{List, [], _∷_, _++_}
+use mathlib.Core.Bool.{Bool, true, false, cond, _&&_, _||_, true≢false}
+use mathlib.Core.List.{List, [], _∷_, _++_, append-nil}
 use Prim.Native.Nat.{ℕ}
 use native.Mathlib.Omega.{arith}
 use Rattle.marks.specs.declared.Mark.{Mark}
@@ -58,6 +58,9 @@ judged-none (t ∷ k) l q = go (t .1) refl q (judged-none k l)
     go true i q ih = let z : _≡_ {A = ℕ} 0 1 = cc in absurd (omega arith)
     go false i q ih = let r = ih q in ((i, r .0), r .1)
 
+pub none-holds : (l : List (ℕ × Bool)) → judged l ≡ none → NoneHolds l
+none-holds l q = judged-none l [] (ap judged (append-nil l) ∙ q) .0
+
 -- none of two lists holds
 pub none-apart : (k l : List (ℕ × Bool)) → NoneHolds (k ++ l) → NoneHolds k × NoneHolds l
 none-apart [] l h = (tt, h)
@@ -109,10 +112,3 @@ or-false false b q = (refl, q)
 pub and-true : (a b : Bool) → a && b ≡ true → (a ≡ true) × (b ≡ true)
 and-true true b e = (refl, e)
 and-true false b e = absurd (true≢false (sym e))
-
--- a test turned round
-pub not-holds : {b : Bool} → b ≡ false → not b ≡ true
-not-holds q = ap not q
-
-pub not-fails : {b : Bool} → b ≡ true → not b ≡ false
-not-fails q = ap not q

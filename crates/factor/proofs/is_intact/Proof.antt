@@ -4,7 +4,6 @@ use lib.IntN.{ℤ}
 use mir.Syntax.{w32}
 use mir.Val.{toZ, ofZ}
 use borrow.Author.Needs.{needs}
-use Rattle.factor.specs.declared.Description.{Description}
 use Rattle.factor.specs.SetUp.{given, described, setUp, outcomeOf, intact}
 use Rattle.factor.specs.Stored.{accepted-numbers}
 use Rattle.factor.proofs.is_intact.Statement.{statement}
