@@ -4,20 +4,22 @@ use borrow.Author.Needs.{needs}
 use Rattle.factor.specs.declared.Factor.{Factor}
 use Rattle.product.specs.declared.ProductAnswer.{ProductAnswer}
 use Rattle.product.specs.Answer.{multiplied, outcomeOf}
-use Rattle.exports.specs.Answers.{Answer, markedAnswer, productWords, multiplyTo}
-use Rattle.exports.specs.AnswerLaws.{gives, short-first, short-second, long-enough, multiply-short, multiply-is}
+use Rattle.exports.specs.Answers.{Answer, tooShort, markedAnswer, productWords, multiplyTo}
+use Rattle.exports.specs.AnswerLaws.{is-short, is-long, gives, short-first, short-second, long-enough}
 use Rattle.exports.proofs.gusnalip_multiply.Statement.{statement}
 use Rattle.exports.proofs.gusnalip_multiply.Tie as tie
 
 returns : tie.Need-returns
+unfolding multiplyTo
 returns c =
     let a = c .before .before .before .args in
-    gives _ _ (a .out .now) (multiply-short (a .factor .now) (a .x) (a .out .now) (short-first 9 (a .factor .now) 2 (a .out .now) (c .if1 .taken)))
+    gives _ _ (a .out .now) (is-short (short-first 9 (a .factor .now) 2 (a .out .now) (c .if1 .taken)) tooShort _)
 
 returns-2 : tie.Need-returns-2
+unfolding multiplyTo
 returns-2 c =
     let a = c .before .before .before .before .args in
-    gives _ _ (a .out .now) (multiply-short (a .factor .now) (a .x) (a .out .now) (short-second 9 (a .factor .now) 2 (a .out .now) (c .if2 .taken)))
+    gives _ _ (a .out .now) (is-short (short-second 9 (a .factor .now) 2 (a .out .now) (c .if2 .taken)) tooShort _)
 
 factor-from-requires : tie.Need-factor-from-requires
 factor-from-requires c κs = search needs
@@ -30,12 +32,13 @@ abbrev says : ProductAnswer → Answer
 says r = markedAnswer productWords (outcomeOf r)
 
 answer : (c : tie.After-multiply) → let a = c .before .before .before .before .before .before .args in multiplyTo (a .factor .now) (a .x) (a .out .now) ≡ says (c .multiply .result)
+unfolding multiplyTo
 answer c =
     let room = c .before .before in
     let long = room .before in
     let a = long .before .before .before .args in
-    multiply-is (a .factor .now) (a .x) (a .out .now) (outcomeOf (c .multiply .result)) (long-enough 9 (a .factor .now) 2 (a .out .now) (long .if1 .left) (room .if2 .left))
-    (sym (c .multiply .ensures ∙ ap (λ (f : Factor). multiplied f (a .x)) (c .before .factor-from .ensures)))
+    is-long (long-enough 9 (a .factor .now) 2 (a .out .now) (long .if1 .left) (room .if2 .left)) tooShort _
+    ∙ ap (markedAnswer productWords) (sym (c .multiply .ensures ∙ ap (λ (f : Factor). multiplied f (a .x)) (c .before .factor-from .ensures)))
 
 enum-known-v : tie.Need-enum-known-v
 enum-known-v c = search needs

@@ -5,21 +5,23 @@ use Rattle.calls.specs.Call.{newState}
 use Rattle.sweep.specs.declared.NewSweep.{NewSweep}
 use Rattle.sweep.specs.Engine.{engine}
 use Rattle.sweep.specs.Answers.{newOf}
-use Rattle.exports.specs.Answers.{Answer, newSweepTo, newSweepAnswer}
-use Rattle.exports.specs.AnswerLaws.{gives, short-first, short-second, long-enough, new-sweep-short, new-sweep-is}
+use Rattle.exports.specs.Answers.{Answer, tooShort, newSweepTo, newSweepAnswer}
+use Rattle.exports.specs.AnswerLaws.{is-short, is-long, gives, short-first, short-second, long-enough}
 use borrow.Author.Needs.{needs}
 use Rattle.exports.proofs.gusnalip_new_sweep.Statement.{statement}
 use Rattle.exports.proofs.gusnalip_new_sweep.Tie as tie
 
 returns : tie.Need-returns
+unfolding newSweepTo
 returns c =
     let a = c .before .before .before .args in
-    gives _ _ (a .out .now) (new-sweep-short (a .factor .now) (a .first) (a .last) (a .out .now) (short-first 9 (a .factor .now) 13 (a .out .now) (c .if1 .taken)))
+    gives _ _ (a .out .now) (is-short (short-first 9 (a .factor .now) 13 (a .out .now) (c .if1 .taken)) tooShort _)
 
 returns-2 : tie.Need-returns-2
+unfolding newSweepTo
 returns-2 c =
     let a = c .before .before .before .before .args in
-    gives _ _ (a .out .now) (new-sweep-short (a .factor .now) (a .first) (a .last) (a .out .now) (short-second 9 (a .factor .now) 13 (a .out .now) (c .if2 .taken)))
+    gives _ _ (a .out .now) (is-short (short-second 9 (a .factor .now) 13 (a .out .now) (c .if2 .taken)) tooShort _)
 
 factor-from-requires : tie.Need-factor-from-requires
 factor-from-requires c κs = search needs
@@ -32,12 +34,13 @@ abbrev newAnswer : NewSweep → Answer
 newAnswer r = newSweepAnswer (newOf r)
 
 answer : (c : tie.After-new-state) → let a = c .before .before .before .before .before .before .args in newSweepTo (a .factor .now) (a .first) (a .last) (a .out .now) ≡ newAnswer (c .new-state .result)
+unfolding newSweepTo
 answer c =
     let room = c .before .before in
     let long = room .before in
     let a = long .before .before .before .args in
-    new-sweep-is (a .factor .now) (a .first) (a .last) (a .out .now) (newOf (c .new-state .result)) (long-enough 9 (a .factor .now) 13 (a .out .now) (long .if1 .left) (room .if2 .left))
-    (sym (c .new-state .ensures ∙ ap (λ (f : Factor). newState engine f (a .first) (a .last)) (c .before .factor-from .ensures)))
+    is-long (long-enough 9 (a .factor .now) 13 (a .out .now) (long .if1 .left) (room .if2 .left)) tooShort _
+    ∙ ap newSweepAnswer (sym (c .new-state .ensures ∙ ap (λ (f : Factor). newState engine f (a .first) (a .last)) (c .before .factor-from .ensures)))
 
 enum-known-s : tie.Need-enum-known-s
 enum-known-s c = search needs

@@ -1,22 +1,24 @@
 -- `exports::gusnalip_read` meets its contract: the engine's answer as a number and a word. Assumes nothing.
-use mathlib.Core.Path.{_≡_, sym, ap, _∙_}
+use mathlib.Core.Path.{_≡_, sym, ap, ap₂, _∙_}
 use Rattle.reading.specs.declared.ReadingAnswer.{ReadingAnswer}
-use Rattle.reading.specs.Reading.{outcomeOf}
-use Rattle.exports.specs.Answers.{Answer, markedAnswer, readingWords, readTo}
-use Rattle.exports.specs.AnswerLaws.{gives, short-first, short-second, long-enough, read-short, read-is}
+use Rattle.reading.specs.Reading.{applied, outcomeOf}
+use Rattle.exports.specs.Answers.{Answer, tooShort, markedAnswer, readingWords, readTo}
+use Rattle.exports.specs.AnswerLaws.{is-short, is-long, gives, short-first, short-second, long-enough}
 use borrow.Author.Needs.{needs}
 use Rattle.exports.proofs.gusnalip_read.Statement.{statement}
 use Rattle.exports.proofs.gusnalip_read.Tie as tie
 
 returns : tie.Need-returns
+unfolding readTo
 returns c =
     let a = c .before .before .before .args in
-    gives _ _ (a .out .now) (read-short (a .factor .now) (a .reading) (a .out .now) (short-first 9 (a .factor .now) 1 (a .out .now) (c .if1 .taken)))
+    gives _ _ (a .out .now) (is-short (short-first 9 (a .factor .now) 1 (a .out .now) (c .if1 .taken)) tooShort _)
 
 returns-2 : tie.Need-returns-2
+unfolding readTo
 returns-2 c =
     let a = c .before .before .before .before .args in
-    gives _ _ (a .out .now) (read-short (a .factor .now) (a .reading) (a .out .now) (short-second 9 (a .factor .now) 1 (a .out .now) (c .if2 .taken)))
+    gives _ _ (a .out .now) (is-short (short-second 9 (a .factor .now) 1 (a .out .now) (c .if2 .taken)) tooShort _)
 
 factor-from-requires : tie.Need-factor-from-requires
 factor-from-requires c κs = search needs
@@ -32,12 +34,13 @@ abbrev says : ReadingAnswer → Answer
 says r = markedAnswer readingWords (outcomeOf r)
 
 answer : (c : tie.After-read) → let a = c .before .before .before .before .before .before .before .args in readTo (a .factor .now) (a .reading) (a .out .now) ≡ says (c .read .result)
+unfolding readTo
 answer c =
     let room = c .before .before .before in
     let long = room .before in
     let a = long .before .before .before .args in
-    read-is (a .factor .now) (a .reading) (a .out .now) (outcomeOf (c .read .result)) (long-enough 9 (a .factor .now) 1 (a .out .now) (long .if1 .left) (room .if2 .left))
-    (sym (c .read .ensures ∙ rw (c .before .float-from .ensures, c .before .before .factor-from .ensures)))
+    is-long (long-enough 9 (a .factor .now) 1 (a .out .now) (long .if1 .left) (room .if2 .left)) tooShort _
+    ∙ ap (markedAnswer readingWords) (sym (c .read .ensures ∙ ap₂ applied (c .before .before .factor-from .ensures) (c .before .float-from .ensures)))
 
 enum-known-y : tie.Need-enum-known-y
 enum-known-y c = search needs

@@ -4,18 +4,18 @@ use lib.IntN.{ℤ}
 use mir.Syntax.{w32}
 use mir.Val.{toZ, ofZ}
 use borrow.Author.Needs.{needs}
+use borrow.Author.Tests.{lt-ltb, le-ltb}
 use Rattle.factor.specs.declared.Description.{Description}
 use Rattle.factor.specs.declared.SetUp.{SetUp}
 use Rattle.factor.specs.SetUp.{setUp, outcomeOf}
-use Rattle.exports.specs.Answers.{Answer, setUpAnswer, setUpTo}
-use Rattle.exports.specs.AnswerLaws.{gives, set-up-short, set-up-is}
+use Rattle.exports.specs.Answers.{Answer, tooShort, setUpAnswer, setUpTo}
+use Rattle.exports.specs.AnswerLaws.{is-short, is-long, gives}
 use Rattle.exports.proofs.gusnalip_set_up.Statement.{statement}
 use Rattle.exports.proofs.gusnalip_set_up.Tie as tie
 
 returns : tie.Need-returns
-returns c =
-    let a = c .before .before .args in
-    gives _ _ (a .out .now) (set-up-short (record { precision = a .precision; scale = a .scale; lower = a .lower; upper = a .upper }) (a .out .now) (c .if1 .taken))
+unfolding setUpTo
+returns c = gives _ _ (c .before .before .args .out .now) (is-short (lt-ltb _ 9 (c .if1 .taken)) tooShort _)
 
 set-up-requires : tie.Need-set-up-requires
 set-up-requires c κs = search needs
@@ -29,11 +29,12 @@ abbrev says : SetUp → Answer
 says r = setUpAnswer (outcomeOf r)
 
 answer : (c : tie.After-set-up) → setUpTo (asked c) (c .before .before .before .args .out .now) ≡ says (c .set-up .result)
+unfolding setUpTo
 answer c =
     let a = c .before .before .before .args in
     let same : toZ w32 (ofZ w32 (a .scale)) ≡ a .scale = search needs in
-    set-up-is (asked c) (a .out .now) (outcomeOf (c .set-up .result)) (c .before .if1 .left)
-    (sym (c .set-up .ensures ∙ ap (λ (k : ℤ). setUp (record { precision = a .precision; scale = k; lower = a .lower; upper = a .upper })) same))
+    is-long (le-ltb _ 9 (c .before .if1 .left)) tooShort _
+    ∙ ap setUpAnswer (sym (c .set-up .ensures ∙ ap (λ (k : ℤ). setUp (record { precision = a .precision; scale = k; lower = a .lower; upper = a .upper })) same))
 
 enum-known-f : tie.Need-enum-known-f
 enum-known-f c = search needs

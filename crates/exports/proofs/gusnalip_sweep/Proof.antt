@@ -11,22 +11,24 @@ use Rattle.calls.specs.Call.{sweepCall}
 use Rattle.sweep.specs.declared.SweepAnswer.{SweepAnswer}
 use Rattle.sweep.specs.Engine.{engine}
 use Rattle.sweep.specs.Answers.{callOf, replyOf}
-use Rattle.exports.specs.Answers.{SweepWords, replyWords, sweepTo}
-use Rattle.exports.specs.AnswerLaws.{gives-sweep, short-first, short-second, long-enough, sweep-short, sweep-is}
+use Rattle.exports.specs.Answers.{SweepWords, tooShortFor, replyWords, sweepTo}
+use Rattle.exports.specs.AnswerLaws.{is-short, is-long, gives-sweep, short-first, short-second, long-enough}
 use Rattle.exports.proofs.gusnalip_sweep.Statement.{statement}
 use Rattle.exports.proofs.gusnalip_sweep.Tie as tie
 
 returns : tie.Need-returns
+unfolding sweepTo
 returns c =
     let a = c .before .before .before .before .args in
     gives-sweep _ _ (a .state .now) (a .counts .now)
-    (sweep-short (a .state .now) (a .cap) (a .list .now) (a .free) (a .counts .now) (short-first 13 (a .state .now) 3 (a .counts .now) (c .if1 .taken)))
+    (is-short (short-first 13 (a .state .now) 3 (a .counts .now) (c .if1 .taken)) (tooShortFor (a .list .now)) _)
 
 returns-2 : tie.Need-returns-2
+unfolding sweepTo
 returns-2 c =
     let a = c .before .before .before .before .before .args in
     gives-sweep _ _ (a .state .now) (a .counts .now)
-    (sweep-short (a .state .now) (a .cap) (a .list .now) (a .free) (a .counts .now) (short-second 13 (a .state .now) 3 (a .counts .now) (c .if2 .taken)))
+    (is-short (short-second 13 (a .state .now) 3 (a .counts .now) (c .if2 .taken)) (tooShortFor (a .list .now)) _)
 
 state-from-requires : tie.Need-state-from-requires
 state-from-requires c κs = search needs
@@ -41,12 +43,13 @@ told list r = replyWords (replyOf r list)
 -- what the engine answers, and so what is answered
 answer : (c : tie.After-sweep-call) → let a = c .before .before .before .before .before .before .before .before .before .args in
     sweepTo (a .state .now) (a .cap) (a .list .now) (a .free) (a .counts .now) ≡ told (c .sweep-call .last .1 .1 .0) (c .sweep-call .result)
+unfolding sweepTo
 answer c =
     let room = c .before .before .before .before in
     let long = room .before in
     let a = long .before .before .before .before .args in
-    sweep-is (a .state .now) (a .cap) (a .list .now) (a .free) (a .counts .now) (replyOf (c .sweep-call .result) (c .sweep-call .last .1 .1 .0)) (long-enough 13 (a .state .now) 3 (a .counts .now) (long .if1 .left) (room .if2 .left))
-    (sym (c .sweep-call .ensures ∙ ap (λ (s : State Factor). sweepCall engine s (callOf (a .cap) (a .list .now) (a .free))) (c .before .before .state-from .ensures)))
+    is-long (long-enough 13 (a .state .now) 3 (a .counts .now) (long .if1 .left) (room .if2 .left)) (tooShortFor (a .list .now)) _
+    ∙ ap replyWords (sym (c .sweep-call .ensures ∙ ap (λ (s : State Factor). sweepCall engine s (callOf (a .cap) (a .list .now) (a .free))) (c .before .before .state-from .ensures)))
 
 enum-known-r : tie.Need-enum-known-r
 enum-known-r c = search needs
