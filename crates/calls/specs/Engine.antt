@@ -46,12 +46,14 @@ abbrev pub Least : (ℕ → Bool) → ℕ → ℕ → Place → Type 0
 Least suspect end a (At X) = (a ≤ X) × (X < end → suspect X ≡ true) × ((Y : ℕ) → a ≤ Y → Y < X → Y < end → suspect Y ≡ false)
 Least suspect end a Nowhere = (Y : ℕ) → a ≤ Y → Y < end → suspect Y ≡ false
 
--- What is asked of how lists are kept.
+-- What is asked of how lists are kept. Which calls are refused is the listing's own: demand 3 is about those that are not.
 pub record ListingLaws (l : Listing) : Type 0 where
   -- an entry takes a place
   pub some : 0 < l .places
   -- and all take as many
   pub long : (w : ℕ) → length (l .entry w) ≡ l .places
+  -- and each tells its word
+  pub tells : (v w : ℕ) → l .entry v ≡ l .entry w → v ≡ w
   -- a call that is not refused has a cap of at least 1 and room for an entry
   pub takes : (t : Terms) → NoneHolds (l .refuses t) → (0 < t .cap) × (l .places ≤ t .size - t .free)
 

@@ -4,11 +4,15 @@ use mathlib.Core.List.{List, [], _∷_, _++_, append-assoc, append-nil}
 use Prim.Native.Nat.{ℕ, suc, _+_, _-_, _*_, _/_, _≤_}
 use native.Mathlib.Omega.{arith}
 use native.Mathlib.Nat.{add-zero, add-suc, zero-mul, suc-mul, le-add-right, div-one, le-div-iff-mul-le, add-mul-div-right}
+use borrow.Author.Tests.{eqb-false, leb-false}
 use borrow.Rule.Slice.PartMut.{putMid, midOf}
+use lib.Dec.{eqb, leb}
 use lib.ListN.{length, set, take, drop, length-append, length-drop, take-append-drop}
 use lib.Seq.{sets, length-sets, sets-eq, slice, take-at, drop-at, length-take-le, take-set-le, drop-set-add, drop-length, take-length}
-use Rattle.calls.specs.State.{Call, Listing, entries, roomIn}
+use Rattle.marks.specs.Answers.{judged}
+use Rattle.calls.specs.State.{Call, Terms, Listing, entries, roomIn, wordList}
 use Rattle.calls.specs.Engine.{ListingLaws}
+use Rattle.calls.specs.Plain.{tries, Fed, Plain, untried, plainReplied, plainCall}
 use Rattle.calls.specs.Whole.{Tail}
 
 -- ---- entries
@@ -38,15 +42,33 @@ module _ {l : Listing} (laws : ListingLaws l) where
         let e : size - place ≡ size - (place + k) + length w * l .places = omega (arith, entries-fit, entries-length w) in
         omega (arith, ap (λ (n : ℕ). n / l .places) e ∙ add-mul-div-right (size - (place + k)) (length w) (laws .some))
 
--- Where an entry is its word and takes one place, the entries are the words.
-pub entries-plain : (l : Listing) → ((w : ℕ) → l .entry w ≡ w ∷ []) → (w : List ℕ) → entries l w ≡ w
+-- A call that neither 18 nor 19 refuses has a cap of at least 1 and a free place.
+pub word-laws : ListingLaws wordList
+word-laws =
+    record {
+      some = omega arith;
+      long = λ w. refl;
+      tells = λ v w e. cc;
+      takes = λ t h. (omega (arith, eqb-false (t .cap) 0 (h .0)), omega (arith, leb-false (t .size) (t .free) (h .1 .0)));
+    }
+
+-- Document 01's entries are the listed words themselves.
+pub entries-are : (w : List ℕ) → entries wordList w ≡ w
 unfolding entries
-entries-plain l h [] = refl
-entries-plain l h (x ∷ w) = rw (h x, entries-plain l h w)
+entries-are [] = refl
+entries-are (x ∷ w) = ap (λ (z : List ℕ). x ∷ z) (entries-are w)
 
 -- and there is room for as many as there are free places.
-pub room-plain : (l : Listing) → l .places ≡ 1 → (size place : ℕ) → roomIn l size place ≡ size - place
-room-plain l h size place = rw h (div-one (size - place))
+pub room-is : (size place : ℕ) → roomIn wordList size place ≡ size - place
+room-is size place = div-one (size - place)
+
+-- The plain sweep with these lists, in document 01's words: "If it is finished, a call is refused with 33; otherwise cap 0 with 18; otherwise a first free place at or past the list's end with 19";
+-- "f free places, f being the list's length less the first free place".
+pub plain-call : {F : Type 0} (w : Fed F) → w .listing ≡ wordList → (p : Plain) (t : Terms)
+    → plainCall w p t
+    ≡ plainReplied w p (t .free) (judged ((33, p .finished) ∷ (18, eqb (t .cap) 0) ∷ (19, leb (t .size) (t .free)) ∷ [])) (tries (w .mark) (t .cap) (t .size - t .free) (untried w p))
+unfolding plainCall
+plain-call w e p t = rw (e, room-is (t .size) (t .free))
 
 -- ---- what is written
 

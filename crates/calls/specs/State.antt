@@ -2,7 +2,7 @@
 use mathlib.Core.Bool.{Bool, false, _||_}
 use mathlib.Core.List.{List, [], _∷_, _++_}
 use Prim.Native.Nat.{ℕ, _+_, _-_, _*_, _/_}
-use lib.Dec.{ltb}
+use lib.Dec.{eqb, leb, ltb}
 use lib.ListN.{length}
 use Rattle.marks.specs.declared.Mark.{Mark}
 use Rattle.marks.specs.declared.Mark.the-variants.{Right, Open, Wrong}
@@ -27,20 +27,22 @@ outOfRange bad s = bad || ltb (s .next) (s .first) || ltb (s .last) (s .next)
 
 -- ---- calls
 
--- "A call has the state, a cap on trials, a list of 32-bit words and its first free place." The state stands beside it.
+-- "A call has the state, a cap on trials, a list of 32-bit words and its first free place." The state stands beside it, and the width of the words in bits is named.
 pub record Call : Type 0 where
   pub cap : ℕ
+  pub width : ℕ
   pub list : List ℕ
   pub free : ℕ
 
--- What a call is judged by, and all that the plain sweep is told of it: its "cap, list length and first free place".
+-- What a call is judged by, and all that the plain sweep is told of it: its "cap, list length and first free place", and the width.
 pub record Terms : Type 0 where
   pub cap : ℕ
+  pub width : ℕ
   pub size : ℕ
   pub free : ℕ
 
 abbrev pub termsOf : Call → Terms
-termsOf c = record { cap = c .cap; size = length (c .list); free = c .free }
+termsOf c = record { cap = c .cap; width = c .width; size = length (c .list); free = c .free }
 
 -- ---- words
 
@@ -67,3 +69,7 @@ entries l (w ∷ ws) = l .entry w ++ entries l ws
 -- For how many entries a list of a size has room from a place on.
 abbrev pub roomIn : Listing → (size place : ℕ) → ℕ
 roomIn l size place = (size - place) / l .places
+
+-- Document 01's lists: an entry is the listed word, in one place; 18, "cap 0", and 19, "first free place at or past the list's end".
+abbrev pub wordList : Listing
+wordList = record { refuses = λ t. (18, eqb (t .cap) 0) ∷ (19, leb (t .size) (t .free)) ∷ []; places = 1; entry = λ w. w ∷ [] }

@@ -1,22 +1,23 @@
 -- Examples: a small engine of which the laws hold, so that demand 3 holds of it, and calls of it worked out. Assumes nothing.
 use mathlib.Core.Path.{_≡_, refl}
-use mathlib.Core.Bool.{Bool, true, false, cond, _||_}
+use mathlib.Core.Bool.{Bool, true, false, cond, not, _||_}
 use mathlib.Core.Logic.{_≢_}
 use mathlib.Core.List.{List, [], _∷_}
 use Prim.Native.Nat.{ℕ, suc, _+_, _-_, _*_, _/_, _%_, _≤_}
 use native.Mathlib.Omega.{arith}
-use borrow.Author.Tests.{eq-eqb, ne-eqb, eqb-false, leb-false, ltb-false}
+use borrow.Author.Tests.{eq-eqb, ne-eqb, eqb-false, ltb-false}
 use lib.Dec.{eqb, ltb, leb}
 use Rattle.marks.specs.declared.Mark.{Mark}
 use Rattle.marks.specs.declared.Mark.the-variants.{Right, Open, Wrong}
 use Rattle.marks.specs.Answers.{refused, accepted, answer}
 use Rattle.marks.specs.AnswerLaws.{or-false}
 use Rattle.search.specs.declared.Place.the-variants.{At}
-use Rattle.calls.specs.State.{State, fresh, outOfRange, Call, Listing}
+use Rattle.calls.specs.State.{State, fresh, outOfRange, Call, Listing, wordList}
 use Rattle.calls.specs.Engine.{Half, low, high, halfOf, lowEnd, Engine, Least, ListingLaws, Lawful}
 use Rattle.calls.specs.Call.{newState, ahead, run, sweepCall}
 use Rattle.calls.specs.Plain.{row, tries, wordsOf, Fed, fed, begun, plainCall, Seen, stateOf, plains}
 use Rattle.calls.specs.Whole.{Whole}
+use Rattle.calls.specs.Lists.{word-laws}
 use Rattle.calls.specs.Refusals.{in-range}
 use Rattle.calls.specs.Demand.{whole-sweep}
 
@@ -46,34 +47,28 @@ toyBy l =
       find = λ f h a. record { place = At (a + (6 * (a + f)) % 7); rounds = toyRounds h a };
     }
 
--- An entry is the listed word, as in document 01.
-abbrev pub oneWord : Listing
-oneWord = record { refuses = λ t. (18, eqb (t .cap) 0) ∷ (19, leb (t .size) (t .free)) ∷ []; places = 1; entry = λ w. w ∷ [] }
-
--- An entry has two words, the significand and 1 for open, and a call with fewer than two free places is refused by a number of its own.
+-- An entry has two words, the significand and 1 for open. Refused are lists of other words than 32-bit ones, by a number before 18, and fewer than two free places.
 abbrev pub twoWords : Listing
-twoWords = record { refuses = λ t. (18, eqb (t .cap) 0) ∷ (44, ltb (t .size - t .free) 2) ∷ []; places = 2; entry = λ w. w / 2 ∷ w % 2 ∷ [] }
+twoWords =
+    record {
+      refuses = λ t. (49, not (eqb (t .width) 32)) ∷ (18, eqb (t .cap) 0) ∷ (44, ltb (t .size - t .free) 2) ∷ [];
+      places = 2;
+      entry = λ w. w / 2 ∷ w % 2 ∷ [];
+    }
 
 abbrev pub toy : Engine ℕ
-toy = toyBy oneWord
+toy = toyBy wordList
 
 abbrev pub pairs : Engine ℕ
 pairs = toyBy twoWords
-
-one-laws : ListingLaws oneWord
-one-laws =
-    record {
-      some = omega arith;
-      long = λ w. refl;
-      takes = λ t h. (omega (arith, eqb-false (t .cap) 0 (h .0)), omega (arith, leb-false (t .size) (t .free) (h .1 .0)));
-    }
 
 two-laws : ListingLaws twoWords
 two-laws =
     record {
       some = omega arith;
       long = λ w. refl;
-      takes = λ t h. (omega (arith, eqb-false (t .cap) 0 (h .0)), ltb-false (t .size - t .free) 2 (h .1 .0));
+      tells = λ v w e. let a : v / 2 ≡ w / 2 = cc in let b : v % 2 ≡ w % 2 = cc in omega arith;
+      takes = λ t h. (omega (arith, eqb-false (t .cap) 0 (h .1 .0)), ltb-false (t .size - t .free) 2 (h .1 .1 .0));
     }
 
 least : (f end a : ℕ) → Least (toySuspect f) end a (At (a + (6 * (a + f)) % 7))
@@ -110,12 +105,15 @@ toy-lawful lists =
 
 -- Demand 3 holds of it, however its lists are kept.
 pub toy-whole : (f first last : ℕ) (s : State ℕ) → newState toy f first last ≡ accepted s → (calls : List Call) → Whole toySuspect toy (λ f. 4) (sweepCall toy) s calls
-toy-whole = whole-sweep (toy-lawful one-laws)
+toy-whole = whole-sweep (toy-lawful word-laws)
 
 pub pairs-whole : (f first last : ℕ) (s : State ℕ) → newState pairs f first last ≡ accepted s → (calls : List Call) → Whole toySuspect pairs (λ f. 4) (sweepCall pairs) s calls
 pairs-whole = whole-sweep (toy-lawful two-laws)
 
 -- ---- calls over 81 to 127 for the factor 2, with the suspects 82, 89, 96, 103, 110, 117 and 124, of which 89 and 103 are wrong and 117 is open
+
+abbrev asked : (cap : ℕ) → List ℕ → (free : ℕ) → Call
+asked cap list free = record { cap = cap; width = 32; list = list; free = free }
 
 abbrev before : ℕ → State ℕ
 before next = record { factor = 2; first = 81; last = 127; next = next; finished = false }
@@ -129,25 +127,25 @@ unfolding answer
 new-refused = refl
 
 -- The cap stops the first call, at 96.
-first-call : sweepCall toy (before 81) (record { cap = 2; list = 9 ∷ 9 ∷ 9 ∷ []; free = 1 })
+first-call : sweepCall toy (before 81) (asked 2 (9 ∷ 9 ∷ 9 ∷ []) 1)
     ≡ record { answer = accepted (record { trials = 2; rounds = 4; place = 2 }); state = before 96; list = 9 ∷ 178 ∷ 9 ∷ [] }
 unfolding sweepCall run ahead
 first-call = refl
 
 -- A refused call changes nothing.
-refused-call : sweepCall toy (before 96) (record { cap = 0; list = 9 ∷ 9 ∷ 9 ∷ []; free = 3 })
+refused-call : sweepCall toy (before 96) (asked 0 (9 ∷ 9 ∷ 9 ∷ []) 3)
     ≡ record { answer = refused 18; state = before 96; list = 9 ∷ 9 ∷ 9 ∷ [] }
 unfolding sweepCall run ahead
 refused-call = refl
 
 -- The call resumes at 96, goes on into the high half, and is stopped by a full list at 124.
-resumed-call : sweepCall toy (before 96) (record { cap = 5; list = 9 ∷ 9 ∷ []; free = 0 })
+resumed-call : sweepCall toy (before 96) (asked 5 (9 ∷ 9 ∷ []) 0)
     ≡ record { answer = accepted (record { trials = 4; rounds = 7; place = 2 }); state = before 124; list = 206 ∷ 235 ∷ [] }
 unfolding sweepCall run ahead
 resumed-call = refl
 
 -- The last suspect is the last of the range: no search is made past it.
-closing-call : sweepCall toy (fresh 2 121 124) (record { cap = 5; list = 9 ∷ []; free = 0 })
+closing-call : sweepCall toy (fresh 2 121 124) (asked 5 (9 ∷ []) 0)
     ≡ record {
       answer = accepted (record { trials = 1; rounds = 1; place = 0 });
       state = record { factor = 2; first = 121; last = 124; next = 124; finished = true };
@@ -157,7 +155,7 @@ unfolding sweepCall run ahead
 closing-call = refl
 
 -- A finished state is refused before a cap of 0.
-finished-call : sweepCall toy end (record { cap = 0; list = []; free = 0 }) ≡ record { answer = refused 33; state = end; list = [] }
+finished-call : sweepCall toy end (asked 0 [] 0) ≡ record { answer = refused 33; state = end; list = [] }
 unfolding sweepCall run ahead
 finished-call = refl
 
@@ -171,11 +169,11 @@ plainCalls l calls = plains (stateOf (fedIn l)) (fedIn l) (begun (fedIn l)) call
 
 -- four calls, the last of them past the finish
 plain-calls :
-    plainCalls oneWord
-    (record { cap = 2; list = 9 ∷ 9 ∷ 9 ∷ []; free = 1 }
-    ∷ record { cap = 5; list = 9 ∷ 9 ∷ []; free = 0 }
-    ∷ record { cap = 9; list = 9 ∷ []; free = 0 }
-    ∷ record { cap = 0; list = []; free = 0 }
+    plainCalls wordList
+    (asked 2 (9 ∷ 9 ∷ 9 ∷ []) 1
+    ∷ asked 5 (9 ∷ 9 ∷ []) 0
+    ∷ asked 9 (9 ∷ []) 0
+    ∷ asked 0 [] 0
     ∷ [])
     ≡ record { told = accepted (record { trials = 2; place = 2; words = 178 ∷ [] }); state = before 96 }
     ∷ record { told = accepted (record { trials = 4; place = 2; words = 206 ∷ 235 ∷ [] }); state = before 124 }
@@ -188,23 +186,29 @@ plain-calls = refl
 -- ---- the same with two words to an entry
 
 -- Five places hold two entries, so that the call is stopped by a full list at 124, and the fifth place is left.
-pair-call : sweepCall pairs (before 96) (record { cap = 5; list = 9 ∷ 9 ∷ 9 ∷ 9 ∷ 9 ∷ []; free = 0 })
+pair-call : sweepCall pairs (before 96) (asked 5 (9 ∷ 9 ∷ 9 ∷ 9 ∷ 9 ∷ []) 0)
     ≡ record { answer = accepted (record { trials = 4; rounds = 7; place = 4 }); state = before 124; list = 103 ∷ 0 ∷ 117 ∷ 1 ∷ 9 ∷ [] }
 unfolding sweepCall run ahead
 pair-call = refl
 
 -- One free place is not enough.
-pair-refused : sweepCall pairs (before 124) (record { cap = 5; list = 9 ∷ 9 ∷ 9 ∷ 9 ∷ 9 ∷ []; free = 4 })
+pair-refused : sweepCall pairs (before 124) (asked 5 (9 ∷ 9 ∷ 9 ∷ 9 ∷ 9 ∷ []) 4)
     ≡ record { answer = refused 44; state = before 124; list = 9 ∷ 9 ∷ 9 ∷ 9 ∷ 9 ∷ [] }
 unfolding sweepCall run ahead
 pair-refused = refl
 
+-- Words of another width are refused before a cap of 0.
+pair-width : sweepCall pairs (before 124) (record { cap = 0; width = 64; list = 9 ∷ 9 ∷ []; free = 0 })
+    ≡ record { answer = refused 49; state = before 124; list = 9 ∷ 9 ∷ [] }
+unfolding sweepCall run ahead
+pair-width = refl
+
 -- The plain sweep has the same.
 pair-calls :
     plainCalls twoWords
-    (record { cap = 3; list = 9 ∷ 9 ∷ 9 ∷ []; free = 0 }
-    ∷ record { cap = 5; list = 9 ∷ 9 ∷ 9 ∷ 9 ∷ 9 ∷ []; free = 4 }
-    ∷ record { cap = 5; list = 9 ∷ 9 ∷ 9 ∷ 9 ∷ 9 ∷ []; free = 0 }
+    (asked 3 (9 ∷ 9 ∷ 9 ∷ []) 0
+    ∷ asked 5 (9 ∷ 9 ∷ 9 ∷ 9 ∷ 9 ∷ []) 4
+    ∷ asked 5 (9 ∷ 9 ∷ 9 ∷ 9 ∷ 9 ∷ []) 0
     ∷ [])
     ≡ record { told = accepted (record { trials = 2; place = 2; words = 89 ∷ 0 ∷ [] }); state = before 96 }
     ∷ record { told = refused 44; state = before 96 }

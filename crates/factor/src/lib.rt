@@ -270,9 +270,9 @@ fn ends_out(lower: u64, upper: u64) -> bool
 pub fn set_up(d: Description) -> SetUp
     ensures { λ r. ⌜ outcomeOf r ≡ setUp d ⌝ }
 {
-    if Precision::is_out(d.precision) {
+    let PrecisionAnswer::Accepted(precision) = Precision::new(d.precision) else {
         return SetUp::Refused(11);
-    }
+    };
     if ends_out(d.lower, d.upper) {
         return SetUp::Refused(12);
     }
@@ -282,7 +282,6 @@ pub fn set_up(d: Description) -> SetUp
     if scale_out(d.scale) {
         return SetUp::Refused(14);
     }
-    let precision = Precision { bits: d.precision };
     let parts = parts_at(precision, d.lower);
     let other = parts_at(precision, d.upper);
     if parts.high != other.high {

@@ -1,6 +1,6 @@
 -- A line is a frame exactly if it is what the frame's fields print. Assumes nothing.
 use mathlib.Core.Path.{_≡_, refl, sym, ap, subst, _∙_}
-use mathlib.Core.Bool.{true, false, not, and-eq-true-iff}
+use mathlib.Core.Bool.{true, false, not}
 use mathlib.Core.List.{List, [], _∷_, _++_}
 use Prim.Native.Nat.{ℕ, suc, _+_, _-_, _*_, _^_, _<_}
 use native.Mathlib.Nat.{mod-eq-of-lt}
@@ -13,7 +13,7 @@ use lib.Seq.{drop-cons}
 use lib.Signed.{mag}
 use borrow.Author.Tests.{lt-ltb, le-ltb, eqb-true, not-false}
 use Rattle.marks.specs.Answers.{NoneHolds, Outcome, accepted}
-use Rattle.marks.specs.AnswerLaws.{pass, end, accepts, only-accepted}
+use Rattle.marks.specs.AnswerLaws.{pass, end, accepts, only-accepted, and-true}
 use Rattle.factor.specs.declared.Description.{Description}
 use Rattle.frame.specs.declared.Field.the-variants.{Value}
 use Rattle.frame.specs.Digits.{digits, hexDigits, valueAfter, fieldAt, malformed, numberOf}
@@ -102,9 +102,9 @@ record Spaced (e : ℕ) (line : List ℕ) : Type 0 where
 spaced-tells : (e : ℕ) (line : List ℕ) → spaced e line ≡ true → Spaced e line
 unfolding spaced
 spaced-tells e line h =
-    let a = and-eq-true-iff (eqb (length line) (7 + 2 * e)) _ .0 h in
-    let b = and-eq-true-iff (blankAt line 2) _ .0 (a .1) in
-    let c = and-eq-true-iff (blankAt line 5) _ .0 (b .1) in
+    let a = and-true (eqb (length line) (7 + 2 * e)) _ h in
+    let b = and-true (blankAt line 2) _ (a .1) in
+    let c = and-true (blankAt line 5) _ (b .1) in
     record { long = eqb-true _ _ (a .0); first = eqb-true _ _ (b .0); second = eqb-true _ _ (c .0); third = eqb-true _ _ (c .1) }
 
 -- a field and the blank after it

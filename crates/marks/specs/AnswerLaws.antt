@@ -78,6 +78,12 @@ only-accepted {A} (t ∷ l) a b q = go (t .1) refl q (only-accepted l a b)
     go true i q ih = let z : _≡_ {A = ℕ} 0 1 = cc in absurd (omega arith)
     go false i q ih = let r = ih q in ((i, r .0), r .1)
 
+-- where there is one condition, a refusal says that it holds
+pub only-refused : {A : Type 0} {k : ℕ} (n : ℕ) (b : Bool) (a : A) → refused k ≡ answer ((n, b) ∷ []) a → b ≡ true
+unfolding answer judged
+only-refused n true a e = refl
+only-refused n false a e = let z : _≡_ {A = ℕ} 0 1 = cc in absurd (omega arith)
+
 -- a refusal by the first conditions is that of all, whatever the value
 pub refused-first : {A B : Type 0} (k l : List (ℕ × Bool)) (a : A) (b : B) (n : ℕ) → refused n ≡ answer k a → refused n ≡ answer (k ++ l) b
 unfolding answer judged

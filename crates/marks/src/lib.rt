@@ -1,4 +1,4 @@
-// The mark of a product (document 01, "The product"): whether it is what the factor times the significand rounds to.
+// The mark of a product (document 01, "The product"): whether it is what the factor times the significand rounds to. specs/ has what every answer says, refused or not.
 pub enum Mark {
     // for every fraction between the ends
     Right,

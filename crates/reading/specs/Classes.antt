@@ -1,6 +1,6 @@
 -- What the fields of a reading's pattern say of its value: every binary32 number is infinite or NaN, zero, subnormal, or sign * significand / 2 ^ 23 * 2 ^ exponent. Assumes nothing.
 use mathlib.Core.Path.{_≡_, refl, sym, ap, _∙_, subst}
-use mathlib.Core.Bool.{Bool, true, false, not, _&&_, cond, true≢false}
+use mathlib.Core.Bool.{Bool, true, false, not, cond}
 use mathlib.Core.Logic.{_⊎_, inl, inr}
 use Prim.Native.Nat.{ℕ, zero, suc, _+_, _-_, _*_, _^_, _≤_, _<_}
 use native.Mathlib.Nat.{mul-one}
@@ -11,22 +11,13 @@ use lib.Pow.{pow-pos}
 use lib.Ieee.{Float, nan, inf, binary32, minus, up, down, odd, ofFields, ofBits, toBits, fits}
 use lib.Ieee.Bits.{ofBits-toBits}
 use lib.Ieee.Exact.{HasValue, odd-sign}
-use borrow.Author.Tests.{eqb-true, eqb-false}
+use borrow.Author.Tests.{eqb-true, eqb-false, not-true}
+use Rattle.marks.specs.AnswerLaws.{and-true}
 use Rattle.rounding.specs.RoundLaws.{minus-shift, minus-zero, minus-add}
 use Rattle.rounding.specs.Ieee.{revalue}
 use Rattle.rounding.specs.Binary32.{fields-value}
 use Rattle.reading.specs.Reading.{signOf, fieldOf, digitsOf, endless, zeroBits, subnormal, significandOf, exponentOf}
 use Rattle.reading.specs.Exponents.{up-down}
-
--- a and b hold
-both : (a b : Bool) → a && b ≡ true → (a ≡ true) × (b ≡ true)
-both true true e = (refl, refl)
-both true false e = absurd (true≢false (sym e))
-both false b e = absurd (true≢false (sym e))
-
-negated : (b : Bool) → not b ≡ true → b ≡ false
-negated true e = absurd (true≢false (sym e))
-negated false e = refl
 
 module _ (x : Float) (h : T (fits binary32 x)) where
   abbrev b : ℕ
@@ -57,14 +48,14 @@ module _ (x : Float) (h : T (fits binary32 x)) where
 
   pub zero-value : zeroBits b ≡ true → HasValue x (signOf b) 0 (2 ^ 149)
   zero-value e =
-      let t = both (eqb (fieldOf b) 0) (eqb (digitsOf b) 0) e in
+      let t = and-true (eqb (fieldOf b) 0) (eqb (digitsOf b) 0) e in
       subst (λ (z : ℕ). HasValue x (signOf b) z (2 ^ 149)) (eqb-true (digitsOf b) 0 (t .1)) (small-value (eqb-true (fieldOf b) 0 (t .0)))
 
   -- what 22 refuses: not zero, and below 2 ^ -126
   pub subnormal-value : subnormal b ≡ true → HasValue x (signOf b) (digitsOf b) (2 ^ 149) × (0 < digitsOf b) × (digitsOf b < 2 ^ 23)
   subnormal-value e =
-      let t = both (eqb (fieldOf b) 0) (not (eqb (digitsOf b) 0)) e in
-      let some = eqb-false (digitsOf b) 0 (negated (eqb (digitsOf b) 0) (t .1)) in
+      let t = and-true (eqb (fieldOf b) 0) (not (eqb (digitsOf b) 0)) e in
+      let some = eqb-false (digitsOf b) 0 (not-true (eqb (digitsOf b) 0) (t .1)) in
       (small-value (eqb-true (fieldOf b) 0 (t .0)), omega (arith, some), omega arith)
 
   -- all others are normal

@@ -2,7 +2,7 @@
 use mathlib.Core.Path.{_≡_, refl, sym, ap, ap₂, _∙_, subst}
 use mathlib.Core.Bool.{Bool, true, false, cond}
 use mathlib.Core.Logic.{_⊎_, inl, inr}
-use Prim.Native.Nat.{ℕ, zero, suc, _+_, _-_, _*_, _/_, _%_, _^_, _≤_, _<_}
+use Prim.Native.Nat.{ℕ, zero, suc, _+_, _-_, _*_, _%_, _^_, _≤_, _<_}
 use native.Mathlib.Nat.{mul-pos, mul-le-mul, mul-le-mul-right, mul-mul-mul-comm, eq-of-mul-eq-mul-right, le-trans, le-of-eq, lt-of-not-le, lt-of-le-of-lt, le-of-suc-le-suc, not-le-of-lt}
 use native.Mathlib.Decide.{ℕ-discrete}
 use native.Mathlib.Omega.{arith}
@@ -25,7 +25,7 @@ use Rattle.rounding.specs.Ieee.{revalue, round-value, rn-grid, round-itself}
 use Rattle.factor.specs.declared.Factor.{Factor}
 use Rattle.factor.specs.declared.Parts.{Parts}
 use Rattle.factor.specs.Parts.{lowPart, partsAt}
-use Rattle.factor.specs.Whole.{Whole, whole, wholeOf}
+use Rattle.factor.specs.Whole.{Whole, wholeOf}
 use Rattle.factor.specs.PartsLaws.{low-counts, whole-of-parts}
 use Rattle.factor.specs.SetUp.{Sound, partsOf, appliedOf, described}
 use Rattle.factor.specs.Stored.{stored-low, low-over}

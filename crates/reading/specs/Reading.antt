@@ -73,10 +73,14 @@ outside f b v = exponentOut (raised f b +ℤ pos (v .binade))
 abbrev pub putOn : Factor → ℕ → Marked Product → Marked Float
 putOn f b a = record { mark = a .mark; value = numberOf (signOf b) (a .value) (raised f b) }
 
+-- sign and exponent put on a value with its mark, unless 23 refuses it
+abbrev pub ranged : Factor → ℕ → Marked Product → Outcome (Marked Float)
+ranged f b a = answer ((23, outside f b (a .value)) ∷ []) (putOn f b a)
+
 -- what becomes of a normal reading's value: 23, or the number with its mark
 unfoldable pub finished : Factor → ℕ → Product → Outcome (Marked Float)
 unfolding mark numberOf
-finished f b v = answer ((23, outside f b v) ∷ []) (putOn f b (marked f (significandOf b) v))
+finished f b v = ranged f b (marked f (significandOf b) v)
 
 -- ---- the answer
 abbrev pub plusZero : Float

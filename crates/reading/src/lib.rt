@@ -48,7 +48,7 @@ pub enum ReadingAnswer {
 }
 
 // A reading before its product: its bits, or a refusal: 31, 20, 21 or 22.
-pub enum Taken {
+enum Taken {
     Bits(u32),
     Refused(u32),
 }
@@ -94,7 +94,7 @@ fn answer(m: Mark, y: f32) -> ReadingAnswer
 }
 
 // What becomes of a value of a normal reading's significand, whoever made it: sign and exponent are put on last, and 23 is judged whatever the mark.
-pub fn finish(f: Factor, bits: u32, v: Product) -> ReadingAnswer
+fn finish(f: Factor, bits: u32, v: Product) -> ReadingAnswer
     requires { ⌜ Sound f × (f .precision .bits ≡ 24) × (1 ≤ fieldOf bits) × (fieldOf bits < 255) × HasBits 24 (v .significand) × (v .binade ≤ 1) ⌝ }
     ensures { λ r. ⌜ outcomeOf r ≡ finished f bits v ⌝ }
 {
@@ -111,7 +111,7 @@ pub fn finish(f: Factor, bits: u32, v: Product) -> ReadingAnswer
 }
 
 // What a reading is judged to be before its product: the first of the refusals 31, 20, 21 and 22 whose condition holds, or a zero or a normal number by its bits.
-pub fn take(f: Factor, reading: f32) -> Taken
+fn take(f: Factor, reading: f32) -> Taken
     ensures { λ r. ⌜ takenOf r ≡ answer (unreadable f (toBits binary32 reading)) (toBits binary32 reading) ⌝ }
 {
     if !factor::is_intact(f) {

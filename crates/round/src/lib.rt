@@ -6,7 +6,7 @@ use rounding::RoundedSigned;
 use rounding::TieRule;
 use wide::Wide;
 ghost use mathlib.Core.Path.{_≡_};
-ghost use Prim.Native.Nat.{ℕ, _+_, _-_, _*_, _/_, _%_, _<_, _≤_, _^_};
+ghost use Prim.Native.Nat.{_+_, _-_, _/_, _%_, _<_, _≤_, _^_};
 ghost use Rattle.rounding.specs.Grid.{ruleOf, location, choose, nearest};
 ghost use Rattle.rounding.specs.Round.{normalised, rounded};
 ghost use lib.IntN.{natAbs};

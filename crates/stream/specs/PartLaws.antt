@@ -17,12 +17,11 @@ use Rattle.calls.specs.Call.{conditions, handed, Result, Reply, sweepCall}
 use Rattle.calls.specs.Plain.{wordsOf}
 use Rattle.calls.specs.ByRow.{headOf, rowRun}
 use Rattle.calls.specs.Tries.{tries-within, words-fit}
-use Rattle.calls.specs.Lists.{read-back}
+use Rattle.calls.specs.Lists.{entries-are, read-back}
 use Rattle.sweep.specs.declared.SweepState.{SweepState}
 use Rattle.sweep.specs.declared.SweepAnswer
 use Rattle.sweep.specs.declared.SweepAnswer.{SweepAnswer}
 use Rattle.sweep.specs.Engine.{engine}
-use Rattle.sweep.specs.EngineLaws.{entries-are}
 use Rattle.sweep.specs.Answers.{viewOf, callOf, termsBy, replyOf}
 use Rattle.sweep.specs.Demand3.{call-by-row}
 use Rattle.stream.specs.declared.Tally.{Tally}

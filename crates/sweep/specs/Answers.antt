@@ -22,11 +22,11 @@ newOf (NewSweep.Refused n) = refused n
 
 -- a call: cap, list and first free place
 abbrev pub callOf : (cap : ℕ) → List ℕ → (free : ℕ) → Call
-callOf cap list free = record { cap = cap; list = list; free = free }
+callOf cap list free = record { cap = cap; width = 32; list = list; free = free }
 
 -- what it is judged by: cap, the list's length and first free place
 abbrev pub termsBy : (cap size free : ℕ) → Terms
-termsBy cap size free = record { cap = cap; size = size; free = free }
+termsBy cap size free = record { cap = cap; width = 32; size = size; free = free }
 
 -- what an accepted call returns as numbers
 abbrev pub resultOf : Swept → Result

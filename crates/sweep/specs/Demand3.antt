@@ -9,13 +9,14 @@ use Rattle.calls.specs.Call.{newState, Reply, sweepCall}
 use Rattle.calls.specs.ByRow.{rowCall}
 use Rattle.calls.specs.Plain.{untried}
 use Rattle.calls.specs.Whole.{sweeps, wordsIn, endOf, Holds, fedBy, plainEnd, Whole}
+use Rattle.calls.specs.Lists.{entries-are}
 use Rattle.calls.specs.One.{by-row}
 use Rattle.calls.specs.Demand.{whole-sweep}
 use Rattle.sweep.specs.declared.SweepState.{SweepState}
 use Rattle.sweep.specs.declared.NewSweep.{NewSweep}
 use Rattle.sweep.specs.declared.SweepAnswer.{SweepAnswer}
 use Rattle.sweep.specs.Engine.{suspect, mostRounds, engine}
-use Rattle.sweep.specs.EngineLaws.{entries-are, lawful}
+use Rattle.sweep.specs.EngineLaws.{lawful}
 use Rattle.sweep.specs.Answers.{viewOf, newOf, replyOf}
 
 -- One call, on every state, also one that no calls lead to: what the searches make of it is what is read off the row of suspects, answer, state, list and

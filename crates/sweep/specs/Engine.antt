@@ -2,7 +2,7 @@
 use mathlib.Core.Bool.{Bool, not, _||_}
 use mathlib.Core.List.{[], _∷_}
 use Prim.Native.Nat.{ℕ, _-_, _^_}
-use lib.Dec.{eqb, leb, ltb}
+use lib.Dec.{ltb}
 use Rattle.search.specs.declared.Found.{Found}
 use Rattle.factor.specs.declared.Factor.{Factor}
 use Rattle.factor.specs.Precision.{scaleOf, roundsOf, significandOut}
@@ -12,7 +12,7 @@ use Rattle.product.specs.Marks.{markBy}
 use Rattle.suspects.specs.declared.Halves.{Halves}
 use Rattle.suspects.specs.Suspects.{isSuspect}
 use Rattle.suspects.specs.Next.{nextFrom, firstHigh, halves}
-use Rattle.calls.specs.State.{State, outOfRange, Listing}
+use Rattle.calls.specs.State.{State, outOfRange, wordList}
 use Rattle.calls.specs.Engine.{Half, low, high, Engine}
 
 -- whether X is a suspect of a factor
@@ -26,10 +26,6 @@ rangeOut n first last = significandOut n first || significandOut n last || ltb l
 -- 32: "the range is one that 17 refuses, or the next significand lies outside it"
 abbrev pub stateOut : State Factor → Bool
 stateOut s = outOfRange (rangeOut (s .factor .precision .bits) (s .first) (s .last)) s
-
--- a list of 32-bit words, whose entries are the listed words: 18, "cap 0", and 19, "first free place at or past the list's end"
-abbrev pub wordList : Listing
-wordList = record { refuses = λ t. (18, eqb (t .cap) 0) ∷ (19, leb (t .size) (t .free)) ∷ []; places = 1; entry = λ w. w ∷ [] }
 
 -- what is sought in each half, and the first high significand
 abbrev pub halvesOf : Factor → Halves

@@ -1,13 +1,12 @@
 -- The engine of all factors is lawful: each search finds the least suspect of its half, in few rounds, and every significand that is not right is a suspect.
 -- Assumes nothing.
-use mathlib.Core.Path.{_≡_, refl, subst}
-use mathlib.Core.Bool.{Bool, true, false, not, _||_, true≢false}
+use mathlib.Core.Path.{_≡_, subst}
+use mathlib.Core.Bool.{true, false, not, _||_}
 use mathlib.Core.Logic.{_≢_, _↔_}
-use mathlib.Core.List.{List}
 use Prim.Native.Nat.{ℕ, suc, _-_, _*_, _≤_}
 use native.Mathlib.Omega.{arith}
 use lib.Dec.{ltb}
-use borrow.Author.Tests.{eqb-false, leb-false, ltb-false}
+use borrow.Author.Tests.{ltb-false, not-false}
 use Rattle.marks.specs.declared.Mark.the-variants.{Right}
 use Rattle.marks.specs.AnswerLaws.{or-false}
 use Rattle.rounding.specs.Grid.{toEven}
@@ -24,19 +23,14 @@ use Rattle.product.specs.AnswerLaws.{significand-in}
 use Rattle.suspects.specs.Suspects.{Suspect}
 use Rattle.suspects.specs.Window.{suspect-iff, not-right-suspect}
 use Rattle.suspects.specs.NextLaws as next
-use Rattle.calls.specs.State.{entries, roomIn}
-use Rattle.calls.specs.Engine.{Half, low, high, halfOf, ListingLaws, Lawful}
+use Rattle.calls.specs.Engine.{Half, low, high, halfOf, Lawful}
 use Rattle.calls.specs.Refusals as calls
-use Rattle.calls.specs.Lists.{entries-plain, room-plain}
-use Rattle.sweep.specs.Engine.{suspect, rangeOut, wordList, findIn, mostRounds, engine}
+use Rattle.calls.specs.Lists.{word-laws}
+use Rattle.sweep.specs.Engine.{suspect, rangeOut, findIn, mostRounds, engine}
 
 -- A factor that 31 does not refuse is sound.
 pub sound-of : (f : Factor) → not (intact f) ≡ false → Sound f
-sound-of f q = go (intact f) refl q
-  where
-    go : (b : Bool) → intact f ≡ b → not b ≡ false → Sound f
-    go true e k = intact-sound f e
-    go false e k = absurd (true≢false k)
+sound-of f q = intact-sound f (not-false _ q)
 
 -- What a range has that 17 does not refuse.
 pub record InRange (n first last : ℕ) : Type 0 where
@@ -85,23 +79,6 @@ module _ (f : Factor) (s : Sound f) where
       let z : ¬ (mark toEven n 62 L U X (product toEven n (partsOf (described f) L) X) ≡ Right) = subst (λ (p : Parts). ¬ (mark toEven n 62 L U X (product toEven n p X) ≡ Right)) (s .parts) q in
       suspect-is X .1
       (not-right-suspect toEven n 62 two fine L U (s .lower-end) (s .upper-end) (s .ordered) (s .same) X (x .least) (x .most) z)
-
--- A call that neither 18 nor 19 refuses has a cap of at least 1 and a free place.
-word-laws : ListingLaws wordList
-word-laws =
-    record {
-      some = omega arith;
-      long = λ w. refl;
-      takes = λ t h. (omega (arith, eqb-false (t .cap) 0 (h .0)), omega (arith, leb-false (t .size) (t .free) (h .1 .0)));
-    }
-
--- Entries are the listed words themselves.
-pub entries-are : (w : List ℕ) → entries wordList w ≡ w
-entries-are = entries-plain wordList (λ w. refl)
-
--- There is room for as many as there are free places.
-pub room-is : (size place : ℕ) → roomIn wordList size place ≡ size - place
-room-is = room-plain wordList refl
 
 -- The engine is lawful.
 pub lawful : Lawful suspect engine mostRounds

@@ -16,15 +16,16 @@ use Rattle.search.specs.declared.Place.the-variants.{At, Nowhere}
 use Rattle.search.specs.declared.Found.{Found}
 use Rattle.factor.specs.SetUp.{Sound}
 use Rattle.suspects.specs.declared.Halves.{Halves}
-use Rattle.calls.specs.State.{listed, entries, roomIn}
+use Rattle.calls.specs.State.{listed, entries, roomIn, wordList}
 use Rattle.calls.specs.Call.{handed, sweepCall}
 use Rattle.calls.specs.Refusals.{ready}
 use Rattle.calls.specs.Runs.{ahead-found}
+use Rattle.calls.specs.Lists.{entries-are, room-is}
 use Rattle.calls.specs.Loop.{Looping, loop-start, loop-ready, loop-end, loop-rounds, loop-trial}
 use Rattle.sweep.specs.declared.SweepState.{SweepState}
 use Rattle.sweep.specs.declared.Work.{Work}
-use Rattle.sweep.specs.Engine.{wordList, halvesOf, engine}
-use Rattle.sweep.specs.EngineLaws.{sound-of, entries-are, room-is, lawful}
+use Rattle.sweep.specs.Engine.{halvesOf, engine}
+use Rattle.sweep.specs.EngineLaws.{sound-of, lawful}
 use Rattle.sweep.specs.Answers.{viewOf, callOf, termsBy}
 use Rattle.sweep.specs.Steps.{mustStop, begunAt, haltedAt, passedAt, withWord, triedAt, stepAt, aheadOf, stepOf, resultIn, Stepping, Taken}
 use Rattle.sweep.specs.StepLaws.{must-stop, may-go, last-short}
@@ -42,8 +43,8 @@ pub record Working (s : SweepState) (cap : ℕ) (tail₀ : List ℕ) (w : Work) 
   pub long : length tail ≡ length tail₀
 
 -- What is left of the range, and the end.
-abbrev pub ahead-of : SweepState → Work → ℕ
-ahead-of s w = cond (w .going) (suc (suc (s .last) - w .at)) 0
+abbrev pub stepsLeft : SweepState → Work → ℕ
+stepsLeft s w = cond (w .going) (suc (suc (s .last) - w .at)) 0
 
 -- It begins at the next significand.
 pub work-start : {s : SweepState} {cap : ℕ} {tail : List ℕ} {w : Work} → Taken s cap (length tail) → w ≡ begunAt (s .next) → Working s cap tail w tail
@@ -84,7 +85,7 @@ module _ {s : SweepState} {cap : ℕ} {tail₀ : List ℕ} {w : Work} {tail : Li
     pub fits : w .place < next .place → (w .place < length tail) × (next .word < 2 ^ 32)
     pub wrote : w .place < next .place → Working s cap tail₀ next (set tail (w .place) (next .word))
     pub kept : next .place ≤ w .place → Working s cap tail₀ next tail
-    pub less : ahead-of s next < ahead-of s w
+    pub less : stepsLeft s next < stepsLeft s w
 
   -- the call ends
   halts : (p : Place) → found .place ≡ p → (p ≡ Nowhere) ⊎ (w .trials ≡ cap) ⊎ (w .place ≡ length tail₀) → Stepped (haltedAt w (w .rounds + found .rounds) p)

@@ -10,12 +10,12 @@ use borrow.Rule.Slice.PartMut.{putMid, midOf}
 use Rattle.marks.specs.Answers.{none, Outcome, refused, accepted}
 use Rattle.marks.specs.AnswerLaws.{First, pass, end, judged-none}
 use Rattle.factor.specs.declared.Factor.{Factor}
-use Rattle.calls.specs.State.{entries}
+use Rattle.calls.specs.State.{entries, wordList}
 use Rattle.calls.specs.Call.{Result, Reply, conditions, Run, run, runOf, handed, replied, sweepCall}
 use Rattle.calls.specs.Refusals.{ready}
 use Rattle.calls.specs.Lists.{put-tail}
 use Rattle.sweep.specs.declared.SweepState.{SweepState}
-use Rattle.sweep.specs.Engine.{wordList, engine}
+use Rattle.sweep.specs.Engine.{engine}
 use Rattle.sweep.specs.EngineLaws.{lawful}
 use Rattle.sweep.specs.Answers.{viewOf, callOf, termsBy}
 use Rattle.sweep.specs.Steps.{Taken}

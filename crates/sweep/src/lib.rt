@@ -233,11 +233,10 @@ fn must_stop(trials: u64, cap: u64, place: usize, size: usize) -> bool
 fn begun(s: SweepState) -> Work
     ensures { λ r. ⌜ r ≡ begunAt (s .next) ⌝ }
 {
-    let rounds: u64 = 0;
     Work {
         at: s.next,
         trials: 0,
-        rounds,
+        rounds: 0,
         place: 0,
         going: true,
         word: 0,

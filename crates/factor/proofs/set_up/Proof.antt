@@ -1,56 +1,81 @@
 -- `factor::set_up` meets its contract: each refusal under its condition, those before it not holding. Assumes nothing.
 use mathlib.Core.Path.{_≡_, sym, ap, ap₂, _∙_, subst}
 use mathlib.Core.Bool.{true, false, not}
+use mathlib.Core.List.{[], _∷_}
+use Prim.Native.Nat.{ℕ}
 use lib.Dec.{ltb}
 use mir.Syntax.{w32}
 use mir.Val.{toZ, ofZ}
 use borrow.Author.Needs.{needs}
 use borrow.Author.Tests.{lt-ltb, le-ltb, eq-eqb, ne-eqb}
 use Rattle.marks.specs.Answers.{accepted}
-use Rattle.marks.specs.AnswerLaws.{pass, stop, end, refuses, accepts, or-false}
+use Rattle.marks.specs.AnswerLaws.{pass, stop, end, refuses, accepts, only-accepted, only-refused, or-false}
+use Rattle.rounding.specs.Grid.{toEven}
 use Rattle.factor.specs.declared.Description.{Description}
-use Rattle.factor.specs.Precision.{Kept, precisionOut}
+use Rattle.factor.specs.declared.Precision.{Precision}
+use Rattle.factor.specs.Precision.{Kept, precisionOut, precisionSays}
 use Rattle.factor.specs.Whole.{End}
+use Rattle.factor.specs.Parts.{partsAt}
 use Rattle.factor.specs.SetUp.{endOut, scaleOut, sameHigh, sameLow, partsOf, appliedOf, factorOf, setUp}
 use Rattle.factor.specs.SetUpLaws.{kept-in, end-in}
 use Rattle.factor.specs.Stored.{Storable, storable, appliedFrom, applied-from}
 use Rattle.factor.proofs.set_up.Statement.{statement}
 use Rattle.factor.proofs.set_up.Tie as tie
 
-is-out-requires : tie.Need-is-out-requires
-is-out-requires c κs = search needs
+new-requires : tie.Need-new-requires
+new-requires c κs = search needs
+
+enum-known-precision : tie.Need-enum-known-precision
+enum-known-precision c = search needs
+
+enum-told : tie.Need-enum-told
+enum-told c = search needs
 
 returns : tie.Need-returns
 unfolding setUp
-returns c = refuses (stop (sym (c .before .is-out .ensures) ∙ c .if1 .taken)) _
+returns c = refuses (stop (only-refused 11 _ _ (sym (ap precisionSays (c .enum-told .given .1)) ∙ c .before .before .new .ensures))) _
 
 ends-out-requires : tie.Need-ends-out-requires
 ends-out-requires c κs = search needs
 
 -- ---- past the precision
-abbrev described : tie.Else1 → Description
-described c = c .before .before .args .d
+abbrev described : tie.After-known-told → Description
+described c = c .before .before .before .before .args .d
 
-precision-in : (c : tie.Else1) → precisionOut (described c .precision) ≡ false
-precision-in c = sym (c .before .is-out .ensures) ∙ c .if1 .left
+abbrev made : tie.After-known-told → Precision
+made c = c .before .precision .given .0 .0
 
-kept : (c : tie.Else1) → Kept (described c .precision)
+only : (c : tie.After-known-told) → (precisionOut (described c .precision) ≡ false) × (described c .precision ≡ made c .bits)
+only c =
+    let r = only-accepted ((11, precisionOut (described c .precision)) ∷ []) (record { bits = described c .precision }) (made c) (sym (c .before .before .before .new .ensures) ∙ ap precisionSays (c .before .precision .given .1)) in
+    (r .0 .0, ap (λ (p : Precision). p .bits) (r .1))
+
+precision-in : (c : tie.After-known-told) → precisionOut (described c .precision) ≡ false
+precision-in c = only c .0
+
+bits-are : (c : tie.After-known-told) → made c .bits ≡ described c .precision
+bits-are c = sym (only c .1)
+
+kept : (c : tie.After-known-told) → Kept (described c .precision)
 kept c = kept-in (described c .precision) (precision-in c)
+
+kept-made : (c : tie.After-known-told) → Kept (made c .bits)
+kept-made c = subst Kept (only c .1) (kept c)
 
 returns-2 : tie.Need-returns-2
 unfolding setUp
-returns-2 c = refuses (pass (precision-in (c .before .before)) (stop (sym (c .before .ends-out .ensures) ∙ c .if2 .taken))) _
+returns-2 c = refuses (pass (precision-in (c .before .before)) (stop (sym (c .before .ends-out .ensures) ∙ c .if1 .taken))) _
 
 -- ---- past the ends
-module _ (c : tie.Else2) where
-  abbrev first : tie.Else1
+module _ (c : tie.Else1) where
+  abbrev first : tie.After-known-told
   first = c .before .before
 
   abbrev d : Description
   d = described first
 
   ends-in : (c .before .ends-out .result) ≡ false
-  ends-in = c .if2 .left
+  ends-in = c .if1 .left
 
   lower-in : End 62 (d .lower)
   lower-in = end-in 62 (d .lower) (or-false (endOut 62 (d .lower)) (endOut 62 (d .upper)) (sym (c .before .ends-out .ensures) ∙ ends-in) .0)
@@ -62,13 +87,13 @@ returns-3 : tie.Need-returns-3
 unfolding setUp
 returns-3 c =
     let s = c .before .before in
-    refuses (pass (precision-in (first s)) (pass (sym (s .before .ends-out .ensures) ∙ ends-in s) (stop (lt-ltb _ _ (c .if3 .taken))))) _
+    refuses (pass (precision-in (first s)) (pass (sym (s .before .ends-out .ensures) ∙ ends-in s) (stop (lt-ltb _ _ (c .if2 .taken))))) _
 
 scale-out-requires : tie.Need-scale-out-requires
 scale-out-requires c κs = search needs
 
 -- the scale as it is read
-scale-read : (c : tie.Else2) → toZ w32 (ofZ w32 (d c .scale)) ≡ d c .scale
+scale-read : (c : tie.Else1) → toZ w32 (ofZ w32 (d c .scale)) ≡ d c .scale
 scale-read c = search needs
 
 scale-is : (c : tie.After-scale-out) → let s = c .before .before .before .before in c .scale-out .result ≡ scaleOut (d s .scale)
@@ -79,20 +104,20 @@ unfolding setUp
 returns-4 c =
     let o = c .before .before .before in
     let s = o .before .before in
-    refuses (pass (precision-in (first s)) (pass (sym (s .before .ends-out .ensures) ∙ ends-in s) (pass (le-ltb _ _ (o .if3 .left)) (stop (sym (scale-is (c .before)) ∙ c .if4 .taken))))) _
+    refuses (pass (precision-in (first s)) (pass (sym (s .before .ends-out .ensures) ∙ ends-in s) (pass (le-ltb _ _ (o .if2 .left)) (stop (sym (scale-is (c .before)) ∙ c .if3 .taken))))) _
 
 -- ---- past the scale: the parts are worked out
-abbrev ends : tie.Else4 → tie.Else2
+abbrev ends : tie.Else3 → tie.Else1
 ends c = c .before .before .before .before .before
 
 parts-at-requires : tie.Need-parts-at-requires
-parts-at-requires c κs = (kept (first (ends c)), lower-in (ends c))
+parts-at-requires c κs = (kept-made (first (ends c)), lower-in (ends c))
 
 parts-at-requires-2 : tie.Need-parts-at-requires-2
-parts-at-requires-2 c κs = (kept (first (ends (c .before))), upper-in (ends (c .before)))
+parts-at-requires-2 c κs = (kept-made (first (ends (c .before))), upper-in (ends (c .before)))
 
 module _ (c : tie.After-parts-at2) where
-  abbrev past : tie.Else4
+  abbrev past : tie.Else3
   past = c .before .before
 
   abbrev e : Description
@@ -100,17 +125,17 @@ module _ (c : tie.After-parts-at2) where
 
   lower-parts : c .before .parts-at .result ≡ partsOf e (e .lower)
   unfolding partsOf
-  lower-parts = c .before .parts-at .ensures
+  lower-parts = c .before .parts-at .ensures ∙ ap (λ (n : ℕ). partsAt toEven n 62 (e .lower)) (bits-are (first (ends past)))
 
   upper-parts : c .parts-at2 .result ≡ partsOf e (e .upper)
   unfolding partsOf
-  upper-parts = c .parts-at2 .ensures
+  upper-parts = c .parts-at2 .ensures ∙ ap (λ (n : ℕ). partsAt toEven n 62 (e .upper)) (bits-are (first (ends past)))
 
   in-order : ltb (e .upper) (e .lower) ≡ false
-  in-order = le-ltb _ _ (past .before .before .before .if3 .left)
+  in-order = le-ltb _ _ (past .before .before .before .if2 .left)
 
   scale-in : scaleOut (e .scale) ≡ false
-  scale-in = sym (scale-is (past .before)) ∙ past .if4 .left
+  scale-in = sym (scale-is (past .before)) ∙ past .if3 .left
 
   ends-good : (ends past) .before .ends-out .result ≡ false
   ends-good = ends-in (ends past)
@@ -120,14 +145,14 @@ returns-5 : tie.Need-returns-5
 unfolding setUp
 returns-5 c =
     let w = c .before .before .before in
-    let other : not (sameHigh (partsOf (e w) (e w .lower)) (partsOf (e w) (e w .upper))) ≡ true = ap not (ap₂ sameHigh (sym (lower-parts w)) (sym (upper-parts w)) ∙ ne-eqb _ _ (c .if5 .taken)) in
+    let other : not (sameHigh (partsOf (e w) (e w .lower)) (partsOf (e w) (e w .upper))) ≡ true = ap not (ap₂ sameHigh (sym (lower-parts w)) (sym (upper-parts w)) ∙ ne-eqb _ _ (c .if4 .taken)) in
     refuses (pass (precision-in (first (ends (past w)))) (pass (sym (ends (past w) .before .ends-out .ensures) ∙ ends-good w) (pass (in-order w) (pass (scale-in w) (stop other))))) _
 
 same-low-requires : tie.Need-same-low-requires
 same-low-requires c κs = search needs
 
-high-same : (c : tie.Else5) → let w = c .before .before .before in not (sameHigh (partsOf (e w) (e w .lower)) (partsOf (e w) (e w .upper))) ≡ false
-high-same c = let w = c .before .before .before in ap not (ap₂ sameHigh (sym (lower-parts w)) (sym (upper-parts w)) ∙ eq-eqb _ _ (c .if5 .left))
+high-same : (c : tie.Else4) → let w = c .before .before .before in not (sameHigh (partsOf (e w) (e w .lower)) (partsOf (e w) (e w .upper))) ≡ false
+high-same c = let w = c .before .before .before in ap not (ap₂ sameHigh (sym (lower-parts w)) (sym (upper-parts w)) ∙ eq-eqb _ _ (c .if4 .left))
 
 low-is : (c : tie.After-same-low) → let w = c .before .before .before .before in not (c .same-low .result) ≡ not (sameLow (partsOf (e w) (e w .lower)) (partsOf (e w) (e w .upper)))
 low-is c = let w = c .before .before .before .before in ap not (c .same-low .ensures ∙ ap₂ sameLow (lower-parts w) (upper-parts w))
@@ -137,14 +162,15 @@ unfolding setUp
 returns-6 c =
     let l = c .before in
     let w = l .before .before .before .before in
-    refuses (pass (precision-in (first (ends (past w)))) (pass (sym (ends (past w) .before .ends-out .ensures) ∙ ends-good w) (pass (in-order w) (pass (scale-in w) (pass (high-same (l .before)) (stop (sym (low-is l) ∙ c .if6 .taken))))))) _
+    refuses (pass (precision-in (first (ends (past w)))) (pass (sym (ends (past w) .before .ends-out .ensures) ∙ ends-good w) (pass (in-order w) (pass (scale-in w) (pass (high-same (l .before)) (stop (sym (low-is l) ∙ c .if5 .taken))))))) _
 
 stored-parts-requires : tie.Need-stored-parts-requires
 unfolding partsOf
 stored-parts-requires c κs =
     let w = c .before .before .before .before .before .before in
     let s = ends (past w) in
-    (kept (first s), subst (Storable (e w .precision)) (sym (lower-parts w)) (storable (e w .precision) (kept (first s)) (e w .lower) (lower-in s)))
+    let held = subst (Storable (e w .precision)) (sym (lower-parts w)) (storable (e w .precision) (kept (first s)) (e w .lower) (lower-in s)) in
+    (kept-made (first s), subst (λ (n : ℕ). Storable n (w .before .parts-at .result)) (sym (bits-are (first s))) held)
 
 returns-7 : tie.Need-returns-7
 unfolding setUp
@@ -155,16 +181,19 @@ returns-7 c =
     let s = ends (past w) in
     let stored : c .stored-parts .result ≡ appliedOf (e w) =
     c .stored-parts .ensures
+    ∙ ap (λ (n : ℕ). appliedFrom n (toZ w32 (ofZ w32 (e w .scale))) (w .before .parts-at .result)) (bits-are (first s))
     ∙ ap₂ (appliedFrom (e w .precision)) (scale-read s) (lower-parts w)
     ∙ sym (applied-from (e w) (kept (first s)) (lower-in s)) in
-    ap accepted (λ i. record { precision = record { bits = e w .precision }; lower = e w .lower; upper = e w .upper; parts = lower-parts w i; applied = stored i })
-    ∙ accepts (pass (precision-in (first s)) (pass (sym (s .before .ends-out .ensures) ∙ ends-good w) (pass (in-order w) (pass (scale-in w) (pass (high-same (l .before)) (pass (sym (low-is l) ∙ o .if6 .left) end)))))) (factorOf (e w))
+    ap accepted (λ i. record { precision = record { bits = bits-are (first s) i }; lower = e w .lower; upper = e w .upper; parts = lower-parts w i; applied = stored i })
+    ∙ accepts (pass (precision-in (first s)) (pass (sym (s .before .ends-out .ensures) ∙ ends-good w) (pass (in-order w) (pass (scale-in w) (pass (high-same (l .before)) (pass (sym (low-is l) ∙ o .if5 .left) end)))))) (factorOf (e w))
 
 pub set-up-spec : {M : Type 1} → statement M
 set-up-spec =
     tie.close
     (tie.spec
-    is-out-requires
+    new-requires
+    enum-known-precision
+    enum-told
     returns
     ends-out-requires
     returns-2

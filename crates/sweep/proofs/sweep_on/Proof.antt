@@ -6,7 +6,7 @@ use borrow.Author.Needs.{needs}
 use lib.ListN.{length}
 use Rattle.marks.specs.Answers.{accepted}
 use Rattle.calls.specs.Call.{Result}
-use Rattle.sweep.specs.LoopLaws.{Working, ahead-of, work-start, work-sound, work-steps, Stepped, work-stepped}
+use Rattle.sweep.specs.LoopLaws.{Working, stepsLeft, work-start, work-sound, work-steps, Stepped, work-stepped}
 use Rattle.sweep.proofs.sweep_on.Statement.{statement}
 use Rattle.sweep.proofs.sweep_on.Tie as tie
 
@@ -14,7 +14,7 @@ abbrev Inv-loop : tie.InvT-loop
 Inv-loop s cap tail₀ h size w₀ tail w = Working s cap tail₀ w tail
 
 abbrev μ-loop : tie.MeasureT-loop
-μ-loop s cap tail₀ h size w₀ tail w = ahead-of s w
+μ-loop s cap tail₀ h size w₀ tail w = stepsLeft s w
 
 prepare-requires : tie.Need-prepare-requires Inv-loop μ-loop
 prepare-requires c κs = let start = c .before .before in work-sound (start .args .s) (start .args .cap) (length (start .args .tail .now)) (start .pre)
