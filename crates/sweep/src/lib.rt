@@ -9,6 +9,7 @@ use suspects::Sought;
 ghost use mathlib.Core.Path.{_≡_};
 ghost use Prim.Native.Nat.{_+_, _≤_, _<_, _^_, min, max};
 ghost use lib.ListN.{length};
+ghost use Rattle.search.specs.declared.Place.the-variants.{Nowhere};
 ghost use Rattle.factor.specs.Precision.{Kept};
 ghost use Rattle.suspects.specs.Next.{Askable};
 ghost use Rattle.marks.specs.AnswerLaws.{First};
@@ -144,6 +145,16 @@ fn refusal_of(s: SweepState, cap: u64, size: usize, free: usize) -> Verdict
     Verdict::Taken
 }
 
+// None found, after some rounds.
+fn nowhere(rounds: u64) -> Found
+    ensures { λ r. ⌜ r ≡ record { place = Nowhere; rounds = rounds } ⌝ }
+{
+    Found {
+        place: Place::Nowhere,
+        rounds,
+    }
+}
+
 // A place at or past the end is none found; its rounds count.
 fn cut(found: Found, end: u64) -> Found
     ensures { λ r. ⌜ r ≡ cutAt end found ⌝ }
@@ -154,10 +165,7 @@ fn cut(found: Found, end: u64) -> Found
             if x < end {
                 return found;
             }
-            Found {
-                place: Place::Nowhere,
-                rounds: found.rounds,
-            }
+            nowhere(found.rounds)
         }
         Place::Nowhere => found,
     }
@@ -171,10 +179,7 @@ fn sought_before(s: Sought, at: u64, end: u64) -> Found
     if at < end {
         return cut(suspects::next(s, at), end);
     }
-    Found {
-        place: Place::Nowhere,
-        rounds: 0,
-    }
+    nowhere(0)
 }
 
 // The smaller of two numbers.

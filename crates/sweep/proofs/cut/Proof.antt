@@ -1,4 +1,5 @@
 -- `sweep::cut` leaves a place before the end, and none else. Assumes nothing.
+use mathlib.Core.Path.{_∙_}
 use borrow.Author.Needs.{needs}
 use Rattle.sweep.specs.StepLaws.{cut-before, cut-past, cut-none}
 use Rattle.sweep.proofs.cut.Statement.{statement}
@@ -12,16 +13,20 @@ returns c =
     let a = c .before .before .before .before .args in
     cut-before (a .found) (a .end) (c .before .before .place .given .1) (c .if1 .taken)
 
+nowhere-requires : tie.Need-nowhere-requires
+nowhere-requires c κs = search needs
+
 enum-told : tie.Need-enum-told
 enum-told c = search needs
 
 returns-2 : tie.Need-returns-2
 returns-2 c =
-    let a = c .before .before .before .before .args in
-    cut-past (a .found) (a .end) (c .before .before .place .given .1) (c .if1 .left)
+    let past = c .before in
+    let a = past .before .before .before .before .args in
+    c .nowhere .ensures ∙ cut-past (a .found) (a .end) (past .before .before .place .given .1) (past .if1 .left)
 
 returns-3 : tie.Need-returns-3
 returns-3 c = let a = c .before .before .args in cut-none (a .found) (a .end) (c .enum-told .given .1)
 
 pub cut-spec : {M : Type 1} → statement M
-cut-spec = tie.close (tie.spec enum-known-place returns enum-told returns-2 returns-3)
+cut-spec = tie.close (tie.spec enum-known-place returns nowhere-requires enum-told returns-2 returns-3)

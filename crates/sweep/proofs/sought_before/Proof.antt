@@ -19,8 +19,11 @@ returns c =
     let found : c .cut .result ≡ cutAt (a .end) (nextIn (a .s) (a .at)) = c .cut .ensures ∙ ap (cutAt (a .end)) (c .before .next .ensures) in
     rw (lt-ltb (a .at) (a .end) (c .before .before .if1 .taken)) found
 
+nowhere-requires : tie.Need-nowhere-requires
+nowhere-requires c κs = search needs
+
 returns-2 : tie.Need-returns-2
-returns-2 c = let a = c .before .args in rw (le-ltb (a .at) (a .end) (c .if1 .left))
+returns-2 c = let a = c .before .before .args in rw (le-ltb (a .at) (a .end) (c .before .if1 .left)) (c .nowhere .ensures)
 
 pub sought-before-spec : {M : Type 1} → statement M
-sought-before-spec = tie.close (tie.spec next-requires cut-requires returns returns-2)
+sought-before-spec = tie.close (tie.spec next-requires cut-requires returns nowhere-requires returns-2)
