@@ -61,6 +61,7 @@ appliedOf d =
     let n = d .precision in
     record { high = float32 (highPart toEven n (scaleOf n) (d .lower)); low = float32 (lowPart toEven n (scaleOf n) (d .lower)); scale = d .scale }
 
+-- the factor: precision, both ends, the parts, and what a handheld applies
 abbrev pub factorOf : Description → Factor
 factorOf d = record { precision = record { bits = d .precision }; lower = d .lower; upper = d .upper; parts = partsOf d (d .lower); applied = appliedOf d }
 

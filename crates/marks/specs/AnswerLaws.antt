@@ -47,7 +47,7 @@ unfolding answer
 rest-answers k l h a = ap (λ (v : Refusal). unless v a) (pass-all k l h)
 
 -- ---- from the refusal to the tests
--- where there is none, no condition holds, and none of the rest refuses
+-- where there is none, none of the first conditions holds, and none of the rest refuses
 pub judged-none : (k l : List (ℕ × Bool)) → judged (k ++ l) ≡ none → NoneHolds k × (judged l ≡ none)
 unfolding judged
 judged-none [] l q = (tt, q)
@@ -58,6 +58,7 @@ judged-none (t ∷ k) l q = go (t .1) refl q (judged-none k l)
     go true i q ih = let z : _≡_ {A = ℕ} 0 1 = cc in absurd (omega arith)
     go false i q ih = let r = ih q in ((i, r .0), r .1)
 
+-- where there is none, no condition holds
 pub none-holds : (l : List (ℕ × Bool)) → judged l ≡ none → NoneHolds l
 none-holds l q = judged-none l [] (ap judged (append-nil l) ∙ q) .0
 

@@ -1,6 +1,6 @@
 -- Readings that are let through to their product, what they are answered with, and that every product is plus zero or an exact normal number. Assumes nothing.
 use mathlib.Core.Path.{_≡_, refl, sym, ap, _∙_, subst}
-use mathlib.Core.Bool.{Bool, true, false, not, _&&_, true≢false}
+use mathlib.Core.Bool.{Bool, true, false, cond, not, _&&_, true≢false}
 use mathlib.Core.Logic.{_⊎_, inl, inr}
 use mathlib.Core.List.{[], _∷_}
 use Prim.Native.Nat.{ℕ, _+_, _*_, _^_, _≤_, _<_}
@@ -21,7 +21,7 @@ use Rattle.product.specs.declared.Product.{Product}
 use Rattle.product.specs.Product.{productBy}
 use Rattle.product.specs.SoundLaws.{sound-product}
 use Rattle.reading.specs.declared.Taken.{Taken}
-use Rattle.reading.specs.Reading.{signOf, fieldOf, digitsOf, endless, zeroBits, significandOf, unreadable, numberOf, raised, outside, finished, plusZero, conditions, numbered, answered, applied, takenOf}
+use Rattle.reading.specs.Reading.{signOf, fieldOf, digitsOf, endless, zeroBits, significandOf, unreadable, zero, normal, kindOf, numberOf, raised, outside, finished, plusZero, conditions, numbered, answered, applied, takenOf}
 use Rattle.reading.specs.Exponents.{let-through}
 use Rattle.reading.specs.ReadingLaws.{NormalFloat, number-value, number-normal}
 
@@ -66,18 +66,46 @@ module _ (f : Factor) (b : ℕ) (h : NoneHolds (unreadable f b)) where
           (omega arith, omega arith)
 
 -- ---- a reading as it was taken
-module _ (f : Factor) (x : Float) (t : Taken) (is : takenOf t ≡ answer (unreadable f (toBits binary32 x)) (toBits binary32 x)) where
-  pub taken-bits : (b : ℕ) → t ≡ Taken.Bits b → NoneHolds (unreadable f b) × (answered f b (productBy f (significandOf b)) ≡ applied f x)
-  unfolding applied
-  taken-bits b e =
-      let r = only-accepted (unreadable f (toBits binary32 x)) (toBits binary32 x) b (sym is ∙ ap takenOf e) in (
-        subst (λ (b : ℕ). NoneHolds (unreadable f b)) (r .1) (r .0),
-        ap (λ (b : ℕ). answered f b (productBy f (significandOf b))) (sym (r .1)),
-      )
+-- a kind tells whether its reading is a zero, and the bits of a normal one
+kind-zero : (b : ℕ) → kindOf b ≡ zero → zeroBits b ≡ true
+kind-zero b e = go (zeroBits b) e
+  where
+    go : (z : Bool) → cond z zero (normal b) ≡ zero → z ≡ true
+    go true e = refl
+    go false e = let z : _≡_ {A = ℕ} 0 1 = cc in absurd (omega arith)
 
+kind-normal : (b c : ℕ) → kindOf b ≡ normal c → (zeroBits b ≡ false) × (b ≡ c)
+kind-normal b c e = go (zeroBits b) e
+  where
+    go : (z : Bool) → cond z zero (normal b) ≡ normal c → (z ≡ false) × (b ≡ c)
+    go true e = let z : _≡_ {A = ℕ} 0 1 = cc in absurd (omega arith)
+    go false e = (refl, cc)
+
+module _ (f : Factor) (x : Float) (t : Taken) (is : takenOf t ≡ answer (unreadable f (toBits binary32 x)) (kindOf (toBits binary32 x))) where
+  abbrev c : ℕ
+  c = toBits binary32 x
+
+  -- a normal reading is let through, and answered with what becomes of its value
+  pub taken-normal : (b : ℕ) → t ≡ Taken.Normal b → NoneHolds (unreadable f b) × (zeroBits b ≡ false) × (finished f b (productBy f (significandOf b)) ≡ applied f x)
+  unfolding applied
+  taken-normal b e =
+      let r = only-accepted (unreadable f c) (kindOf c) (normal b) (sym is ∙ ap takenOf e) in
+      let k = kind-normal c b (r .1) in
+      let h = subst (λ (b : ℕ). NoneHolds (unreadable f b)) (k .1) (r .0) in
+      let z = subst (λ (b : ℕ). zeroBits b ≡ false) (k .1) (k .0) in
+      (h, z, normal-answered f b h (productBy f (significandOf b)) z ∙ ap (λ (b : ℕ). answered f b (productBy f (significandOf b))) (sym (k .1)))
+
+  -- a zero is answered with plus zero
+  pub taken-zero : t ≡ Taken.Zero → accepted (record { mark = Mark.Right; value = plusZero }) ≡ applied f x
+  unfolding applied
+  taken-zero e =
+      let r = only-accepted (unreadable f c) (kindOf c) zero (sym is ∙ ap takenOf e) in
+      zero-answered f c (r .0) (productBy f (significandOf c)) (kind-zero c (r .1))
+
+  -- and a refusal is the answer's
   pub taken-refused : (k : ℕ) → t ≡ Taken.Refused k → refused k ≡ applied f x
   unfolding applied answered
-  taken-refused k e = refused-first (unreadable f (toBits binary32 x)) _ _ _ k (sym (ap takenOf e) ∙ is)
+  taken-refused k e = refused-first (unreadable f c) _ _ _ k (sym (ap takenOf e) ∙ is)
 
 -- ---- the product of a normal reading b: exactly sign * u2 * 2 ^ (e + k), and a normal number
 pub record Exactly (f : Factor) (b : ℕ) (y : Float) : Type 0 where

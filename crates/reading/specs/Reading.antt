@@ -51,6 +51,14 @@ exponentOf b = minus (fieldOf b) 127
 abbrev pub unreadable : Factor → ℕ → List (ℕ × Bool)
 unreadable f b = (31, not (intact f)) ∷ (20, not (eqb (f .precision .bits) 24)) ∷ (21, endless b) ∷ (22, subnormal b) ∷ []
 
+-- what a reading that is let through is: a zero, or a normal number by its bits
+pub data Kind : Type 0 where
+  zero : Kind
+  normal : ℕ → Kind
+
+abbrev pub kindOf : ℕ → Kind
+kindOf b = cond (zeroBits b) zero (normal b)
+
 -- ---- a value of its significand, whoever made it, as a binary32 number
 -- 23: an exponent outside -126 to 127
 abbrev pub exponentOut : ℤ → Bool
@@ -111,7 +119,8 @@ outcomeOf (ReadingAnswer.Open y) = accepted (record { mark = Mark.Open; value = 
 outcomeOf (ReadingAnswer.Wrong y) = accepted (record { mark = Mark.Wrong; value = y })
 outcomeOf (ReadingAnswer.Refused k) = refused k
 
--- and of a reading that is judged before its product: a refusal its number, or the reading's bits
-abbrev pub takenOf : Taken → Outcome ℕ
-takenOf (Taken.Bits b) = accepted b
+-- and of a reading that is judged before its product: a refusal its number, or its kind
+abbrev pub takenOf : Taken → Outcome Kind
+takenOf Taken.Zero = accepted zero
+takenOf (Taken.Normal b) = accepted (normal b)
 takenOf (Taken.Refused k) = refused k

@@ -15,7 +15,7 @@ ghost use Rattle.factor.specs.Whole.{wholeOf};
 ghost use Rattle.factor.specs.SetUp.{scaleOut, Sound};
 ghost use Rattle.product.specs.Product.{productBy};
 ghost use Rattle.product.specs.Units.{firstUnits};
-ghost use Rattle.reading.specs.Reading.{fieldOf, significandOf, unreadable, finished, applied, outcomeOf, takenOf};
+ghost use Rattle.reading.specs.Reading.{fieldOf, significandOf, unreadable, kindOf, finished, applied, outcomeOf, takenOf};
 ghost use Rattle.reading.specs.Units.{InUnits, unitsOf};
 
 // A binary32 number's bits: the weight of the sign, and that of the exponent's field, which the leading digit has too.
@@ -47,9 +47,10 @@ pub enum ReadingAnswer {
     Refused(u32),
 }
 
-// A reading before its product: its bits, or a refusal: 31, 20, 21 or 22.
+// A reading before its product: a zero, a normal number by its bits, or a refusal: 31, 20, 21 or 22.
 enum Taken {
-    Bits(u32),
+    Zero,
+    Normal(u32),
     Refused(u32),
 }
 
@@ -112,7 +113,7 @@ fn finish(f: Factor, bits: u32, v: Product) -> ReadingAnswer
 
 // What a reading is judged to be before its product: the first of the refusals 31, 20, 21 and 22 whose condition holds, or a zero or a normal number by its bits.
 fn take(f: Factor, reading: f32) -> Taken
-    ensures { λ r. ⌜ takenOf r ≡ answer (unreadable f (toBits binary32 reading)) (toBits binary32 reading) ⌝ }
+    ensures { λ r. ⌜ takenOf r ≡ answer (unreadable f (toBits binary32 reading)) (kindOf (toBits binary32 reading)) ⌝ }
 {
     if !factor::is_intact(f) {
         return Taken::Refused(31);
@@ -132,8 +133,9 @@ fn take(f: Factor, reading: f32) -> Taken
         if bits % LEADING != 0 {
             return Taken::Refused(22);
         }
+        return Taken::Zero;
     }
-    Taken::Bits(bits)
+    Taken::Normal(bits)
 }
 
 // The two steps of a normal reading's significand.
@@ -151,11 +153,7 @@ pub fn read(f: Factor, reading: f32) -> ReadingAnswer
 {
     match take(f, reading) {
         Taken::Refused(number) => ReadingAnswer::Refused(number),
-        Taken::Bits(bits) => {
-            if bits % SIGN == 0 {
-                return ReadingAnswer::Right(f32::from_bits(0));
-            }
-            finish(f, bits, two_steps(f, bits))
-        }
+        Taken::Zero => ReadingAnswer::Right(f32::from_bits(0)),
+        Taken::Normal(bits) => finish(f, bits, two_steps(f, bits)),
     }
 }

@@ -6,10 +6,11 @@ use lib.Dec.{eqb}
 use lib.Ieee.{Float, binary32, toBits}
 use borrow.Author.Needs.{needs}
 use borrow.Author.Tests.{eq-eqb, ne-eqb}
+use Rattle.marks.specs.Answers.{accepted}
 use Rattle.marks.specs.AnswerLaws.{pass, stop, end, refuses, accepts}
 use Rattle.rounding.specs.Binary32.{no-nan, is-nan}
 use Rattle.factor.specs.SetUp.{intact}
-use Rattle.reading.specs.Reading.{fieldOf, digitsOf, endless, subnormal}
+use Rattle.reading.specs.Reading.{fieldOf, digitsOf, endless, subnormal, zero, normal, kindOf}
 use Rattle.reading.specs.AnswerLaws.{nan-endless}
 use Rattle.reading.proofs.take.Statement.{statement}
 use Rattle.reading.proofs.take.Tie as tie
@@ -63,15 +64,20 @@ returns-6 c =
     let z = c .before in
     let n = z .before in
     let e = n .before .before in
-    let is : subnormal (bits n) ≡ false = rw (eq-eqb (fieldOf (bits n)) 0 (z .if5 .taken), eq-eqb (digitsOf (bits n)) 0 (c .if6 .left)) in
-    accepts (pass (through (e .before .before)) (pass (of-24 e) (pass (ne-eqb _ 255 (n .if4 .left)) (pass is end)))) _
+    let none = eq-eqb (fieldOf (bits n)) 0 (z .if5 .taken) in
+    let nil = eq-eqb (digitsOf (bits n)) 0 (c .if6 .left) in
+    let is : subnormal (bits n) ≡ false = rw (none, nil) in
+    let kind : zero ≡ kindOf (bits n) = rw (none, nil) in
+    ap accepted kind ∙ accepts (pass (through (e .before .before)) (pass (of-24 e) (pass (ne-eqb _ 255 (n .if4 .left)) (pass is end)))) _
 
 returns-7 : tie.Need-returns-7
 returns-7 c =
     let n = c .before in
     let e = n .before .before in
-    let is : subnormal (bits n) ≡ false = rw (ne-eqb (fieldOf (bits n)) 0 (c .if5 .left)) in
-    accepts (pass (through (e .before .before)) (pass (of-24 e) (pass (ne-eqb _ 255 (n .if4 .left)) (pass is end)))) _
+    let some = ne-eqb (fieldOf (bits n)) 0 (c .if5 .left) in
+    let is : subnormal (bits n) ≡ false = rw some in
+    let kind : normal (bits n) ≡ kindOf (bits n) = rw some in
+    ap accepted kind ∙ accepts (pass (through (e .before .before)) (pass (of-24 e) (pass (ne-eqb _ 255 (n .if4 .left)) (pass is end)))) _
 
 pub take-spec : {M : Type 1} → statement M
 take-spec =
