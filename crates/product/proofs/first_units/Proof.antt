@@ -37,7 +37,8 @@ returns : tie.Need-returns
 returns c =
     let m = c .before in
     let a = m .before .before in
-    sym (first-none toEven (a .args .n) 62 (a .args .parts) (a .pre .1) (a .args .x) (a .pre .2) (ap (λ (s : ℕ). s * a .args .x) (sym (size-is m)) ∙ c .if1 .taken))
+    let none : m .magnitude .result * a .args .x ≡ 0 = omega (arith, c .if1 .taken) in
+    sym (first-none toEven (a .args .n) 62 (a .args .parts) (a .pre .1) (a .args .x) (a .pre .2) (ap (λ (s : ℕ). s * a .args .x) (sym (size-is m)) ∙ none))
 
 word-digits-requires : tie.Need-word-digits-requires
 word-digits-requires c κs = search needs

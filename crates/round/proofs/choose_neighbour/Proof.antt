@@ -39,7 +39,7 @@ returns-4 : tie.Need-returns-4
 returns-4 c = rw (c .before .before .enum-told3 .given .1, sym (c .before .tie-up .ensures) ∙ c .if1 .left)
 
 returns-5 : tie.Need-returns-5
-returns-5 c = rw (c .enum-told4 .given .1, add-one)
+returns-5 c = rw (c .enum-told4 .given .1) (add-one (c .before .before .args .q))
 
 pub choose-neighbour-spec : {M : Type 1} → statement M
 choose-neighbour-spec =

@@ -1,8 +1,9 @@
 -- `round::normalise` meets its contract: whether the kept digits are the carry. Assumes nothing.
-use mathlib.Core.Path.{sym, _∙_}
+use mathlib.Core.Path.{sym, ap, _∙_}
 use Prim.Native.Nat.{suc, _+_, _^_, _<_}
 use native.Mathlib.Numerals.{add-one}
 use native.Mathlib.Omega.{arith}
+use lib.IntN.{pos}
 use mir.Syntax.{w32}
 use mir.Facts.{toZ-pos}
 use borrow.Author.Needs.{needs}
@@ -33,7 +34,8 @@ returns c =
     let s = c .before .before in
     let a = s .before .args in
     let room : a .dropped + 1 < 2 ^ 31 = omega arith in
-    rw (eq-eqb (a .kept) (2 ^ a .n) (c .before .if1 .taken ∙ s .power .ensures), c .power2 .ensures, toZ-pos w32 room, add-one, minus-zero (suc (a .dropped)))
+    let exponent = toZ-pos w32 room ∙ ap pos (add-one (a .dropped)) ∙ sym (minus-zero (suc (a .dropped))) in
+    rw (eq-eqb (a .kept) (2 ^ a .n) (c .before .if1 .taken ∙ s .power .ensures)) (λ i. record { significand = c .power2 .ensures i; exponent = exponent i; location = a .l })
 
 cast-t11 : tie.Need-cast-t11
 cast-t11 c = search needs
