@@ -67,7 +67,7 @@ short : applied (factorOf (at 23 (pos 0) (3 * 2 ^ 61))) (inf false) ≡ refused 
 unfolding partsOf appliedOf applied answer judged Ieee.toBits
 short = refl
 
--- C = 3/2 + 2 ^ -62 and x = 11184814 / 2 ^ 23: Ch * x lies half way between two numbers, and u1, 86 bits below, decides. In binary64 it would be lost, and the tie go down to 8388610
+-- C = 3/2 + 2 ^ -62 and x = 11184814 / 2 ^ 23: Ch * x lies half way between two numbers, and u1, 63 places below its leading digit, decides. In binary64 it would be lost, and the tie go down to 8388610
 fused-once : applied (factorOf (at 24 (pos 0) (3 * 2 ^ 61 + 1))) (fin false 5592407 (negsuc 21)) ≡ right (fin false 8388611 (negsuc 21))
 unfolding partsOf appliedOf applied answer judged Ieee.toBits
 fused-once = refl

@@ -4,8 +4,9 @@ use mathlib.Core.Path.{_≡_, refl, sym, ap, ap₂, _∙_, subst}
 use mathlib.Core.List.{List, [], _∷_}
 use Prim.Native.Nat.{ℕ}
 use Rattle.factor.specs.declared.Factor.{Factor}
-use Rattle.calls.specs.State.{State, Call}
-use Rattle.calls.specs.Call.{newState, Reply, sweepCall}
+use Rattle.marks.specs.Answers.{Refusal, number, none, judged}
+use Rattle.calls.specs.State.{State, Call, termsOf, wordList}
+use Rattle.calls.specs.Call.{newState, Reply, conditions, replied, runOf, sweepCall}
 use Rattle.calls.specs.ByRow.{rowCall}
 use Rattle.calls.specs.Plain.{untried}
 use Rattle.calls.specs.Whole.{sweeps, wordsIn, endOf, Holds, fedBy, plainEnd, Whole}
@@ -17,7 +18,7 @@ use Rattle.sweep.specs.declared.NewSweep.{NewSweep}
 use Rattle.sweep.specs.declared.SweepAnswer.{SweepAnswer}
 use Rattle.sweep.specs.Engine.{suspect, mostRounds, engine}
 use Rattle.sweep.specs.EngineLaws.{lawful}
-use Rattle.sweep.specs.Answers.{viewOf, newOf, replyOf}
+use Rattle.sweep.specs.Answers.{viewOf, newOf, callOf, replyOf}
 
 -- One call, on every state, also one that no calls lead to: what the searches make of it is what is read off the row of suspects, answer, state, list and
 -- counts. Its rounds are so given a second time, as a sum over the starts of its searches.
@@ -26,13 +27,13 @@ call-by-row = by-row lawful
 
 -- ---- functions that keep the contracts
 
--- the answer to a call, and the list that it leaves
+-- the answer to a cap, a list and its first free place, at a state, and the list that it leaves
 abbrev pub Sweeper : Type 0
-Sweeper = SweepState → Call → SweepAnswer × List ℕ
+Sweeper = SweepState → (cap : ℕ) → List ℕ → (free : ℕ) → SweepAnswer × List ℕ
 
 -- the contract of `sweep_call`
 abbrev pub Sweeps : Sweeper → Type 0
-Sweeps call = (s : SweepState) (c : Call) → replyOf (call s c .0) (call s c .1) ≡ sweepCall engine (viewOf s) c
+Sweeps call = (s : SweepState) (cap : ℕ) (list : List ℕ) (free : ℕ) → replyOf (call s cap list free .0) (call s cap list free .1) ≡ sweepCall engine (viewOf s) (callOf cap list free)
 
 -- the contract of `new_state`
 abbrev pub Begins : (Factor → ℕ → ℕ → NewSweep) → Type 0
@@ -44,7 +45,16 @@ held s = record { factor = s .factor; first = s .first; last = s .last; next = s
 
 -- a function's calls: "Each call is given the state that the one before returned"
 abbrev pub callsBy : Sweeper → State Factor → Call → Reply Factor
-callsBy call s c = replyOf (call (held s) c .0) (call (held s) c .1)
+callsBy call s c = replyOf (call (held s) (c .cap) (c .list) (c .free) .0) (call (held s) (c .cap) (c .list) (c .free) .1)
+
+-- document 01's lists ask nothing of the width of their words
+any-width : (s : State Factor) (c : Call) → sweepCall engine s (callOf (c .cap) (c .list) (c .free)) ≡ sweepCall engine s c
+unfolding sweepCall
+any-width s c = go (judged (conditions engine s (termsOf c)))
+  where
+    go : (v : Refusal) → replied wordList s (callOf (c .cap) (c .list) (c .free)) v (runOf engine s c) ≡ replied wordList s c v (runOf engine s c)
+    go (number n) = refl
+    go none = refl
 
 -- ---- demand 3
 
@@ -52,7 +62,7 @@ pub demand-3 : (new : Factor → ℕ → ℕ → NewSweep) → Begins new → (c
     → (f : Factor) (first last : ℕ) (s : SweepState) → new f first last ≡ NewSweep.Accepted s
     → (calls : List Call) → Whole suspect engine mostRounds (callsBy call) (viewOf s) calls
 demand-3 new begins call sweeps f first last s q calls =
-    subst (λ (by : State Factor → Call → Reply Factor). Whole suspect engine mostRounds by (viewOf s) calls) (λ i z c. sym (sweeps (held z) c) i)
+    subst (λ (by : State Factor → Call → Reply Factor). Whole suspect engine mostRounds by (viewOf s) calls) (λ i z c. sym (sweeps (held z) (c .cap) (c .list) (c .free) ∙ any-width z c) i)
     (whole-sweep lawful f first last (viewOf s) (sym (begins f first last) ∙ ap newOf q) calls)
 
 -- Entries are the listed words, so that the joined words themselves hold exactly the significands that are not right, once each, ascending, with their marks.
