@@ -51,12 +51,11 @@ module _ (rule : Rule) (n E : ℕ) (P : 0 < n) (L U X : ℕ) (v : Product) where
   mark-counts : (T i j m : ℕ) → Counts T false i (exact rule n X (over L E)) → Counts T false j (exact rule n X (over U E)) → Counts T false m (valueOf n v) → mark rule n E L U X v ≡ markUnits i j m
   unfolding mark
   mark-counts T i j m p q r =
-      rw (
-        below-counts T m i (valueOf n v) (exact rule n X (over L E)) r p,
-        below-counts T j m (exact rule n X (over U E)) (valueOf n v) q r,
-        equal-counts T i m (exact rule n X (over L E)) (valueOf n v) p r,
-        equal-counts T j m (exact rule n X (over U E)) (valueOf n v) q r,
-      )
+      let wrong-below = below-counts T m i (valueOf n v) (exact rule n X (over L E)) r p in
+      let wrong-above = below-counts T j m (exact rule n X (over U E)) (valueOf n v) q r in
+      let at-lower = equal-counts T i m (exact rule n X (over L E)) (valueOf n v) p r in
+      let at-upper = equal-counts T j m (exact rule n X (over U E)) (valueOf n v) q r in
+      λ k. cond (wrong-below k) Wrong (cond (wrong-above k) Wrong (cond (at-lower k && at-upper k) Right Open))
 
   pub mark-units : mark rule n E L U X v ≡ markUnits a b N
   mark-units = mark-counts (2 ^ t) a b N (end-counts L) (end-counts U) (value-counts n E v)
