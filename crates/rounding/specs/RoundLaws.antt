@@ -3,7 +3,7 @@ use mathlib.Core.Path.{_≡_, refl, sym, ap, _∙_, subst}
 use mathlib.Core.Bool.{Bool, true, false, cond}
 use Prim.Native.Nat.{ℕ, zero, suc, _+_, _-_, _*_, _%_, _^_, _≤_, _<_}
 use native.Mathlib.Decide.{decLe}
-use native.Mathlib.Nat.{le-of-mul-le-mul-right, lt-of-mul-lt-mul-right, mul-pos, mul-le-mul-left, add-comm, mul-le-mul-right, mul-lt-mul-of-pos-right, le-of-eq, le-of-lt, lt-of-not-le, pow-succ', eq-of-mul-eq-mul-right}
+use native.Mathlib.Nat.{zero-add, le-of-mul-le-mul-right, lt-of-mul-lt-mul-right, mul-pos, mul-le-mul-left, add-comm, mul-le-mul-right, mul-lt-mul-of-pos-right, le-of-eq, le-of-lt, lt-of-not-le, pow-succ', eq-of-mul-eq-mul-right}
 use native.Mathlib.Omega.{arith}
 use lib.Dec.{eqb}
 use lib.Pow.{pow-add, pow-pos}
@@ -56,6 +56,9 @@ minus-le a b h = rw (le-leb b a h)
 
 pub minus-zero : (a : ℕ) → minus a 0 ≡ pos a
 minus-zero a = minus-le a 0 (omega arith) ∙ ap pos (omega arith)
+
+pub minus-back : (a j : ℕ) → minus a j +ℤ pos j ≡ pos a
+minus-back a j = ap (λ (z : ℕ). minus a z +ℤ pos j) (sym (zero-add j)) ∙ minus-shift a 0 j ∙ minus-zero a
 
 pub zero-minus : (a : ℕ) → minus 0 a ≡ negℤ (pos a)
 zero-minus zero = minus-zero 0

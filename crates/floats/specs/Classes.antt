@@ -1,0 +1,90 @@
+-- What the fields of a pattern say of its value: every number of a format is infinite or NaN, zero, subnormal, or sign * significand / 2 ^ (prec - 1) * 2 ^ exponent. Assumes nothing.
+use mathlib.Core.Path.{_≡_, refl, sym, ap, ap₂, _∙_, subst}
+use mathlib.Core.Bool.{Bool, true, false, not, _&&_, cond, true≢false}
+use mathlib.Core.Logic.{_⊎_, inl, inr}
+use Prim.Native.Nat.{ℕ, suc, _+_, _-_, _*_, _%_, _^_, _≤_, _<_}
+use native.Mathlib.Nat.{mul-one, mul-comm, mul-pos, zero-add, zero-lt-suc, mod-lt, div-lt-iff-lt-mul}
+use native.Mathlib.Omega.{arith}
+use lib.Dec.{T, eqb}
+use lib.IntN.{ℤ, pos, _+ℤ_}
+use lib.Pow.{pow-pos}
+use lib.Ieee.{Float, nan, inf, Format, prec, emax, low, hid, ones, top, minus, up, down, odd, ofFields, ofBits, toBits, fits}
+use lib.Ieee.Bits.{is-true, is-false, ofBits-toBits}
+use lib.Ieee.Fits.{two, reach, and-l, and-r}
+use lib.Ieee.Exact.{HasValue, odd-sign}
+use borrow.Author.Tests.{eq-eqb, eqb-true, eqb-false}
+use Rattle.rounding.specs.RoundLaws.{minus-add, minus-back}
+use Rattle.rounding.specs.Ieee.{revalue}
+use Rattle.floats.specs.Fields.{signOf, fieldOf, digitsOf, endless, zeroBits, subnormal, Normal, significandOf, exponentOf}
+use Rattle.floats.specs.Powers.{in-smallest}
+use Rattle.floats.specs.Pattern.{fields-value}
+
+module _ (f : Format) (x : Float) (h : T (fits f x)) where
+  abbrev b : ℕ
+  b = toBits f x
+
+  same : ofBits f b ≡ x
+  same = ofBits-toBits f x h
+
+  fields : (F : ℕ) → fieldOf f b ≡ F → x ≡ ofFields f (signOf f b) F (digitsOf f b)
+  unfolding ofBits
+  fields F e = sym same ∙ ap (λ (z : ℕ). ofFields f (signOf f b) z (digitsOf f b)) e
+
+  pub endless-is : endless f b ≡ true → (x ≡ nan) ⊎ (x ≡ inf (signOf f b))
+  unfolding ofFields
+  endless-is e =
+      let last : suc (2 * emax f) ≡ ones f = omega arith in
+      go (eqb (digitsOf f b) 0) (fields (suc (2 * emax f)) (eqb-true (fieldOf f b) (ones f) e ∙ sym last) ∙ rw (eq-eqb (suc (2 * emax f)) (ones f) last))
+    where
+      go : (z : Bool) → x ≡ cond z (inf (signOf f b)) nan → (x ≡ nan) ⊎ (x ≡ inf (signOf f b))
+      go true p = inr p
+      go false p = inl p
+
+  -- no leading digit
+  small-value : fieldOf f b ≡ 0 → HasValue x (signOf f b) (digitsOf f b) (2 ^ low f)
+  unfolding ofFields
+  small-value e =
+      subst (λ (z : Float). HasValue z (signOf f b) (digitsOf f b) (2 ^ low f)) (sym (fields 0 e))
+      (subst (λ (z : ℕ). HasValue (odd (prec f) (signOf f b) (digitsOf f b) 0 (low f)) (signOf f b) z (2 ^ low f)) (mul-one (digitsOf f b)) (odd-sign (prec f) (signOf f b) (digitsOf f b) 0 (low f)))
+
+  pub zero-value : zeroBits f b ≡ true → HasValue x (signOf f b) 0 (2 ^ low f)
+  zero-value e =
+      let t : T (zeroBits f b) = rw e tt in
+      let field = is-true (eqb (fieldOf f b) 0) (and-l (eqb (fieldOf f b) 0) (eqb (digitsOf f b) 0) t) in
+      let none = is-true (eqb (digitsOf f b) 0) (and-r (eqb (fieldOf f b) 0) (eqb (digitsOf f b) 0) t) in
+      subst (λ (z : ℕ). HasValue x (signOf f b) z (2 ^ low f)) (eqb-true (digitsOf f b) 0 none) (small-value (eqb-true (fieldOf f b) 0 field))
+
+  -- subnormal: not zero, and below the least normal number
+  pub subnormal-value : subnormal f b ≡ true → HasValue x (signOf f b) (digitsOf f b) (2 ^ low f) × (0 < digitsOf f b) × (digitsOf f b < hid f)
+  subnormal-value e =
+      let t : T (subnormal f b) = rw e tt in
+      let field = is-true (eqb (fieldOf f b) 0) (and-l (eqb (fieldOf f b) 0) (not (eqb (digitsOf f b) 0)) t) in
+      let some = eqb-false (digitsOf f b) 0 (is-false (eqb (digitsOf f b) 0) (and-r (eqb (fieldOf f b) 0) (not (eqb (digitsOf f b) 0)) t)) in
+      (small-value (eqb-true (fieldOf f b) 0 field), omega (arith, some), mod-lt b (pow-pos (prec f - 1)))
+
+  -- all others are normal
+  pub normal-value : Normal f b → HasValue x (signOf f b) (significandOf f b * up (exponentOf f b)) (hid f * down (exponentOf f b))
+  normal-value n =
+      let k = fieldOf f b - 1 in
+      let is : fieldOf f b ≡ suc k = omega (arith, n .from) in
+      let v : HasValue x (signOf f b) (significandOf f b * 2 ^ k) (2 ^ low f) = subst (λ (z : Float). HasValue z (signOf f b) (significandOf f b * 2 ^ k) (2 ^ low f)) same (fields-value f b (signOf f b) k (digitsOf f b) refl is refl (omega (arith, n .from, n .to))) in
+      let E = emax f - 1 in
+      let field : fieldOf f b ≡ k + 1 = omega (arith, n .from) in
+      let bias : emax f ≡ E + 1 = omega (arith, reach f, two f) in
+      let at : exponentOf f b +ℤ pos E ≡ pos k = ap₂ (λ (y z : ℕ). minus y z +ℤ pos E) field bias ∙ ap (λ (z : ℤ). z +ℤ pos E) (minus-add k E 1) ∙ minus-back k E in
+      let same : significandOf f b * up (exponentOf f b) * 2 ^ low f ≡ significandOf f b * 2 ^ k * (hid f * down (exponentOf f b)) =
+      ap (λ (z : ℕ). z * up (exponentOf f b) * 2 ^ low f) (sym (mul-one (significandOf f b))) ∙ in-smallest f (significandOf f b) 0 (exponentOf f b) k (ap (λ (z : ℕ). exponentOf f b +ℤ pos z) (zero-add E) ∙ at) in
+      revalue x (signOf f b) (significandOf f b * 2 ^ k) (2 ^ low f) (significandOf f b * up (exponentOf f b)) (hid f * down (exponentOf f b)) (pow-pos (low f)) (sym same) v
+
+-- every pattern is of one of the classes
+pub normal-others : (f : Format) (b : ℕ) → endless f b ≡ false → zeroBits f b ≡ false → subnormal f b ≡ false → Normal f b
+normal-others f b n z s =
+    let H : 0 < hid f = pow-pos (prec f - 1) in
+    let hi : fieldOf f b < suc (ones f) = div-lt-iff-lt-mul H .1 (subst (λ (z : ℕ). b % top f < z) (mul-comm (hid f) (suc (ones f))) (mod-lt b (mul-pos H (zero-lt-suc (ones f))))) in
+    let not-ones = eqb-false (fieldOf f b) (ones f) n in
+    record { from = go (eqb (fieldOf f b) 0) (eqb (digitsOf f b) 0) refl z s; to = omega arith }
+  where
+    go : (p q : Bool) → eqb (fieldOf f b) 0 ≡ p → p && q ≡ false → p && not q ≡ false → 1 ≤ fieldOf f b
+    go true true e u w = absurd (true≢false u)
+    go true false e u w = absurd (true≢false w)
+    go false q e u w = let not-zero = eqb-false (fieldOf f b) 0 e in omega arith

@@ -1,0 +1,79 @@
+-- A format's floats by their bit patterns: sign, exponent's field and digits, the classes that they tell, and the float of a sign, an exponent and a significand. Definitions only. Assumes nothing.
+use mathlib.Core.Bool.{Bool, true, false, not, _&&_, cond}
+use Prim.Native.Nat.{ℕ, suc, _+_, _-_, _*_, _/_, _%_, _^_, _≤_, _<_}
+use lib.Dec.{eqb, leb}
+use lib.IntN.{ℤ}
+use lib.Ieee
+use lib.Ieee.{Float, Format, prec, emax, low, hid, ones, top, minus, toBits}
+
+-- ---- the fields of a pattern b: the sign, the exponent's field, and the digits below the leading one
+abbrev pub signOf : Format → ℕ → Bool
+signOf f b = leb (top f) b
+
+abbrev pub fieldOf : Format → ℕ → ℕ
+fieldOf f b = b % top f / hid f
+
+abbrev pub digitsOf : Format → ℕ → ℕ
+digitsOf f b = b % hid f
+
+-- the pattern of a sign above the other bits
+abbrev pub signAbove : Format → Bool → ℕ → ℕ
+signAbove f true b = top f + b
+signAbove f false b = b
+
+-- floats are compared bit for bit
+abbrev pub sameFloat : Format → Float → Float → Bool
+sameFloat f x y = eqb (toBits f x) (toBits f y)
+
+-- ---- the classes
+-- infinite or NaN
+abbrev pub endless : Format → ℕ → Bool
+endless f b = eqb (fieldOf f b) (ones f)
+
+-- zero, of either sign
+abbrev pub zeroBits : Format → ℕ → Bool
+zeroBits f b = eqb (fieldOf f b) 0 && eqb (digitsOf f b) 0
+
+-- subnormal, zero not being one
+abbrev pub subnormal : Format → ℕ → Bool
+subnormal f b = eqb (fieldOf f b) 0 && not (eqb (digitsOf f b) 0)
+
+-- normal: none of these
+pub record Normal (f : Format) (b : ℕ) : Type 0 where
+  pub from : 1 ≤ fieldOf f b
+  pub to : fieldOf f b < ones f
+
+-- a normal number is significand / hid * 2 ^ exponent, with the sign: the significand is that of x in [1, 2)
+abbrev pub significandOf : Format → ℕ → ℕ
+significandOf f b = hid f + digitsOf f b
+
+abbrev pub exponentOf : Format → ℕ → ℤ
+exponentOf f b = minus (fieldOf f b) (emax f)
+
+-- ---- the float of a sign, an exponent k and a significand m: m * 2 ^ k of the format's smallest values
+abbrev pub floatOf : Format → Bool → (k m : ℕ) → Float
+floatOf f s k m = Ieee.round f s (m * 2 ^ k) (2 ^ low f)
+
+-- m has all digits of the format, or is the power of two above them, and the field of infinities is not reached
+pub record Normalized (f : Format) (k m : ℕ) : Type 0 where
+  pub least : hid f ≤ m
+  pub most : m ≤ 2 ^ prec f
+  pub few : k * hid f + m < ones f * hid f
+
+-- ---- m / 2 ^ q as a float, m having n digits or being 2 ^ n, which are no more than the format has
+pub record Narrow (f : Format) (n m q : ℕ) : Type 0 where
+  pub some : 0 < n
+  pub short : n ≤ prec f
+  pub least : 2 ^ (n - 1) ≤ m
+  pub most : m ≤ 2 ^ n
+  pub deep : n ≤ suc q
+  pub shallow : q ≤ emax f + n - 2
+
+-- ---- the size as a whole number of 2 ^ d of the format's smallest values: of zero, or of a number that is whole in this unit
+abbrev pub unitsOf : Format → (d b : ℕ) → ℕ
+unitsOf f d b = cond (eqb (b % top f) 0) 0 (significandOf f b * 2 ^ (fieldOf f b - suc d))
+
+-- it is one of these, and below 2 ^ w
+pub record InUnits (f : Format) (w d b : ℕ) : Type 0 where
+  pub from : 0 < b % top f → suc d ≤ fieldOf f b
+  pub to : fieldOf f b + prec f ≤ suc (w + d)

@@ -1,0 +1,8 @@
+-- Floats over a format, by their bit patterns and by their values.
+pub mod Fields
+pub mod Powers
+pub mod Numbers
+pub mod Pattern
+pub mod Narrow
+pub mod Times
+pub mod Classes

@@ -1,0 +1,47 @@
+-- Which floats are numbers, and which one is not. Assumes nothing.
+use mathlib.Core.Path.{_≡_, refl, sym, ap, _∙_, subst}
+use mathlib.Core.Bool.{Bool, true, false, not, true≢false}
+use Prim.Native.Nat.{ℕ, _*_, _%_, _≤_, _<_}
+use lib.Dec.{T}
+use lib.Ieee.{Float, nan, inf, fin, Format, ofBits, toBits, isNan, nanBits, fits, ne, hid, ones, top}
+use lib.Ieee.Compare.{differs-from-itself, nan-differs}
+use lib.Ieee.Bits.{ofBits-toBits, nanBits-is, nanBits-above}
+use lib.Ieee.Exact.{HasValue}
+use lib.Ieee.Fits.{nan-fits}
+use borrow.Author.Tests.{lt-ltb, le-ltb}
+
+pub no-nan : (x : Float) → ne x x ≡ false → T (not (isNan x))
+unfolding isNan
+no-nan nan h = absurd (true≢false (sym nan-differs ∙ h))
+no-nan (inf s) h = tt
+no-nan (fin s m e) h = tt
+
+pub is-nan : (x : Float) → ne x x ≡ true → x ≡ nan
+is-nan x h = differs-from-itself x (rw h tt)
+
+-- no number has the bits that stand for `nan`
+pub nan-bits : (f : Format) (y : Float) → T (fits f y) → T (not (isNan y)) → ¬ (toBits f nan ≡ toBits f y)
+unfolding isNan
+nan-bits f y h n e =
+    let same : nan ≡ y = sym (ofBits-toBits f nan (nan-fits f)) ∙ ap (ofBits f) e ∙ ofBits-toBits f y h in
+    subst (λ (z : Float). T (not (isNan z))) (sym same) n
+
+-- what has a value is a number
+pub value-number : (x : Float) (s : Bool) (a c : ℕ) → HasValue x s a c → T (not (isNan x))
+unfolding isNan
+value-number nan s a c v = absurd v
+value-number (inf t) s a c v = tt
+value-number (fin t m e) s a c v = tt
+
+-- ---- the patterns of a NaN: above the infinities', the sign left out
+named-nan : (x : Float) → isNan x ≡ true → x ≡ nan
+unfolding isNan
+named-nan nan h = refl
+named-nan (inf s) h = search
+named-nan (fin s m e) h = search
+
+pub nan-pattern : (f : Format) (b : ℕ) → ones f * hid f < b % top f → ofBits f b ≡ nan
+nan-pattern f b h = named-nan (ofBits f b) (sym (nanBits-is f b) ∙ nanBits-above f b ∙ lt-ltb (ones f * hid f) (b % top f) h)
+
+pub number-pattern : (f : Format) (b : ℕ) → b % top f ≤ ones f * hid f → T (not (nanBits f b))
+number-pattern f b h = rw (nanBits-above f b, le-ltb (ones f * hid f) (b % top f) h) tt

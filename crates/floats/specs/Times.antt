@@ -1,0 +1,188 @@
+-- A product of two floats is the exact product, rounded. In a unit in which it is whole that is RN in whole numbers, and its bits tell it. Assumes nothing.
+use mathlib.Core.Path.{_≡_, refl, sym, ap, ap₂, _∙_, subst}
+use mathlib.Core.Bool.{Bool, true, false, cond}
+use mathlib.Core.Logic.{_⊎_, inl, inr}
+use Prim.Native.Nat.{ℕ, zero, suc, _+_, _-_, _*_, _%_, _^_, _≤_, _<_}
+use native.Mathlib.Nat.{mul-pos, mul-le-mul, mul-le-mul-right, mul-lt-mul-of-pos-right, mul-mul-mul-comm, eq-of-mul-eq-mul-right, le-trans, le-of-eq, pow-succ', lt-of-not-le, lt-of-lt-of-le, le-of-suc-le-suc, mod-lt}
+use native.Mathlib.Omega.{arith}
+use lib.Dec.{eqb, lit<}
+use lib.Pow.{pow-add, pow-pos, pow-mono, shl-lt, shl-exact}
+use lib.Ieee
+use lib.Ieee.{Float, nan, inf, fin, Format, prec, emax, low, hid, ones, top, up, down, unlike, mul, odd, ofFields, ofBits}
+use lib.Ieee.Exact.{HasValue, odd-sign}
+use lib.Ieee.Fits.{down-pos}
+use lib.Ieee.Scale.{grid, overflow, round-same}
+use borrow.Author.Tests.{eq-eqb, ne-eqb}
+use Rattle.rounding.specs.Grid.{toEven}
+use Rattle.rounding.specs.Unit.{rn}
+use Rattle.rounding.specs.UnitLaws.{rn-same, rn-scale-whole, rn-ge, rn-whole-small}
+use Rattle.rounding.specs.Ieee.{round-value, rn-grid}
+use Rattle.floats.specs.Fields.{signOf, fieldOf, digitsOf, significandOf, unitsOf, InUnits}
+use Rattle.floats.specs.Pattern.{digits-some, two-hid, bits-split}
+
+-- ---- a product of two values is its exact value, rounded
+mul-value : (f : Format) (x y : Float) (s t : Bool) (a c b d : ℕ) → 0 < c → 0 < d → HasValue x s a c → HasValue y t b d → mul f x y ≡ Ieee.round f (unlike s t) (a * b) (c * d)
+unfolding mul
+mul-value f nan y s t a c b d C D h k = absurd h
+mul-value f (inf u) y s t a c b d C D h k = absurd h
+mul-value f (fin u m e) nan s t a c b d C D h k = absurd k
+mul-value f (fin u m e) (inf v) s t a c b d C D h k = absurd k
+mul-value f (fin u m e) (fin v n g) s t a c b d C D h k =
+    ap₂ (λ (p q : Bool). Ieee.round f (unlike p q) (m * up e * (n * up g)) (down e * down g)) (h .0) (k .0)
+    ∙ round-same f (unlike s t) (m * up e * (n * up g)) (down e * down g) (a * b) (c * d) (mul-pos (down-pos e) (down-pos g)) (mul-pos C D)
+    (mul-mul-mul-comm (m * up e) (n * up g) c d ∙ ap₂ (λ (p q : ℕ). p * q) (h .1) (k .1) ∙ mul-mul-mul-comm a (down e) b (down g))
+
+-- a value is one number
+one-value : (x : Float) (s t : Bool) (a b c : ℕ) → HasValue x s a c → HasValue x t b c → a ≡ b
+one-value nan s t a b c h k = absurd h
+one-value (inf u) s t a b c h k = absurd h
+one-value (fin u m e) s t a b c h k = eq-of-mul-eq-mul-right (down e) (down-pos e) a b (sym (h .1) ∙ k .1)
+
+pub unlike-plus : (s : Bool) → unlike s false ≡ s
+unlike-plus true = refl
+unlike-plus false = refl
+
+-- ---- m / 2 ^ q times X / hid, in the unit 2 ^ - (E + prec - 1), which is 2 ^ d of the format's smallest values: m / 2 ^ q is l / 2 ^ E
+module _ (f : Format) (E d : ℕ) (unit : E + (prec f - 1) + d ≡ low f) (m q l X : ℕ) (same : m * 2 ^ E ≡ l * 2 ^ q) where
+  abbrev u : ℕ
+  u = rn toEven (prec f) (l * X) 1
+
+  P : 0 < prec f
+  P = digits-some f
+
+  -- RN in the format's own unit
+  on-grid : grid f (m * X) (2 ^ q * hid f) ≡ u * 2 ^ d
+  on-grid =
+      let c = 2 ^ q * hid f in
+      let C : 0 < c = mul-pos (pow-pos q) (pow-pos (prec f - 1)) in
+      let t : 2 ^ low f ≡ 2 ^ E * hid f * 2 ^ d = ap (λ (z : ℕ). 2 ^ z) (sym unit) ∙ pow-add 2 (E + (prec f - 1)) d ∙ ap (λ (z : ℕ). z * 2 ^ d) (pow-add 2 E (prec f - 1)) in
+      sym (rn-grid f (m * X) c C)
+      ∙ rn-same toEven (prec f) P (m * X * 2 ^ low f) c (l * X * 2 ^ d) 1 C (lit< tt) (regroup m X (2 ^ E) l (2 ^ q) (2 ^ d) (hid f) (2 ^ low f) t same)
+      ∙ rn-scale-whole toEven (prec f) P (l * X) d
+    where
+      regroup : (m X E l Q B D T : ℕ) → T ≡ E * D * B → m * E ≡ l * Q → m * X * T * 1 ≡ l * X * B * (Q * D)
+      regroup m X E l Q B D T t e =
+          let x : m * X * T ≡ m * X * (E * D * B) = ap (λ (z : ℕ). m * X * z) t in
+          let y : m * E * (X * D * B) ≡ l * Q * (X * D * B) = ap (λ (z : ℕ). z * (X * D * B)) e in
+          omega (arith, x, y)
+
+  -- one multiplication is u of the unit
+  pub product-value : u < 2 ^ E → (x y : Float) (s : Bool) → HasValue x s m (2 ^ q) → HasValue y false X (hid f) → HasValue (mul f x y) s (u * 2 ^ d) (2 ^ low f)
+  product-value small x y s vx vy =
+      let e = mul-value f x y s false m (2 ^ q) X (hid f) (pow-pos q) (pow-pos (prec f - 1)) vx vy ∙ ap (λ (z : Bool). Ieee.round f z (m * X) (2 ^ q * hid f)) (unlike-plus s) in
+      let g = on-grid in
+      let under : u * 2 ^ d < overflow f = lt-of-lt-of-le (shl-lt E d small) (pow-mono {i = E + d} {j = low f + suc (emax f)} (omega (arith, unit))) in
+      subst (λ (z : Float). HasValue z s (u * 2 ^ d) (2 ^ low f)) (sym e)
+      (subst (λ (z : ℕ). HasValue (Ieee.round f s (m * X) (2 ^ q * hid f)) s z (2 ^ low f)) g (round-value f s (m * X) (2 ^ q * hid f) (subst (λ (z : ℕ). z < overflow f) (sym g) under)))
+
+  -- it is zero, or at least 2 ^ - E
+  pub product-least : hid f ≤ X → (u ≡ 0) ⊎ (hid f ≤ u)
+  product-least h = go l refl
+    where
+      nothing : (X : ℕ) → 0 * X ≡ 0
+      nothing X = omega arith
+
+      at-least : (H k X : ℕ) → H ≤ X → H * 2 ^ 0 * 1 ≤ suc k * X
+      at-least H k X h = let one : 1 ≤ suc k = omega arith in omega (arith, mul-le-mul-right X one)
+
+      go : (k : ℕ) → l ≡ k → (u ≡ 0) ⊎ (hid f ≤ u)
+      go zero e = inl (ap (λ (z : ℕ). rn toEven (prec f) (z * X) 1) e ∙ ap (λ (z : ℕ). rn toEven (prec f) z 1) (nothing X) ∙ rn-whole-small toEven (prec f) P 0 (omega arith))
+      go (suc k) e =
+          let a : hid f * 2 ^ 0 ≤ u = rn-ge toEven (prec f) P (l * X) 1 (hid f) 0 (lit< tt) (omega (arith, two-hid f)) (subst (λ (z : ℕ). hid f * 2 ^ 0 * 1 ≤ z * X) (sym e) (at-least (hid f) k X h)) in
+          inr (omega arith)
+
+-- ---- the bits of a float of u units, u zero or at least hid, tell u
+pub record Told (f : Format) (w d b u : ℕ) : Type 0 where
+  pub fits : InUnits f w d b
+  pub units : unitsOf f d b ≡ u
+
+module _ (f : Format) (w d : ℕ) (room : prec f ≤ suc (w + d)) (b u : ℕ) (sg : Bool) (v : HasValue (ofBits f b) sg (u * 2 ^ d) (2 ^ low f)) (small : u < 2 ^ w) (least : (u ≡ 0) ⊎ (hid f ≤ u)) where
+  abbrev t : ℕ
+  t = digitsOf f b
+
+  H : 0 < hid f
+  H = pow-pos (prec f - 1)
+
+  short : t < hid f
+  short = mod-lt b H
+
+  -- no leading digit: zero
+  told-zero : fieldOf f b ≡ 0 → HasValue (ofFields f (signOf f b) 0 t) sg (u * 2 ^ d) (2 ^ low f) → Told f w d b u
+  unfolding ofFields
+  told-zero e h =
+      let k : t * 2 ^ 0 ≡ u * 2 ^ d = one-value (odd (prec f) (signOf f b) t 0 (low f)) (signOf f b) sg (t * 2 ^ 0) (u * 2 ^ d) (2 ^ low f) (odd-sign (prec f) (signOf f b) t 0 (low f)) h in
+      let none : u ≡ 0 = none-of least k in
+      let nothing : u * 2 ^ d ≡ 0 = ap (λ (z : ℕ). z * 2 ^ d) none ∙ omega arith in
+      let all : b % top f ≡ 0 = bits-split f b ∙ omega (arith, k, nothing, ap (λ (z : ℕ). z * hid f) e) in
+      record { fits = record { from = λ p. absurd (omega arith); to = omega (arith, room) }; units = rw (eq-eqb (b % top f) 0 all) (sym none) }
+    where
+      none-of : (u ≡ 0) ⊎ (hid f ≤ u) → t * 2 ^ 0 ≡ u * 2 ^ d → u ≡ 0
+      none-of (inl z) k = z
+      none-of (inr l) k = absurd (omega (arith, k, short, mul-le-mul l (pow-pos d)))
+
+  told-some : (k : ℕ) → fieldOf f b ≡ suc k → (hid f + t) * 2 ^ k ≡ u * 2 ^ d → Told f w d b u
+  told-some k e g = record { fits = record { from = λ p. le-trans (omega (arith, reached)) (le-of-eq (sym e)); to = omega (arith, e, few) }; units = rw (ne-eqb (b % top f) 0 not-zero) units }
+    where
+      some : hid f ≤ u
+      some = go least
+        where
+          go : (u ≡ 0) ⊎ (hid f ≤ u) → hid f ≤ u
+          go (inl z) = absurd (omega (arith, g, ap (λ (z : ℕ). z * 2 ^ d) z, H, mul-pos {m = hid f + t} {n = 2 ^ k} (omega (arith, H)) (pow-pos k)))
+          go (inr l) = l
+
+      reached : d ≤ k
+      reached =
+          le-of-suc-le-suc (lt-of-not-le λ (l : suc k ≤ d).
+          let a : hid f + t < 2 ^ prec f = omega (arith, short, two-hid f) in
+          omega (arith, g, mul-lt-mul-of-pos-right a (pow-pos k), ap (λ (z : ℕ). z * 2 ^ k) (two-hid f), ap (λ (z : ℕ). hid f * z) (pow-succ' 2 k), mul-le-mul some (pow-mono {i = suc k} {j = d} l)))
+
+      counted : (hid f + t) * 2 ^ (k - d) ≡ u
+      counted =
+          let p : 2 ^ k ≡ 2 ^ (k - d) * 2 ^ d = ap (λ (z : ℕ). 2 ^ z) (omega (arith, reached)) ∙ pow-add 2 (k - d) d in
+          eq-of-mul-eq-mul-right (2 ^ d) (pow-pos d) ((hid f + t) * 2 ^ (k - d)) u (omega (arith, g, ap (λ (z : ℕ). (hid f + t) * z) p))
+
+      few : k + prec f ≤ w + d
+      few =
+          let a : prec f - 1 + (k - d) < w = lt-of-not-le λ (l : w ≤ prec f - 1 + (k - d)). omega (arith, counted, small, pow-mono l, pow-add 2 (prec f - 1) (k - d)) in
+          omega (arith, reached, digits-some f)
+
+      not-zero : ¬ (b % top f ≡ 0)
+      not-zero z = omega (arith, bits-split f b, ap (λ (z : ℕ). z * hid f) e, H)
+
+      units : (hid f + t) * 2 ^ (fieldOf f b - suc d) ≡ u
+      units = ap (λ (z : ℕ). (hid f + t) * 2 ^ z) (omega (arith, e)) ∙ counted
+
+  told-field : (k : ℕ) → fieldOf f b ≡ suc k → HasValue (ofFields f (signOf f b) (suc k) t) sg (u * 2 ^ d) (2 ^ low f) → Told f w d b u
+  unfolding ofFields
+  told-field k e h = go (eqb (suc k) (ones f)) h
+    where
+      no-value : (c : Bool) → HasValue (cond c (inf (signOf f b)) nan) sg (u * 2 ^ d) (2 ^ low f) → Told f w d b u
+      no-value true x = absurd x
+      no-value false x = absurd x
+
+      go : (c : Bool) → HasValue (cond c (cond (eqb t 0) (inf (signOf f b)) nan) (odd (prec f) (signOf f b) (hid f + t) k (low f))) sg (u * 2 ^ d) (2 ^ low f) → Told f w d b u
+      go true x = no-value (eqb t 0) x
+      go false x = told-some k e (one-value (odd (prec f) (signOf f b) (hid f + t) k (low f)) (signOf f b) sg ((hid f + t) * 2 ^ k) (u * 2 ^ d) (2 ^ low f) (odd-sign (prec f) (signOf f b) (hid f + t) k (low f)) x)
+
+  pub told : Told f w d b u
+  unfolding ofBits
+  told = go (fieldOf f b) refl v
+    where
+      go : (F : ℕ) → fieldOf f b ≡ F → HasValue (ofFields f (signOf f b) (fieldOf f b) t) sg (u * 2 ^ d) (2 ^ low f) → Told f w d b u
+      go zero e h = told-zero e (subst (λ (z : ℕ). HasValue (ofFields f (signOf f b) z t) sg (u * 2 ^ d) (2 ^ low f)) e h)
+      go (suc k) e h = told-field k e (subst (λ (z : ℕ). HasValue (ofFields f (signOf f b) z t) sg (u * 2 ^ d) (2 ^ low f)) e h)
+
+-- ---- as code counts the units: none, or a shift of the significand that loses nothing in w bits
+pub units-none : (f : Format) (d b : ℕ) → b % top f ≡ 0 → unitsOf f d b ≡ 0
+units-none f d b e = rw (eq-eqb (b % top f) 0 e)
+
+module _ (f : Format) (w d b : ℕ) (h : ¬ (b % top f ≡ 0)) (i : InUnits f w d b) where
+  pub units-from : suc d ≤ fieldOf f b
+  units-from = i .from (omega arith)
+
+  pub units-shifted : significandOf f b * 2 ^ (fieldOf f b - 1 - d) % 2 ^ w ≡ unitsOf f d b
+  units-shifted =
+      let below : significandOf f b < 2 ^ prec f = omega (arith, two-hid f, mod-lt b (pow-pos (prec f - 1))) in
+      let short : prec f + (fieldOf f b - 1 - d) ≤ w = omega (arith, units-from, i .to) in
+      let shift : fieldOf f b - 1 - d ≡ fieldOf f b - suc d = omega arith in
+      shl-exact (prec f) (fieldOf f b - 1 - d) w below short ∙ ap (λ (z : ℕ). significandOf f b * 2 ^ z) shift ∙ rw (ne-eqb (b % top f) 0 h)
