@@ -241,8 +241,8 @@ fn put_factor(f: Factor) {
     put_field(16, f.parts.high);
     put_field(16, words::unsigned_word(f.parts.low));
     put_field(8, f.parts.places as u64);
-    put_field(8, words::bits_of(f.applied.high) as u64);
-    put_field(8, words::bits_of(f.applied.low) as u64);
+    put_field(8, floats::bits_of(f.applied.high) as u64);
+    put_field(8, floats::bits_of(f.applied.low) as u64);
 }
 
 // A factor with one field of its own changed: 0 bits, 1 lower, 2 upper.
@@ -282,10 +282,10 @@ fn with_part(p: Parts, number: u64, v: u64) -> Parts {
 fn with_applied(a: Applied, number: u64, v: u64) -> Applied {
     let mut b = a;
     if number == 6 {
-        b.high = words::float_from(words::low_half(v));
+        b.high = floats::float_from(words::low_half(v));
     }
     if number == 7 {
-        b.low = words::float_from(words::low_half(v));
+        b.low = floats::float_from(words::low_half(v));
     }
     if number == 8 {
         b.scale = words::signed_half(words::low_half(v));
@@ -337,11 +337,11 @@ fn multiply(f: Factor, x: u64) {
 
 fn put_reading(mark: u32, y: f32) {
     put_outcome(mark);
-    put_field(8, words::bits_of(y) as u64);
+    put_field(8, floats::bits_of(y) as u64);
 }
 
 fn read(f: Factor, bits: u64) {
-    match reading::read(f, words::float_from(words::low_half(bits))) {
+    match reading::read(f, floats::float_from(words::low_half(bits))) {
         ReadingAnswer::Right(y) => put_reading(1, y),
         ReadingAnswer::Open(y) => put_reading(2, y),
         ReadingAnswer::Wrong(y) => put_reading(3, y),

@@ -46,8 +46,8 @@ fn factor_from(words: &[u64]) -> Factor
         places: words::low_half(words[5]),
     };
     let applied = Applied {
-        high: words::float_from(words::low_half(words[6])),
-        low: words::float_from(words::low_half(words[7])),
+        high: floats::float_from(words::low_half(words[6])),
+        low: floats::float_from(words::low_half(words[7])),
         scale: words::signed_half(words::low_half(words[8])),
     };
     Factor {
@@ -70,8 +70,8 @@ fn put_factor(f: Factor, out: &mut [u64])
     out[3] = f.parts.high;
     out[4] = words::unsigned_word(f.parts.low);
     out[5] = f.parts.places as u64;
-    out[6] = words::bits_of(f.applied.high) as u64;
-    out[7] = words::bits_of(f.applied.low) as u64;
+    out[6] = floats::bits_of(f.applied.high) as u64;
+    out[7] = floats::bits_of(f.applied.low) as u64;
     out[8] = words::unsigned_half(f.applied.scale);
 }
 
@@ -183,17 +183,17 @@ pub extern "C" fn gusnalip_read(factor: &[u64], reading: u32, out: &mut [u32]) -
     if out.len() < 1 {
         return TOO_SHORT;
     }
-    match reading::read(factor_from(factor), words::float_from(reading)) {
+    match reading::read(factor_from(factor), floats::float_from(reading)) {
         ReadingAnswer::Right(y) => {
-            out[0] = words::bits_of(y);
+            out[0] = floats::bits_of(y);
             1
         }
         ReadingAnswer::Open(y) => {
-            out[0] = words::bits_of(y);
+            out[0] = floats::bits_of(y);
             2
         }
         ReadingAnswer::Wrong(y) => {
-            out[0] = words::bits_of(y);
+            out[0] = floats::bits_of(y);
             3
         }
         ReadingAnswer::Refused(k) => k,

@@ -1,6 +1,5 @@
-// Numbers and floats as words: two's complement, and the bit patterns of binary32 numbers. For programs that store factors or hand them to others.
+// Signed numbers as words, in two's complement. For programs that store factors or hand them to others.
 ghost use mathlib.Core.Path.{_≡_};
-ghost use lib.Ieee.{binary32, ofBits, toBits};
 ghost use Rattle.words.specs.Words.{unsigned, signed, low32};
 
 // A word's low 32 bits.
@@ -50,25 +49,4 @@ pub fn unsigned_half(z: i32) -> u64
         return 4294967296 - m;
     }
     m
-}
-
-// The binary32 number of a pattern, whose NaN patterns are one NaN.
-pub fn float_from(bits: u32) -> f32
-    ensures { λ r. ⌜ r ≡ ofBits binary32 bits ⌝ }
-{
-    if 2139095040 < bits % 2147483648 {
-        let zero = f32::from_bits(0);
-        return zero / zero;
-    }
-    f32::from_bits(bits)
-}
-
-// The pattern of a binary32 number, a NaN's too.
-pub fn bits_of(x: f32) -> u32
-    ensures { λ r. ⌜ r ≡ toBits binary32 x ⌝ }
-{
-    if x != x {
-        return 2143289344;
-    }
-    f32::to_bits(x)
 }
