@@ -73,7 +73,11 @@ pub record Narrow (f : Format) (n m q : ℕ) : Type 0 where
 abbrev pub unitsOf : Format → (d b : ℕ) → ℕ
 unitsOf f d b = cond (eqb (b % top f) 0) 0 (significandOf f b * 2 ^ (fieldOf f b - suc d))
 
--- it is one of these, and below 2 ^ w
+-- a product of l / 2 ^ E and X / hid is whole in the unit 2 ^ - (E + prec - 1): that is 2 ^ unitAt of the smallest values
+abbrev pub unitAt : Format → (E : ℕ) → ℕ
+unitAt f E = emax f - 1 - E
+
+-- the size is whole in the unit, and below 2 ^ w
 pub record InUnits (f : Format) (w d b : ℕ) : Type 0 where
   pub from : 0 < b % top f → suc d ≤ fieldOf f b
   pub to : fieldOf f b + prec f ≤ suc (w + d)

@@ -18,7 +18,7 @@ use borrow.Author.Tests.{le-leb, lt-leb, ne-eqb}
 use Rattle.rounding.specs.Digits.{pow-half}
 use Rattle.rounding.specs.Ieee.{round-itself, value-unique}
 use Rattle.rounding.specs.RoundLaws.{HasBits}
-use Rattle.floats.specs.Fields.{signOf, fieldOf, digitsOf, signAbove, Normal, floatOf, Normalized}
+use Rattle.floats.specs.Fields.{signOf, fieldOf, digitsOf, significandOf, signAbove, Normal, floatOf, Normalized}
 use Rattle.floats.specs.Numbers.{value-number}
 
 pub digits-some : (f : Format) → 0 < prec f
@@ -166,7 +166,11 @@ module _ (f : Format) (s : Bool) (k m : ℕ) (n : Normalized f k m) where
       let is : fieldOf f (toBits f (floatOf f s k m)) ≡ F = ap (fieldOf f) back ∙ field in
       record { from = rw is (zero-lt-suc (put .x)); to = rw is (put .free) }
 
--- a significand of all digits, at an exponent of the format
+-- a pattern's significand has all digits
+pub significand-bits : (f : Format) (b : ℕ) → HasBits (prec f) (significandOf f b)
+significand-bits f b = record { least = omega arith; most = omega (arith, two-hid f, mod-lt b (pow-pos (prec f - 1))) }
+
+-- and is normalized at each exponent of the format
 pub normalized : (f : Format) (k m : ℕ) → HasBits (prec f) m → suc k < ones f → Normalized f k m
 normalized f k m b h =
     let t : m - hid f < hid f = omega (arith, two-hid f, b .most, b .least) in

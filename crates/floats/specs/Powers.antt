@@ -1,13 +1,13 @@
 -- 2 ^ z for an integer z, in natural numbers and in units of a format's smallest value. Assumes nothing.
 use mathlib.Core.Path.{_≡_, refl, sym, ap, _∙_}
 use mathlib.Core.Bool.{Bool, true, false}
-use Prim.Native.Nat.{ℕ, suc, _+_, _-_, _*_, _^_}
+use Prim.Native.Nat.{ℕ, suc, _+_, _-_, _*_, _^_, _≤_}
 use native.Mathlib.Nat.{mul-one, one-mul}
 use native.Mathlib.Omega.{arith}
-use lib.Dec.{ltb}
+use lib.Dec.{ltb, lit≤}
 use lib.IntN.{ℤ, pos, negsuc, natAbs, subℕ, _+ℤ_, pos-ne-negsuc}
 use lib.Pow.{pow-add}
-use lib.Ieee.{Format, emax, prec, low, hid, up, down}
+use lib.Ieee.{Format, binary32, binary64, emax, prec, low, hid, up, down}
 use lib.Ieee.Fits.{two, reach}
 use borrow.Author.Tests.{ltb-false, le-ltb}
 
@@ -39,3 +39,8 @@ in-smallest f S B z j e =
         let y : u * P * (S * D) ≡ u * (B * A) * (S * D) = ap (λ (z : ℕ). u * z * (S * D)) q in
         let z : u * P * (S * D) ≡ J * d * (S * D) = ap (λ (z : ℕ). z * (S * D)) e in
         omega (arith, x, y, z)
+
+-- a format has exponents below zero
+pub emax-two : (f : Format) → 2 ≤ emax f
+emax-two binary32 = lit≤ tt
+emax-two binary64 = lit≤ tt

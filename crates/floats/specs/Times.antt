@@ -10,15 +10,15 @@ use lib.Pow.{pow-add, pow-pos, pow-mono, shl-lt, shl-exact}
 use lib.Ieee
 use lib.Ieee.{Float, nan, inf, fin, Format, prec, emax, low, hid, ones, top, up, down, unlike, mul, odd, ofFields, ofBits}
 use lib.Ieee.Exact.{HasValue, odd-sign}
-use lib.Ieee.Fits.{down-pos}
+use lib.Ieee.Fits.{two, down-pos}
 use lib.Ieee.Scale.{grid, overflow, round-same}
 use borrow.Author.Tests.{eq-eqb, ne-eqb}
 use Rattle.rounding.specs.Grid.{toEven}
 use Rattle.rounding.specs.Unit.{rn}
 use Rattle.rounding.specs.UnitLaws.{rn-same, rn-scale-whole, rn-ge, rn-whole-small}
 use Rattle.rounding.specs.Ieee.{round-value, rn-grid}
-use Rattle.floats.specs.Fields.{signOf, fieldOf, digitsOf, significandOf, unitsOf, InUnits}
-use Rattle.floats.specs.Pattern.{digits-some, two-hid, bits-split}
+use Rattle.floats.specs.Fields.{signOf, fieldOf, digitsOf, significandOf, unitsOf, unitAt, InUnits}
+use Rattle.floats.specs.Pattern.{digits-some, two-hid, bits-split, significand-bits}
 
 -- ---- a product of two values is its exact value, rounded
 mul-value : (f : Format) (x y : Float) (s t : Bool) (a c b d : ℕ) → 0 < c → 0 < d → HasValue x s a c → HasValue y t b d → mul f x y ≡ Ieee.round f (unlike s t) (a * b) (c * d)
@@ -42,10 +42,16 @@ pub unlike-plus : (s : Bool) → unlike s false ≡ s
 unlike-plus true = refl
 unlike-plus false = refl
 
--- ---- m / 2 ^ q times X / hid, in the unit 2 ^ - (E + prec - 1), which is 2 ^ d of the format's smallest values: m / 2 ^ q is l / 2 ^ E
-module _ (f : Format) (E d : ℕ) (unit : E + (prec f - 1) + d ≡ low f) (m q l X : ℕ) (same : m * 2 ^ E ≡ l * 2 ^ q) where
+-- ---- m / 2 ^ q times X / hid, where m / 2 ^ q is l / 2 ^ E
+module _ (f : Format) (E : ℕ) (near : E < emax f) (m q l X : ℕ) (same : m * 2 ^ E ≡ l * 2 ^ q) where
   abbrev u : ℕ
   u = rn toEven (prec f) (l * X) 1
+
+  abbrev d : ℕ
+  d = unitAt f E
+
+  unit : E + (prec f - 1) + d ≡ low f
+  unit = omega (arith, two f)
 
   P : 0 < prec f
   P = digits-some f
@@ -182,7 +188,6 @@ module _ (f : Format) (w d b : ℕ) (h : ¬ (b % top f ≡ 0)) (i : InUnits f w 
 
   pub units-shifted : significandOf f b * 2 ^ (fieldOf f b - 1 - d) % 2 ^ w ≡ unitsOf f d b
   units-shifted =
-      let below : significandOf f b < 2 ^ prec f = omega (arith, two-hid f, mod-lt b (pow-pos (prec f - 1))) in
       let short : prec f + (fieldOf f b - 1 - d) ≤ w = omega (arith, units-from, i .to) in
       let shift : fieldOf f b - 1 - d ≡ fieldOf f b - suc d = omega arith in
-      shl-exact (prec f) (fieldOf f b - 1 - d) w below short ∙ ap (λ (z : ℕ). significandOf f b * 2 ^ z) shift ∙ rw (ne-eqb (b % top f) 0 h)
+      shl-exact (prec f) (fieldOf f b - 1 - d) w (significand-bits f b .most) short ∙ ap (λ (z : ℕ). significandOf f b * 2 ^ z) shift ∙ rw (ne-eqb (b % top f) 0 h)

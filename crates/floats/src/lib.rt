@@ -11,7 +11,7 @@ ghost use Rattle.floats.specs.Fields.{signOf, fieldOf, digitsOf, signifi
 pub const PRECISION: u32 = 24;
 
 // The largest exponent.
-const MOST_EXPONENT: u32 = 127;
+pub const MOST_EXPONENT: u32 = 127;
 
 // The exponent's field of infinities and NaNs.
 pub const ENDLESS: u32 = 255;

@@ -1,11 +1,9 @@
 -- A reading times a factor, with its laws and examples.
 pub mod Reading
-pub mod Units
 pub mod Exponents
 pub mod FirstLaws
 pub mod ReadingLaws
 pub mod AnswerLaws
-pub mod Classes
 pub mod Standard
 pub mod FromProduct
 pub mod Examples

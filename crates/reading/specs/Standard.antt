@@ -17,6 +17,7 @@ use Rattle.rounding.specs.RoundLaws.{HasBits}
 use Rattle.rounding.specs.Fraction.{Fraction}
 use Rattle.rounding.specs.FractionLaws.{Counts}
 use Rattle.rounding.specs.Ieee.{revalue, InRange, rounded-is-ieee}
+use Rattle.floats.specs.Times.{unlike-plus}
 use Rattle.factor.specs.declared.Factor.{Factor}
 use Rattle.factor.specs.declared.Parts.{Parts}
 use Rattle.factor.specs.Parts.{partsAt}
@@ -26,7 +27,7 @@ use Rattle.factor.specs.SetUp.{Sound, partsOf}
 use Rattle.product.specs.Product.{first, fused, product, productBy, valueOf}
 use Rattle.product.specs.Units.{firstUnits, fusedUnits}
 use Rattle.product.specs.ProductLaws.{first-counts, fused-counts, fused-least, fused-near, product-value}
-use Rattle.reading.specs.FirstLaws.{unlike-plus, low-number, first-float}
+use Rattle.reading.specs.FirstLaws.{low-number, first-float}
 
 -- ---- at an end c
 module _ (c : ℕ) (ce : End 62 c) (X : ℕ) (xb : HasBits 24 X) where

@@ -1,43 +1,30 @@
 // A binary32 reading times a factor (document 01, "Binary32"): the product with its mark, or a refusal.
 use factor::Factor;
+use factor::Precision;
 use marks::Mark;
 use product::Product;
 ghost use mathlib.Core.Path.{_≡_};
-ghost use mathlib.Core.Bool.{false, not};
-ghost use Prim.Native.Nat.{_+_, _*_, _<_, _≤_, _^_};
-ghost use lib.Dec.{T};
+ghost use mathlib.Core.Bool.{false};
+ghost use Prim.Native.Nat.{_≤_};
 ghost use lib.IntN.{pos, _+ℤ_};
-ghost use lib.Ieee.{binary32, isNan, toBits};
+ghost use lib.Ieee.{binary32, prec, toBits};
 ghost use Rattle.marks.specs.Answers.{accepted, answer};
 ghost use Rattle.rounding.specs.Grid.{toEven};
 ghost use Rattle.rounding.specs.RoundLaws.{HasBits};
+ghost use Rattle.floats.specs.Fields.{Normal, significandOf};
 ghost use Rattle.factor.specs.Whole.{wholeOf};
 ghost use Rattle.factor.specs.SetUp.{scaleOut, Sound};
 ghost use Rattle.product.specs.Product.{productBy};
 ghost use Rattle.product.specs.Units.{firstUnits};
-ghost use Rattle.reading.specs.Reading.{fieldOf, significandOf, unreadable, kindOf, finished, applied, outcomeOf, takenOf};
-ghost use Rattle.reading.specs.Units.{InUnits, unitsOf};
+ghost use Rattle.reading.specs.Reading.{unreadable, kindOf, finished, applied, outcomeOf, takenOf};
 
-// A binary32 number's bits: the weight of the sign, and that of the exponent's field, which the leading digit has too.
-const SIGN: u32 = 2147483648;
+// u1 is counted in the unit 2 ^ - (SCALE + PRECISION - 1), that is 2 ^ UNIT of binary32's smallest values.
+const UNIT: u32 = floats::MOST_EXPONENT - 1 - Precision::SCALE;
 
-const LEADING: u32 = 8388608;
-
-// The precision of binary32, and the exponent's field of infinities and NaNs.
-const BITS: u32 = 24;
-
-const ENDLESS: u32 = 255;
-
-// The field of the numbers from 1 to below 2, less one, as the leading digit adds one.
-const UNIT_FIELD: u32 = 126;
-
-// The field of 2 ^ -62, which the smallest u1 has: it is 2 ^ 23 of the unit 2 ^ -85, in which the second step counts.
-const FIRST_FIELD: u32 = 65;
-
-// A product's exponent is counted from -227: the reading's from -127, the scale from -100. So -126 to 127 are these places.
+// A product's field, counted from -100 as its scale is: so a normal number's fields are these places.
 const LEAST_PLACE: u32 = 101;
 
-const MOST_PLACE: u32 = 354;
+const MOST_PLACE: u32 = floats::ENDLESS + 99;
 
 // The answer to a reading: the product as a binary32 number in the case of its mark, or a refusal: 31, 20, 21, 22 or 23.
 pub enum ReadingAnswer {
@@ -54,25 +41,14 @@ enum Taken {
     Refused(u32),
 }
 
-// The size of a binary32 number in the unit 2 ^ -85.
-fn units_of(u: f32) -> u64
-    requires { ⌜ T (not (isNan u)) × InUnits (toBits binary32 u) ⌝ }
-    ensures { λ r. ⌜ r ≡ unitsOf (toBits binary32 u) ⌝ }
-{
-    let size = f32::to_bits(u) % SIGN;
-    if size == 0 {
-        return 0;
-    }
-    ((LEADING + size % LEADING) as u64) << (size / LEADING - FIRST_FIELD)
-}
-
 // u1 = RN(Cl * x): one binary32 multiplication on [1, 2).
 fn first_step(f: Factor, x: u32) -> u64
-    requires { ⌜ Sound f × (f .precision .bits ≡ 24) × HasBits 24 x ⌝ }
+    requires { ⌜ Sound f × (f .precision .bits ≡ prec binary32) × HasBits (prec binary32) x ⌝ }
     ensures { λ r. ⌜ r ≡ firstUnits toEven 24 (wholeOf 62 (f .parts)) x ⌝ }
 {
     let low = f.applied.low;
-    units_of(low * factor::float_of(false, UNIT_FIELD, x))
+    let y = floats::narrow_float(false, floats::PRECISION, x as u64, floats::PRECISION - 1);
+    floats::units_of(low * y, UNIT)
 }
 
 // A scale, counted from the least.
@@ -96,18 +72,22 @@ fn answer(m: Mark, y: f32) -> ReadingAnswer
 
 // What becomes of a value of a normal reading's significand, whoever made it: sign and exponent are put on last, and 23 is judged whatever the mark.
 fn finish(f: Factor, bits: u32, v: Product) -> ReadingAnswer
-    requires { ⌜ Sound f × (f .precision .bits ≡ 24) × (1 ≤ fieldOf bits) × (fieldOf bits < 255) × HasBits 24 (v .significand) × (v .binade ≤ 1) ⌝ }
+    requires { ⌜ Sound f × (f .precision .bits ≡ prec binary32) × Normal binary32 bits × HasBits (prec binary32) (v .significand) × (v .binade ≤ 1) ⌝ }
     ensures { λ r. ⌜ outcomeOf r ≡ finished f bits v ⌝ }
 {
-    let place = bits % SIGN / LEADING + lifted(f.applied.scale) + v.binade;
+    let place = floats::field_of(bits) + lifted(f.applied.scale) + v.binade;
     if place < LEAST_PLACE {
         return ReadingAnswer::Refused(23);
     }
     if MOST_PLACE < place {
         return ReadingAnswer::Refused(23);
     }
-    let y = factor::float_of(SIGN <= bits, place - LEAST_PLACE, v.significand as u32);
-    let x = LEADING + bits % LEADING;
+    let y = floats::float_of(
+        floats::is_minus(bits),
+        place - LEAST_PLACE,
+        v.significand as u32,
+    );
+    let x = floats::significand_of(bits);
     answer(product::mark_of(f, x as u64, v), y)
 }
 
@@ -118,19 +98,17 @@ fn take(f: Factor, reading: f32) -> Taken
     if !factor::is_intact(f) {
         return Taken::Refused(31);
     }
-    if f.precision.bits != BITS {
+    if f.precision.bits != floats::PRECISION {
         return Taken::Refused(20);
     }
-    if reading != reading {
-        return Taken::Refused(21);
-    }
-    let bits = f32::to_bits(reading);
-    let field = bits % SIGN / LEADING;
-    if field == ENDLESS {
+    let bits = floats::bits_of(reading);
+    let field = floats::field_of(bits);
+    let digits = floats::digits_of(bits);
+    if field == floats::ENDLESS {
         return Taken::Refused(21);
     }
     if field == 0 {
-        if bits % LEADING != 0 {
+        if digits != 0 {
             return Taken::Refused(22);
         }
         return Taken::Zero;
@@ -140,10 +118,10 @@ fn take(f: Factor, reading: f32) -> Taken
 
 // The two steps of a normal reading's significand.
 fn two_steps(f: Factor, bits: u32) -> Product
-    requires { ⌜ Sound f × (f .precision .bits ≡ 24) ⌝ }
-    ensures { λ r. ⌜ r ≡ productBy f (significandOf bits) ⌝ }
+    requires { ⌜ Sound f × (f .precision .bits ≡ prec binary32) ⌝ }
+    ensures { λ r. ⌜ r ≡ productBy f (significandOf binary32 bits) ⌝ }
 {
-    let x = LEADING + bits % LEADING;
+    let x = floats::significand_of(bits);
     product::second_step(f, x as u64, first_step(f, x))
 }
 

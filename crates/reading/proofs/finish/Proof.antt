@@ -1,9 +1,10 @@
 -- `reading::finish` meets its contract: the exponent as it is counted, 23, and the number put together. Assumes nothing.
 use mathlib.Core.Path.{_≡_, sym, ap, ap₂, _∙_, subst}
-use Prim.Native.Nat.{ℕ, _+_, _≤_}
+use mathlib.Core.Bool.{Bool}
+use Prim.Native.Nat.{ℕ, _+_, _-_, _*_, _≤_}
 use native.Mathlib.Omega.{arith}
 use lib.IntN.{ℤ, pos, _+ℤ_}
-use lib.Ieee.{Float}
+use lib.Ieee.{Float, binary32, emax}
 use mir.Syntax.{w32}
 use mir.Val.{toZ, ofZ}
 use borrow.Author.Needs.{needs}
@@ -11,12 +12,17 @@ use Rattle.marks.specs.declared.Mark.{Mark}
 use Rattle.marks.specs.Answers.{accepted}
 use Rattle.marks.specs.AnswerLaws.{pass, stop, end, refuses, accepts}
 use Rattle.rounding.specs.RoundLaws.{HasBits}
-use Rattle.reading.specs.Reading.{signOf, fieldOf, significandOf, raised, finished}
+use Rattle.floats.specs.Fields.{signOf, fieldOf, floatOf}
+use Rattle.floats.specs.Pattern.{significand-bits}
+use Rattle.product.specs.Marks.{markBy}
+use Rattle.reading.specs.Reading.{raised, finished}
 use Rattle.reading.specs.Exponents.{place-is, out-low, out-high, out-none}
 use Rattle.reading.specs.ReadingLaws.{number-is}
-use Rattle.reading.specs.AnswerLaws.{significand-bits}
 use Rattle.reading.proofs.finish.Statement.{statement}
 use Rattle.reading.proofs.finish.Tie as tie
+
+field-of-requires : tie.Need-field-of-requires
+field-of-requires c κs = search needs
 
 lifted-requires : tie.Need-lifted-requires
 lifted-requires c κs = search needs
@@ -27,26 +33,34 @@ add-place c = search needs
 add-place-2 : tie.Need-add-place-2
 add-place-2 c = search needs
 
--- the product's exponent, and its count from -227
-abbrev exponent : tie.After-struct-known → ℤ
-exponent c = let a = c .before .before .before .args in raised (a .f) (a .bits) +ℤ pos (a .v .binade)
+-- the product's exponent, and its count
+module _ (c : tie.After-struct-known) where
+  abbrev a : tie.Start
+  a = c .before .before .before .before
 
-abbrev count : tie.After-struct-known → ℕ
-count c = let a = c .before .before .before .args in fieldOf (a .bits) + c .before .lifted .result + a .v .binade
+  abbrev exponent : ℤ
+  exponent = raised (a .args .f) (a .args .bits) +ℤ pos (a .args .v .binade)
 
-place : (c : tie.After-struct-known) → exponent c +ℤ pos 227 ≡ pos (count c)
-place c =
-    let a = c .before .before .before .args in
-    let read : toZ w32 (ofZ w32 (a .f .applied .scale)) ≡ a .f .applied .scale = search needs in
-    place-is (fieldOf (a .bits)) (c .before .lifted .result) (a .v .binade) (a .f .applied .scale) (c .before .lifted .ensures .0 ∙ ap (λ (z : ℤ). z +ℤ pos 100) read)
+  abbrev count : ℕ
+  count = c .before .before .before .field-of .result + c .before .lifted .result + a .args .v .binade
+
+  place : exponent +ℤ pos (emax binary32 + 100) ≡ pos count
+  place =
+      let k = a .args .f .applied .scale in
+      let read : toZ w32 (ofZ w32 k) ≡ k = search needs in
+      place-is binary32 (fieldOf binary32 (a .args .bits)) (c .before .lifted .result) (a .args .v .binade) k (c .before .lifted .ensures .0 ∙ ap (λ (z : ℤ). z +ℤ pos 100) read)
+      ∙ ap (λ (z : ℕ). pos (z + c .before .lifted .result + a .args .v .binade)) (sym (c .before .before .before .field-of .ensures))
 
 returns : tie.Need-returns
 unfolding finished
-returns c = let p = c .before in refuses (stop (out-low (exponent p) (count p) (place p) (omega (arith, c .if1 .taken)))) _
+returns c = let p = c .before in refuses (stop (out-low binary32 (exponent p) (count p) (place p) (omega (arith, c .if1 .taken)))) _
 
 returns-2 : tie.Need-returns-2
 unfolding finished
-returns-2 c = let p = c .before .before in refuses (stop (out-high (exponent p) (count p) (place p) (omega (arith, c .if2 .taken)))) _
+returns-2 c = let p = c .before .before in refuses (stop (out-high binary32 (exponent p) (count p) (place p) (omega (arith, c .if2 .taken)))) _
+
+is-minus-requires : tie.Need-is-minus-requires
+is-minus-requires c κs = search needs
 
 cast-float-of : tie.Need-cast-float-of
 cast-float-of c = search needs
@@ -54,20 +68,20 @@ cast-float-of c = search needs
 float-of-requires : tie.Need-float-of-requires
 float-of-requires c κs = search needs
 
-add-x : tie.Need-add-x
-add-x c = search needs
+significand-of-requires : tie.Need-significand-of-requires
+significand-of-requires c κs = search needs
 
 cast-mark-of : tie.Need-cast-mark-of
 cast-mark-of c = search needs
 
 mark-of-requires : tie.Need-mark-of-requires
 mark-of-requires c κs =
-    let a = c .before .before .before .before .before .before .before in
-    let same = sym (a .pre .1) in (
-      a .pre .0,
-      subst (λ (n : ℕ). HasBits n (significandOf (a .args .bits))) same (significand-bits (a .args .bits)),
-      subst (λ (n : ℕ). HasBits n (a .args .v .significand)) same (a .pre .4),
-      a .pre .5,
+    let s = a (c .before .before .before .before .before .before) in
+    let same = sym (s .pre .1) in (
+      s .pre .0,
+      subst (λ (n : ℕ). HasBits n (c .significand-of .result)) same (rw (c .significand-of .ensures) (significand-bits binary32 (s .args .bits))),
+      subst (λ (n : ℕ). HasBits n (s .args .v .significand)) same (s .pre .3),
+      s .pre .4,
     )
 
 answer-requires : tie.Need-answer-requires
@@ -77,30 +91,36 @@ returns-3 : tie.Need-returns-3
 unfolding finished
 returns-3 c =
     let m = c .before in
-    let fl = m .before in
-    let high = fl .before .before in
+    let x = m .before in
+    let fl = x .before in
+    let minus = fl .before .before in
+    let high = minus .before in
     let low = high .before in
     let p = low .before in
-    let a = p .before .before .before in
+    let s = a p .args in
     let above : 101 ≤ count p = omega (arith, low .if1 .left) in
-    let under : count p ≤ 354 = omega (arith, high .if2 .left) in
+    let under : count p ≤ 2 * emax binary32 + 100 = omega (arith, high .if2 .left) in
+    let y = number-is binary32 (signOf binary32 (s .bits)) (s .v) (raised (s .f) (s .bits)) (a p .pre .3) (count p) (place p) above under in
     c .answer .ensures
-    ∙ ap₂ (λ (k : Mark) (y : Float). accepted (record { mark = k; value = y })) (m .mark-of .ensures)
-    (fl .float-of .ensures ∙ number-is (signOf (a .args .bits)) (a .args .v) (raised (a .args .f) (a .args .bits)) (a .pre .4) (count p) (place p) above under)
-    ∙ accepts (pass (out-none (exponent p) (count p) (place p) above under) end) _
+    ∙ ap₂ (λ (k : Mark) (y : Float). accepted (record { mark = k; value = y }))
+    (m .mark-of .ensures ∙ ap (λ (x : ℕ). markBy (s .f) x (s .v)) (x .significand-of .ensures))
+    (fl .float-of .ensures ∙ ap (λ (b : Bool). floatOf binary32 b (count p - 101) (s .v .significand)) (minus .is-minus .ensures) ∙ y)
+    ∙ accepts (pass (out-none binary32 (exponent p) (count p) (place p) above under) end) _
 
 pub finish-spec : {M : Type 1} → statement M
 finish-spec =
     tie.close
     (tie.spec
+    field-of-requires
     lifted-requires
     add-place
     add-place-2
     returns
     returns-2
+    is-minus-requires
     cast-float-of
     float-of-requires
-    add-x
+    significand-of-requires
     cast-mark-of
     mark-of-requires
     answer-requires

@@ -3,17 +3,19 @@ use mathlib.Core.Path.{_≡_, refl, sym, ap, _∙_, subst}
 use mathlib.Core.Bool.{false}
 use Prim.Native.Nat.{ℕ}
 use lib.Ieee
-use lib.Ieee.{Float, binary32, ofBits, ofFields, nanBits}
+use lib.Ieee.{Float, binary32, prec, ofBits, ofFields, nanBits}
 use borrow.Author.Needs.{needs}
 use Rattle.marks.specs.declared.Mark.{Mark}
 use Rattle.marks.specs.Answers.{NoneHolds, accepted}
 use Rattle.rounding.specs.RoundLaws.{HasBits}
+use Rattle.floats.specs.Fields.{zeroBits, significandOf}
+use Rattle.floats.specs.Pattern.{significand-bits}
 use Rattle.factor.specs.SetUp.{Sound}
 use Rattle.factor.specs.SetUpLaws.{intact-sound}
 use Rattle.product.specs.Product.{productBy}
 use Rattle.product.specs.SoundLaws.{sound-product}
-use Rattle.reading.specs.Reading.{zeroBits, significandOf, plusZero, unreadable, finished, applied}
-use Rattle.reading.specs.AnswerLaws.{significand-bits, is-intact, is-24, normal-field, taken-normal, taken-zero, taken-refused}
+use Rattle.reading.specs.Reading.{plusZero, unreadable, finished, applied}
+use Rattle.reading.specs.AnswerLaws.{is-intact, precision-is, is-normal, taken-normal, taken-zero, taken-refused}
 use Rattle.reading.proofs.read.Statement.{statement}
 use Rattle.reading.proofs.read.Tie as tie
 
@@ -41,25 +43,24 @@ module _ (c : tie.After-known-told2) where
   abbrev b : ℕ
   b = c .before .bits .given .0 .0
 
-  taken : NoneHolds (unreadable (a .args .f) b) × (zeroBits b ≡ false) × (finished (a .args .f) b (productBy (a .args .f) (significandOf b)) ≡ applied (a .args .f) (a .args .reading))
+  taken : NoneHolds (unreadable (a .args .f) b) × (zeroBits binary32 b ≡ false) × (finished (a .args .f) b (productBy (a .args .f) (significandOf binary32 b)) ≡ applied (a .args .f) (a .args .reading))
   taken = taken-normal (a .args .f) (a .args .reading) (c .before .before .before .take .result) (c .before .before .before .take .ensures) b (c .before .bits .given .1)
 
   sound : Sound (a .args .f)
   sound = intact-sound (a .args .f) (is-intact (a .args .f) b (taken .0))
 
 two-steps-requires : tie.Need-two-steps-requires
-two-steps-requires c κs = (sound c, is-24 (a c .args .f) (b c) (taken c .0))
+two-steps-requires c κs = (sound c, precision-is (a c .args .f) (b c) (taken c .0))
 
 finish-requires : tie.Need-finish-requires
 finish-requires c κs =
     let k = c .before in
     let f = a k .args .f in
-    let n = is-24 f (b k) (taken k .0) in
-    let field = normal-field f (b k) (taken k .0) (taken k .1) in
-    let in-range = subst (λ (n : ℕ). HasBits n (significandOf (b k))) (sym n) (significand-bits (b k)) in
-    let is = sound-product f (sound k) (significandOf (b k)) in-range in
-    let bits : HasBits 24 (productBy f (significandOf (b k)) .significand) = subst (λ (n : ℕ). HasBits n (productBy f (significandOf (b k)) .significand)) n (is .bits) in
-    (sound k, n, field .0, field .1, rw (c .two-steps .ensures) bits, rw (c .two-steps .ensures) (is .binade))
+    let n = precision-is f (b k) (taken k .0) in
+    let in-range = subst (λ (n : ℕ). HasBits n (significandOf binary32 (b k))) (sym n) (significand-bits binary32 (b k)) in
+    let is = sound-product f (sound k) (significandOf binary32 (b k)) in-range in
+    let bits : HasBits (prec binary32) (productBy f (significandOf binary32 (b k)) .significand) = subst (λ (n : ℕ). HasBits n (productBy f (significandOf binary32 (b k)) .significand)) n (is .bits) in
+    (sound k, n, is-normal f (b k) (taken k .0) (taken k .1), rw (c .two-steps .ensures) bits, rw (c .two-steps .ensures) (is .binade))
 
 returns : tie.Need-returns
 returns c =

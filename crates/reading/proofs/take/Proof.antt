@@ -3,15 +3,14 @@ use mathlib.Core.Path.{_≡_, sym, ap, _∙_}
 use mathlib.Core.Bool.{true, false, not}
 use Prim.Native.Nat.{ℕ}
 use lib.Dec.{eqb}
-use lib.Ieee.{Float, binary32, toBits}
+use lib.Ieee.{binary32, prec, ones, toBits}
 use borrow.Author.Needs.{needs}
 use borrow.Author.Tests.{eq-eqb, ne-eqb}
 use Rattle.marks.specs.Answers.{accepted}
 use Rattle.marks.specs.AnswerLaws.{pass, stop, end, refuses, accepts}
-use Rattle.rounding.specs.Binary32.{no-nan, is-nan}
+use Rattle.floats.specs.Fields.{fieldOf, digitsOf, endless, subnormal}
 use Rattle.factor.specs.SetUp.{intact}
-use Rattle.reading.specs.Reading.{fieldOf, digitsOf, endless, subnormal, zero, normal, kindOf}
-use Rattle.reading.specs.AnswerLaws.{nan-endless}
+use Rattle.reading.specs.Reading.{zero, normal, kindOf}
 use Rattle.reading.proofs.take.Statement.{statement}
 use Rattle.reading.proofs.take.Tie as tie
 
@@ -26,58 +25,72 @@ through : (c : tie.Else1) → not (intact (c .before .before .args .f)) ≡ fals
 through c = ap not (sym (c .before .is-intact .ensures)) ∙ c .if1 .left
 
 returns-2 : tie.Need-returns-2
-returns-2 c = refuses (pass (through (c .before .before)) (stop (ap not (ne-eqb _ 24 (c .if2 .taken))))) _
+returns-2 c = refuses (pass (through (c .before .before)) (stop (ap not (ne-eqb _ (prec binary32) (c .if2 .taken))))) _
 
--- 20 lets it through
-of-24 : (c : tie.Else2) → not (eqb (c .before .before .before .before .args .f .precision .bits) 24) ≡ false
-of-24 c = ap not (eq-eqb _ 24 (c .if2 .left))
+-- and 20
+precise : (c : tie.Else2) → not (eqb (c .before .before .before .before .args .f .precision .bits) (prec binary32)) ≡ false
+precise c = ap not (eq-eqb _ (prec binary32) (c .if2 .left))
+
+bits-of-requires : tie.Need-bits-of-requires
+bits-of-requires c κs = search needs
+
+field-of-requires : tie.Need-field-of-requires
+field-of-requires c κs = search needs
+
+digits-of-requires : tie.Need-digits-of-requires
+digits-of-requires c κs = search needs
+
+-- ---- the reading's fields
+module _ (c : tie.After-digits-of) where
+  abbrev e : tie.Else2
+  e = c .before .before .before
+
+  abbrev t : tie.Else1
+  t = e .before .before
+
+  abbrev b : ℕ
+  b = toBits binary32 (t .before .before .args .reading)
+
+  field-is : c .before .field-of .result ≡ fieldOf binary32 b
+  field-is = c .before .field-of .ensures ∙ ap (fieldOf binary32) (c .before .before .bits-of .ensures)
+
+  digits-is : c .digits-of .result ≡ digitsOf binary32 b
+  digits-is = c .digits-of .ensures ∙ ap (digitsOf binary32) (c .before .before .bits-of .ensures)
 
 returns-3 : tie.Need-returns-3
-returns-3 c =
-    let e = c .before in
-    let t = e .before .before in
-    let a = t .before .before .args in
-    refuses (pass (through t) (pass (of-24 e) (stop (ap (λ (x : Float). endless (toBits binary32 x)) (is-nan (a .reading) (c .if3 .taken)) ∙ nan-endless)))) _
+returns-3 c = let d = c .before in refuses (pass (through (t d)) (pass (precise (e d)) (stop (eq-eqb _ (ones binary32) (sym (field-is d) ∙ c .if3 .taken))))) _
 
-float-to-bits-bits : tie.Need-float-to-bits-bits
-float-to-bits-bits c = no-nan _ (c .if3 .left)
+-- 21 lets it through
+ended : (c : tie.Else3) → endless binary32 (b (c .before)) ≡ false
+ended c = ne-eqb _ (ones binary32) (λ is. c .if3 .left (field-is (c .before) ∙ is))
 
 returns-4 : tie.Need-returns-4
 returns-4 c =
-    let e = c .before .before in
-    refuses (pass (through (e .before .before)) (pass (of-24 e) (stop (eq-eqb _ 255 (c .if4 .taken))))) _
-
--- 21 lets it through
-abbrev bits : tie.Else4 → ℕ
-bits c = toBits binary32 (c .before .before .before .before .before .before .args .reading)
+    let z = c .before in
+    let n = z .before in
+    let d = n .before in
+    let is : subnormal binary32 (b d) ≡ true = rw (eq-eqb (fieldOf binary32 (b d)) 0 (sym (field-is d) ∙ z .if4 .taken), ne-eqb (digitsOf binary32 (b d)) 0 (λ is. c .if5 .taken (digits-is d ∙ is))) in
+    refuses (pass (through (t d)) (pass (precise (e d)) (pass (ended n) (stop is)))) _
 
 returns-5 : tie.Need-returns-5
 returns-5 c =
     let z = c .before in
     let n = z .before in
-    let e = n .before .before in
-    let is : subnormal (bits n) ≡ true = rw (eq-eqb (fieldOf (bits n)) 0 (z .if5 .taken), ne-eqb (digitsOf (bits n)) 0 (c .if6 .taken)) in
-    refuses (pass (through (e .before .before)) (pass (of-24 e) (pass (ne-eqb _ 255 (n .if4 .left)) (stop is)))) _
+    let d = n .before in
+    let none = eq-eqb (fieldOf binary32 (b d)) 0 (sym (field-is d) ∙ z .if4 .taken) in
+    let nil = eq-eqb (digitsOf binary32 (b d)) 0 (sym (digits-is d) ∙ c .if5 .left) in
+    let is : subnormal binary32 (b d) ≡ false = rw (none, nil) in
+    let kind : zero ≡ kindOf (b d) = rw (none, nil) in
+    ap accepted kind ∙ accepts (pass (through (t d)) (pass (precise (e d)) (pass (ended n) (pass is end)))) _
 
 returns-6 : tie.Need-returns-6
 returns-6 c =
-    let z = c .before in
-    let n = z .before in
-    let e = n .before .before in
-    let none = eq-eqb (fieldOf (bits n)) 0 (z .if5 .taken) in
-    let nil = eq-eqb (digitsOf (bits n)) 0 (c .if6 .left) in
-    let is : subnormal (bits n) ≡ false = rw (none, nil) in
-    let kind : zero ≡ kindOf (bits n) = rw (none, nil) in
-    ap accepted kind ∙ accepts (pass (through (e .before .before)) (pass (of-24 e) (pass (ne-eqb _ 255 (n .if4 .left)) (pass is end)))) _
-
-returns-7 : tie.Need-returns-7
-returns-7 c =
     let n = c .before in
-    let e = n .before .before in
-    let some = ne-eqb (fieldOf (bits n)) 0 (c .if5 .left) in
-    let is : subnormal (bits n) ≡ false = rw some in
-    let kind : normal (bits n) ≡ kindOf (bits n) = rw some in
-    ap accepted kind ∙ accepts (pass (through (e .before .before)) (pass (of-24 e) (pass (ne-eqb _ 255 (n .if4 .left)) (pass is end)))) _
+    let d = n .before in
+    let some = ne-eqb (fieldOf binary32 (b d)) 0 (λ is. c .if4 .left (field-is d ∙ is)) in
+    let is : subnormal binary32 (b d) ≡ false = rw some in
+    let kind : normal (b d) ≡ kindOf (b d) = rw some in
+    ap (λ (z : ℕ). accepted (normal z)) (d .before .before .bits-of .ensures) ∙ ap accepted kind ∙ accepts (pass (through (t d)) (pass (precise (e d)) (pass (ended n) (pass is end)))) _
 
 pub take-spec : {M : Type 1} → statement M
 take-spec =
@@ -86,9 +99,10 @@ take-spec =
     is-intact-requires
     returns
     returns-2
+    bits-of-requires
+    field-of-requires
+    digits-of-requires
     returns-3
-    float-to-bits-bits
     returns-4
     returns-5
-    returns-6
-    returns-7)
+    returns-6)

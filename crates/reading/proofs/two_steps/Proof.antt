@@ -1,35 +1,41 @@
 -- `reading::two_steps` meets its contract. Assumes nothing.
 use mathlib.Core.Path.{sym, ap, _∙_, subst}
 use Prim.Native.Nat.{ℕ}
+use lib.Ieee.{binary32, prec}
 use borrow.Author.Needs.{needs}
 use Rattle.rounding.specs.Grid.{toEven}
 use Rattle.rounding.specs.RoundLaws.{HasBits}
+use Rattle.floats.specs.Pattern.{significand-bits}
 use Rattle.factor.specs.Whole.{wholeOf}
 use Rattle.product.specs.Units.{firstUnits}
-use Rattle.reading.specs.Reading.{significandOf}
-use Rattle.reading.specs.AnswerLaws.{significand-bits}
+use Rattle.product.specs.Product.{productBy}
 use Rattle.reading.proofs.two_steps.Statement.{statement}
 use Rattle.reading.proofs.two_steps.Tie as tie
 
-add-x : tie.Need-add-x
-add-x c = search needs
+significand-of-requires : tie.Need-significand-of-requires
+significand-of-requires c κs = search needs
 
 cast-second-step : tie.Need-cast-second-step
 cast-second-step c = search needs
 
+-- the significand has the format's digits
+in-range : (c : tie.After-significand-of) → HasBits (prec binary32) (c .significand-of .result)
+in-range c = rw (c .significand-of .ensures) (significand-bits binary32 (c .before .args .bits))
+
 first-step-requires : tie.Need-first-step-requires
-first-step-requires c κs = (c .pre .0, c .pre .1, significand-bits (c .args .bits))
+first-step-requires c κs = (c .before .pre .0, c .before .pre .1, in-range c)
 
 second-step-requires : tie.Need-second-step-requires
 second-step-requires c κs =
-    let a = c .before in (
+    let x = c .before in
+    let a = x .before in (
       a .pre .0,
-      subst (λ (n : ℕ). HasBits n (significandOf (a .args .bits))) (sym (a .pre .1)) (significand-bits (a .args .bits)),
-      c .first-step .ensures ∙ ap (λ (n : ℕ). firstUnits toEven n (wholeOf 62 (a .args .f .parts)) (significandOf (a .args .bits))) (sym (a .pre .1)),
+      subst (λ (n : ℕ). HasBits n (x .significand-of .result)) (sym (a .pre .1)) (in-range x),
+      c .first-step .ensures ∙ ap (λ (n : ℕ). firstUnits toEven n (wholeOf 62 (a .args .f .parts)) (x .significand-of .result)) (sym (a .pre .1)),
     )
 
 returns : tie.Need-returns
-returns c = search needs
+returns c = let x = c .before .before in c .second-step .ensures ∙ ap (productBy (x .before .args .f)) (x .significand-of .ensures)
 
 pub two-steps-spec : {M : Type 1} → statement M
-two-steps-spec = tie.close (tie.spec add-x cast-second-step first-step-requires second-step-requires returns)
+two-steps-spec = tie.close (tie.spec significand-of-requires cast-second-step first-step-requires second-step-requires returns)
