@@ -6,7 +6,7 @@ use Prim.Native.Nat.{ℕ, zero, suc, _+_, _-_, _*_, _%_, _^_, _≤_, _<_}
 use native.Mathlib.Nat.{mul-pos, mul-le-mul, mul-le-mul-right, mul-mul-mul-comm, eq-of-mul-eq-mul-right, le-trans, le-of-eq, lt-of-not-le, lt-of-le-of-lt, le-of-suc-le-suc, not-le-of-lt}
 use native.Mathlib.Decide.{ℕ-discrete}
 use native.Mathlib.Omega.{arith}
-use lib.Dec.{T, eqb, leb, lit<}
+use lib.Dec.{T, eqb, leb, lit<, lit≤}
 use lib.IntN.{natAbs}
 use lib.Pow.{pow-add, pow-pos, pow-mono}
 use lib.Ieee
@@ -16,7 +16,6 @@ use lib.Ieee.Exact.{HasValue, odd-sign}
 use lib.Ieee.Fits.{down-pos, round-fits}
 use lib.Ieee.Scale.{grid, round-same}
 use borrow.Author.Tests.{eq-eqb, ne-eqb}
-use Rattle.rounding.specs.Grid.{toEven}
 use Rattle.rounding.specs.Unit.{rn}
 use Rattle.rounding.specs.UnitLaws.{rn-same, rn-scale-whole, rn-ge, rn-whole-small}
 use Rattle.rounding.specs.RoundLaws.{HasBits}
@@ -24,13 +23,15 @@ use Rattle.rounding.specs.Signed.{negative}
 use Rattle.rounding.specs.Ieee.{revalue, round-value, rn-grid, round-itself}
 use Rattle.factor.specs.declared.Factor.{Factor}
 use Rattle.factor.specs.declared.Parts.{Parts}
+use Rattle.factor.specs.Precision.{scaleOf, kept}
+use Rattle.factor.specs.Context.{Context, Fine, tieRule, contextAt, contextOf, lowerOf, fine-at}
 use Rattle.factor.specs.Parts.{lowPart, partsAt}
 use Rattle.factor.specs.Whole.{Whole, wholeOf}
 use Rattle.factor.specs.PartsLaws.{low-counts, whole-of-parts}
-use Rattle.factor.specs.SetUp.{Sound, partsOf, appliedOf, described}
+use Rattle.factor.specs.SetUp.{Sound, appliedOf, described}
 use Rattle.factor.specs.Stored.{stored-low, low-over}
 use Rattle.product.specs.Units.{firstUnits, PartsAtEnd}
-use Rattle.product.specs.SoundLaws.{sound-precision, sound-parts}
+use Rattle.product.specs.SoundLaws.{sound-fine, sound-parts}
 use Rattle.product.specs.StepLaws.{low-value, first-lt}
 use Rattle.reading.specs.Reading.{fieldOf, digitsOf}
 use Rattle.reading.specs.Units.{unitsOf, InUnits}
@@ -69,6 +70,13 @@ significand-value X h =
     below : (X : ℕ) → X < 2 ^ 24 → X ≤ 2 ^ 24
     below X h = omega arith
 
+-- ---- the context of precision 24
+abbrev pub K24 : Context
+K24 = contextAt 24
+
+pub fine-24 : Fine K24
+fine-24 = fine-at (kept (lit≤ tt) (lit≤ tt))
+
 module _ (f : Factor) (s : Sound f) (n : f .precision .bits ≡ 24) where
   abbrev q : ℕ
   q = f .parts .places
@@ -77,45 +85,46 @@ module _ (f : Factor) (s : Sound f) (n : f .precision .bits ≡ 24) where
   m = natAbs (f .parts .low)
 
   abbrev w : Whole
-  w = wholeOf 62 (f .parts)
+  w = wholeOf K24 (f .parts)
 
-  at : PartsAtEnd toEven 24 62 (f .parts)
-  at = subst (λ (b : ℕ). PartsAtEnd toEven b 62 (f .parts)) n (sound-parts f s)
+  at : PartsAtEnd K24 (f .parts)
+  at = subst (λ (b : ℕ). PartsAtEnd (contextAt b) (f .parts)) n (sound-parts f s)
 
   -- ---- the stored low part is Cl, that is s / 2 ^ q
   pub low-number : T (fits binary32 (f .applied .low)) → HasValue (f .applied .low) (negative (f .parts .low)) m (2 ^ q)
-  unfolding appliedOf partsOf
+  unfolding appliedOf
   low-number h =
-      let b = f .precision .bits in
-      let L = f .lower in
-      let N = sound-precision f s in
-      let x = lowPart toEven b 62 L in
+      let K = contextOf f in
+      let ok = sound-fine f s in
+      let L = lowerOf f in
+      let x = lowPart K L in
       let stored = appliedOf (described f) .low in
       let same : f .applied .low ≡ stored = sym (ofBits-toBits binary32 (f .applied .low) h) ∙ ap (ofBits binary32) (s .low-stored) ∙ ofBits-toBits binary32 stored (round-fits binary32 (x .minus) (x .num) (x .den)) in
-      let c = low-counts toEven b 62 (omega (arith, N .least)) (omega (arith, N .most)) L (s .lower-end) in
-      let p = partsAt toEven b 62 L in
-      let sign : x .minus ≡ negative (p .low) = c .sign ∙ ap (λ (z : Whole). z .minus) (whole-of-parts toEven b 62 (omega (arith, N .least)) (omega (arith, N .most)) L (s .lower-end)) in
+      let c = low-counts K ok L (s .lower-end) in
+      let p = partsAt K L in
+      let sign : x .minus ≡ negative (p .low) = c .sign ∙ ap (λ (z : Whole). z .minus) (whole-of-parts K ok L (s .lower-end)) in
       let v : HasValue stored (negative (p .low)) (natAbs (p .low)) (2 ^ p .places) =
       subst (λ (z : Bool). HasValue stored z (natAbs (p .low)) (2 ^ p .places)) sign
-      (revalue stored (x .minus) (x .num) (x .den) (natAbs (p .low)) (2 ^ p .places) (c .some) (low-over b N L (s .lower-end)) (stored-low (described f) N (s .lower-end))) in
+      (revalue stored (x .minus) (x .num) (x .den) (natAbs (p .low)) (2 ^ p .places) (c .some) (low-over K ok L (s .lower-end)) (stored-low (described f) (s .precision) (s .lower-end))) in
       subst (λ (z : Float). HasValue z (negative (f .parts .low)) m (2 ^ q)) (sym same) (subst (λ (z : Parts). HasValue stored (negative (z .low)) (natAbs (z .low)) (2 ^ z .places)) (sym (s .parts)) v)
 
   module _ (X : ℕ) (xb : HasBits 24 X) where
     abbrev u : ℕ
-    u = firstUnits toEven 24 w X
+    u = firstUnits K24 w X
 
     pub first-small : u < 2 ^ 62
-    first-small = first-lt toEven 24 62 (f .parts) at X xb
+    unfolding scaleOf
+    first-small = first-lt K24 (f .parts) at X xb
 
     -- RN in the format's own unit
     on-grid : grid binary32 (m * X) (2 ^ q * 2 ^ 23) ≡ u * 2 ^ 64
-    unfolding firstUnits
+    unfolding firstUnits scaleOf tieRule
     on-grid =
         let c = 2 ^ q * 2 ^ 23 in
         let C : 0 < c = mul-pos (pow-pos q) (pow-pos 23) in
         sym (rn-grid binary32 (m * X) c C)
-        ∙ rn-same toEven 24 (lit< tt) (m * X * 2 ^ 149) c (w .low * X * 2 ^ 64) 1 C (lit< tt) (regroup m X (2 ^ 62) (2 ^ 87) (w .low) (2 ^ q) (2 ^ 64) (2 ^ 23) (2 ^ 149) refl refl (low-value toEven 24 62 (f .parts) at))
-        ∙ rn-scale-whole toEven 24 (lit< tt) (w .low * X) 64
+        ∙ rn-same tieRule 24 (lit< tt) (m * X * 2 ^ 149) c (w .low * X * 2 ^ 64) 1 C (lit< tt) (regroup m X (2 ^ 62) (2 ^ 87) (w .low) (2 ^ q) (2 ^ 64) (2 ^ 23) (2 ^ 149) refl refl (low-value K24 (f .parts) at))
+        ∙ rn-scale-whole tieRule 24 (lit< tt) (w .low * X) 64
       where
         regroup : (m X E A l Q B D T : ℕ) → T ≡ E * A → A ≡ B * D → m * E ≡ l * Q → m * X * T * 1 ≡ l * X * B * (Q * D)
         regroup m X E A l Q B D T t a e =
@@ -145,11 +154,11 @@ module _ (f : Factor) (s : Sound f) (n : f .precision .bits ≡ 24) where
     first-least = go (w .low) refl
       where
         go : (l : ℕ) → w .low ≡ l → (u ≡ 0) ⊎ (2 ^ 23 ≤ u)
-        go zero e = inl (ap (λ (z : ℕ). rn toEven 24 (z * X) 1) e ∙ ap (λ (z : ℕ). rn toEven 24 z 1) (nothing X) ∙ rn-whole-small toEven 24 (lit< tt) 0 (omega arith))
+        go zero e = inl (ap (λ (z : ℕ). rn tieRule 24 (z * X) 1) e ∙ ap (λ (z : ℕ). rn tieRule 24 z 1) (nothing X) ∙ rn-whole-small tieRule 24 (lit< tt) 0 (omega arith))
           where
             nothing : (X : ℕ) → 0 * X ≡ 0
             nothing X = omega arith
-        go (suc l) e = inr (rn-ge toEven 24 (lit< tt) (w .low * X) 1 (2 ^ 23) 0 (lit< tt) (omega arith) (subst (λ (z : ℕ). 2 ^ 23 * 2 ^ 0 * 1 ≤ z * X) (sym e) (at-least l X (xb .least))))
+        go (suc l) e = inr (rn-ge tieRule 24 (lit< tt) (w .low * X) 1 (2 ^ 23) 0 (lit< tt) (omega arith) (subst (λ (z : ℕ). 2 ^ 23 * 2 ^ 0 * 1 ≤ z * X) (sym e) (at-least l X (xb .least))))
           where
             at-least : (l X : ℕ) → 2 ^ 23 ≤ X → 2 ^ 23 * 2 ^ 0 * 1 ≤ suc l * X
             at-least l X h = let one : 1 ≤ suc l = omega arith in omega (arith, mul-le-mul-right X one)

@@ -2,16 +2,15 @@
 -- the exact Ch * x + u1 rounded once to binary32. Assumes nothing.
 use mathlib.Core.Path.{_≡_, refl, sym, ap, _∙_, subst}
 use mathlib.Core.Bool.{false}
-use Prim.Native.Nat.{ℕ, _+_, _-_, _*_, _^_, _≤_, _<_}
+use Prim.Native.Nat.{ℕ, _-_, _*_, _^_, _≤_, _<_}
 use native.Mathlib.Nat.{mul-le-mul, mul-le-mul-right, le-of-mul-le-mul-right, le-of-lt}
 use native.Mathlib.Omega.{arith}
-use lib.Dec.{T, lit<, lit≤}
+use lib.Dec.{T, lit≤}
 use lib.Pow.{pow-pos}
 use lib.Ieee
 use lib.Ieee.{Float, binary32, mul, down, fits}
 use lib.Ieee.Exact.{HasValue}
 use lib.Ieee.Fits.{down-pos}
-use Rattle.rounding.specs.Grid.{toEven}
 use Rattle.rounding.specs.Round.{rounded}
 use Rattle.rounding.specs.RoundLaws.{HasBits}
 use Rattle.rounding.specs.Fraction.{Fraction}
@@ -19,34 +18,39 @@ use Rattle.rounding.specs.FractionLaws.{Counts}
 use Rattle.rounding.specs.Ieee.{revalue, InRange, rounded-is-ieee}
 use Rattle.factor.specs.declared.Factor.{Factor}
 use Rattle.factor.specs.declared.Parts.{Parts}
+use Rattle.factor.specs.Precision.{scaleOf}
+use Rattle.factor.specs.Context.{tieRule, contextAt, lowerOf}
 use Rattle.factor.specs.Parts.{partsAt}
 use Rattle.factor.specs.Whole.{End, Whole, whole, wholeOf}
 use Rattle.factor.specs.PartsLaws.{whole-of-parts}
-use Rattle.factor.specs.SetUp.{Sound, partsOf}
+use Rattle.factor.specs.SetUp.{Sound}
 use Rattle.product.specs.Product.{first, fused, product, productBy, valueOf}
 use Rattle.product.specs.Units.{firstUnits, fusedUnits}
 use Rattle.product.specs.ProductLaws.{first-counts, fused-counts, fused-least, fused-near, product-value}
-use Rattle.reading.specs.FirstLaws.{unlike-plus, low-number, first-float}
+use Rattle.reading.specs.FirstLaws.{K24, fine-24, unlike-plus, low-number, first-float}
 
 -- ---- at an end c
-module _ (c : ℕ) (ce : End 62 c) (X : ℕ) (xb : HasBits 24 X) where
+module _ (c : ℕ) (ce : End K24 c) (X : ℕ) (xb : HasBits 24 X) where
   abbrev y : Fraction
-  y = fused toEven 24 (partsAt toEven 24 62 c) X
+  y = fused K24 (partsAt K24 c) X
 
-  counts : Counts (2 ^ 85) false (fusedUnits toEven 24 62 (whole toEven 24 62 c) X) y
-  counts = fused-counts toEven 24 62 (lit< tt) (lit≤ tt) c ce X (xb .most)
+  counts : Counts (2 ^ 85) false (fusedUnits K24 (whole K24 c) X) y
+  unfolding scaleOf tieRule
+  counts = fused-counts K24 fine-24 c ce X (xb .most)
 
   -- from 1 to below 8
   from-one : y .den ≤ y .num
+  unfolding scaleOf tieRule
   from-one =
-      let U = fusedUnits toEven 24 62 (whole toEven 24 62 c) X in
-      let u : 2 ^ 85 ≤ U = omega (arith, fused-least toEven 24 62 (lit< tt) (lit≤ tt) c ce X (xb .most), xb .least) in
+      let U = fusedUnits K24 (whole K24 c) X in
+      let u : 2 ^ 85 ≤ U = omega (arith, fused-least K24 fine-24 c ce X (xb .most), xb .least) in
       le-of-mul-le-mul-right {k = 2 ^ 85} (omega (arith, counts .count, mul-le-mul-right (y .den) u)) (pow-pos 85)
 
   to-eight : y .num ≤ 8 * y .den
+  unfolding scaleOf tieRule
   to-eight =
-      let U = fusedUnits toEven 24 62 (whole toEven 24 62 c) X in
-      let u : U ≤ 2 ^ 88 = omega (arith, fused-near toEven 24 62 (lit< tt) (lit≤ tt) c ce X (xb .most) .0, mul-le-mul (le-of-lt (ce .to)) (le-of-lt (xb .most))) in
+      let U = fusedUnits K24 (whole K24 c) X in
+      let u : U ≤ 2 ^ 88 = omega (arith, fused-near K24 fine-24 c ce X (xb .most) .0, mul-le-mul (le-of-lt (ce .to)) (le-of-lt (xb .most))) in
       le-of-mul-le-mul-right {k = 2 ^ 85} (omega (arith, counts .count, mul-le-mul-right (y .den) u)) (pow-pos 85)
 
   in-range : InRange binary32 (y .num) (y .den)
@@ -58,33 +62,37 @@ module _ (c : ℕ) (ce : End 62 c) (X : ℕ) (xb : HasBits 24 X) where
       most : (N d a b : ℕ) → N ≤ 8 * d → 8 * a ≤ b → N * a ≤ b * d
       most N d a b h k = omega (arith, mul-le-mul-right a h, mul-le-mul-right d k)
 
-  fused-at : let v = product toEven 24 (partsAt toEven 24 62 c) X in HasValue (Ieee.round binary32 false (y .num) (y .den)) false (v .significand * 2 ^ v .binade) (2 ^ 23)
+  fused-at : let v = product K24 (partsAt K24 c) X in HasValue (Ieee.round binary32 false (y .num) (y .den)) false (v .significand * 2 ^ v .binade) (2 ^ 23)
+  unfolding scaleOf tieRule
   fused-at =
-      let r = rounded toEven 24 (y .num) (y .den) in
+      let r = rounded tieRule 24 (y .num) (y .den) in
       let x = Ieee.round binary32 false (y .num) (y .den) in
-      let v = valueOf 24 (product toEven 24 (partsAt toEven 24 62 c) X) in
-      revalue x false _ (down (r .exponent)) (v .num) (v .den) (down-pos (r .exponent)) (product-value toEven 24 62 (lit< tt) (lit≤ tt) c ce X (xb .most) (xb .least) .1) (rounded-is-ieee binary32 false (y .num) (y .den) (counts .some) in-range)
+      let v = valueOf 24 (product K24 (partsAt K24 c) X) in
+      revalue x false _ (down (r .exponent)) (v .num) (v .den) (down-pos (r .exponent)) (product-value K24 fine-24 c ce X (xb .most) (xb .least) .1) (rounded-is-ieee binary32 false (y .num) (y .den) (counts .some) in-range)
 
-  first-count : let u = first toEven 24 (partsAt toEven 24 62 c) X in (0 < u .den) × (u .num * 2 ^ 85 ≡ firstUnits toEven 24 (wholeOf 62 (partsAt toEven 24 62 c)) X * u .den)
+  first-count : let u = first K24 (partsAt K24 c) X in (0 < u .den) × (u .num * 2 ^ 85 ≡ firstUnits K24 (wholeOf K24 (partsAt K24 c)) X * u .den)
+  unfolding scaleOf tieRule
   first-count =
-      let u = first toEven 24 (partsAt toEven 24 62 c) X in
-      let k = first-counts toEven 24 62 (lit< tt) (lit≤ tt) c ce X (xb .most) in
-      (k .some, k .count ∙ ap (λ (w : Whole). firstUnits toEven 24 w X * u .den) (whole-of-parts toEven 24 62 (lit< tt) (lit≤ tt) c ce))
+      let u = first K24 (partsAt K24 c) X in
+      let k = first-counts K24 fine-24 c ce X (xb .most) in
+      (k .some, k .count ∙ ap (λ (w : Whole). firstUnits K24 w X * u .den) (whole-of-parts K24 fine-24 c ce))
 
 -- ---- of a factor that was accepted, with n = 24
 module _ (f : Factor) (s : Sound f) (n : f .precision .bits ≡ 24) (X : ℕ) (xb : HasBits 24 X) where
-  parts-24 : f .parts ≡ partsAt toEven 24 62 (f .lower)
-  unfolding partsOf
-  parts-24 = s .parts ∙ ap (λ (b : ℕ). partsAt toEven b 62 (f .lower)) n
+  parts-24 : f .parts ≡ partsAt K24 (f .lower)
+  parts-24 = s .parts ∙ ap (λ (b : ℕ). partsAt (contextAt b) (lowerOf f)) n
+
+  end-24 : End K24 (lowerOf f)
+  end-24 = subst (λ (b : ℕ). End (contextAt b) (lowerOf f)) n (s .lower-end)
 
   -- u1 as document 01 has it is what one binary32 multiplication gives
-  pub first-is : (y : Float) → T (fits binary32 (f .applied .low)) → HasValue y false X (2 ^ 23) → let u1 = first toEven 24 (f .parts) X in HasValue (mul binary32 (f .applied .low) y) (u1 .minus) (u1 .num) (u1 .den)
+  pub first-is : (y : Float) → T (fits binary32 (f .applied .low)) → HasValue y false X (2 ^ 23) → let u1 = first K24 (f .parts) X in HasValue (mul binary32 (f .applied .low) y) (u1 .minus) (u1 .num) (u1 .den)
   first-is y h v =
-      let u1 = first toEven 24 (f .parts) X in
+      let u1 = first K24 (f .parts) X in
       let w = mul binary32 (f .applied .low) y in
-      let u = firstUnits toEven 24 (wholeOf 62 (f .parts)) X in
+      let u = firstUnits K24 (wholeOf K24 (f .parts)) X in
       let k : (0 < u1 .den) × (u1 .num * 2 ^ 85 ≡ u * u1 .den) =
-      subst (λ (p : Parts). (0 < first toEven 24 p X .den) × (first toEven 24 p X .num * 2 ^ 85 ≡ firstUnits toEven 24 (wholeOf 62 p) X * first toEven 24 p X .den)) (sym parts-24) (first-count (f .lower) (s .lower-end) X xb) in
+      subst (λ (p : Parts). (0 < first K24 p X .den) × (first K24 p X .num * 2 ^ 85 ≡ firstUnits K24 (wholeOf K24 p) X * first K24 p X .den)) (sym parts-24) (first-count (lowerOf f) end-24 X xb) in
       subst (λ b. HasValue w b (u1 .num) (u1 .den)) (sym (unlike-plus _))
       (revalue w _ (u * 2 ^ 64) (2 ^ 149) (u1 .num) (u1 .den) (pow-pos 149) (regroup u (u1 .num) (u1 .den) (2 ^ 64) (2 ^ 85) (2 ^ 149) refl (k .1)) (first-float f s n X xb (f .applied .low) y (low-number f s n h) v))
     where
@@ -92,7 +100,7 @@ module _ (f : Factor) (s : Sound f) (n : f .precision .bits ≡ 24) (X : ℕ) (x
       regroup u N d A B U t e = let x : N * U ≡ N * (A * B) = ap (λ (z : ℕ). N * z) t in let z : N * B * A ≡ u * d * A = ap (λ (z : ℕ). z * A) e in omega (arith, x, z)
 
   -- u2 is the exact sum, rounded once
-  pub fused-is : let y = fused toEven 24 (f .parts) X in let v = productBy f X in HasValue (Ieee.round binary32 false (y .num) (y .den)) false (v .significand * 2 ^ v .binade) (2 ^ 23)
+  pub fused-is : let y = fused K24 (f .parts) X in let v = productBy f X in HasValue (Ieee.round binary32 false (y .num) (y .den)) false (v .significand * 2 ^ v .binade) (2 ^ 23)
   fused-is =
-      subst (λ (b : ℕ). HasValue (Ieee.round binary32 false (fused toEven 24 (f .parts) X .num) (fused toEven 24 (f .parts) X .den)) false (product toEven b (f .parts) X .significand * 2 ^ product toEven b (f .parts) X .binade) (2 ^ 23)) (sym n)
-      (subst (λ (p : Parts). HasValue (Ieee.round binary32 false (fused toEven 24 p X .num) (fused toEven 24 p X .den)) false (product toEven 24 p X .significand * 2 ^ product toEven 24 p X .binade) (2 ^ 23)) (sym parts-24) (fused-at (f .lower) (s .lower-end) X xb))
+      subst (λ (b : ℕ). HasValue (Ieee.round binary32 false (fused K24 (f .parts) X .num) (fused K24 (f .parts) X .den)) false (product (contextAt b) (f .parts) X .significand * 2 ^ product (contextAt b) (f .parts) X .binade) (2 ^ 23)) (sym n)
+      (subst (λ (p : Parts). HasValue (Ieee.round binary32 false (fused K24 p X .num) (fused K24 p X .den)) false (product K24 p X .significand * 2 ^ product K24 p X .binade) (2 ^ 23)) (sym parts-24) (fused-at (lowerOf f) end-24 X xb))

@@ -9,8 +9,8 @@ ghost use lib.Dec.{T};
 ghost use lib.IntN.{pos, _+ℤ_};
 ghost use lib.Ieee.{binary32, isNan, toBits};
 ghost use Rattle.marks.specs.Answers.{accepted, answer};
-ghost use Rattle.rounding.specs.Grid.{toEven};
 ghost use Rattle.rounding.specs.RoundLaws.{HasBits};
+ghost use Rattle.factor.specs.Context.{contextAt};
 ghost use Rattle.factor.specs.Whole.{wholeOf};
 ghost use Rattle.factor.specs.SetUp.{scaleOut, Sound};
 ghost use Rattle.product.specs.Product.{productBy};
@@ -69,7 +69,7 @@ fn units_of(u: f32) -> u64
 // u1 = RN(Cl * x): one binary32 multiplication on [1, 2).
 fn first_step(f: Factor, x: u32) -> u64
     requires { ⌜ Sound f × (f .precision .bits ≡ 24) × HasBits 24 x ⌝ }
-    ensures { λ r. ⌜ r ≡ firstUnits toEven 24 (wholeOf 62 (f .parts)) x ⌝ }
+    ensures { λ r. ⌜ r ≡ firstUnits (contextAt 24) (wholeOf (contextAt 24) (f .parts)) x ⌝ }
 {
     let low = f.applied.low;
     units_of(low * factor::float_of(false, UNIT_FIELD, x))

@@ -85,7 +85,7 @@ module _ (f : Factor) (whole : intact f ≡ true) where
 
   least-most : (2 ^ (n - 1) ≤ 2 ^ n - 1) × (2 ^ n - 1 < 2 ^ n)
   least-most =
-      let m : n ≡ suc (n - 1) = omega (arith, sound .fewest) in
+      let m : n ≡ suc (n - 1) = omega (arith, sound .precision) in
       let p : 1 ≤ 2 ^ (n - 1) = pow-pos (n - 1) in
       let d : 2 ^ n ≡ 2 ^ (n - 1) * 2 = ap (λ (k : ℕ). 2 ^ k) m ∙ pow-suc 2 (n - 1) in
       (omega arith, omega arith)
@@ -111,7 +111,7 @@ module _ (f : Factor) (whole : intact f ≡ true) where
   begun-counted =
       let l = least-most in
       let a = ascends-few (2 ^ (n - 1)) (suc (2 ^ n - 1)) (leftOf (begunWith f .state)) (row-ascends (suspect f) (2 ^ (n - 1)) (suc (2 ^ n - 1))) in
-      let b : 2 ^ n ≤ 2 ^ 24 = pow-mono (sound .most) in
+      let b : 2 ^ n ≤ 2 ^ 24 = pow-mono (sound .precision .most) in
       record { few = omega arith; failing = omega arith }
 
   pub begun-left : suspectsOf f ≡ leftOf (begunWith f .state)

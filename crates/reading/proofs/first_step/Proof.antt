@@ -8,9 +8,9 @@ use lib.Ieee.Bits.{ofBits-toBits}
 use lib.Ieee.Exact.{HasValue}
 use lib.Ieee.Fits.{mul-fits}
 use borrow.Author.Needs.{needs}
-use Rattle.rounding.specs.Grid.{toEven}
 use Rattle.rounding.specs.Signed.{negative}
 use Rattle.rounding.specs.Binary32.{value-number}
+use Rattle.factor.specs.Context.{contextAt}
 use Rattle.factor.specs.Whole.{wholeOf}
 use Rattle.product.specs.Units.{firstUnits}
 use Rattle.reading.specs.FirstLaws.{Told, told, low-number, significand-value, first-float, first-small, first-least}
@@ -24,7 +24,7 @@ float-of-requires c κs = let b = c .pre .2 in (b .least, omega (arith, b .most)
 abbrev u1 : tie.After-float-of → Float
 u1 c = mul binary32 (c .before .args .f .applied .low) (c .float-of .result)
 
-value : (c : tie.After-float-of) → let a = c .before in HasValue (u1 c) (negative (a .args .f .parts .low)) (firstUnits toEven 24 (wholeOf 62 (a .args .f .parts)) (a .args .x) * 2 ^ 64) (2 ^ 149)
+value : (c : tie.After-float-of) → let a = c .before in HasValue (u1 c) (negative (a .args .f .parts .low)) (firstUnits (contextAt 24) (wholeOf (contextAt 24) (a .args .f .parts)) (a .args .x) * 2 ^ 64) (2 ^ 149)
 value c =
     let a = c .before in
     let f = a .args .f in
@@ -33,12 +33,12 @@ value c =
     let y : HasValue (c .float-of .result) _ x (2 ^ 23) = subst (λ (z : Float). HasValue z _ x (2 ^ 23)) (sym (c .float-of .ensures)) (significand-value x (a .pre .2 .most)) in
     first-float f (a .pre .0) (a .pre .1) x (a .pre .2) (f .applied .low) (c .float-of .result) (low-number f (a .pre .0) (a .pre .1) fit) y
 
-bits-tell : (c : tie.After-float-of) → let a = c .before in let f = a .args .f in Told (toBits binary32 (u1 c)) (firstUnits toEven 24 (wholeOf 62 (f .parts)) (a .args .x))
+bits-tell : (c : tie.After-float-of) → let a = c .before in let f = a .args .f in Told (toBits binary32 (u1 c)) (firstUnits (contextAt 24) (wholeOf (contextAt 24) (f .parts)) (a .args .x))
 bits-tell c =
     let a = c .before in
     let f = a .args .f in
     let x = a .args .x in
-    let u = firstUnits toEven 24 (wholeOf 62 (f .parts)) x in
+    let u = firstUnits (contextAt 24) (wholeOf (contextAt 24) (f .parts)) x in
     told (toBits binary32 (u1 c)) u (negative (f .parts .low))
     (subst (λ (z : Float). HasValue z (negative (f .parts .low)) (u * 2 ^ 64) (2 ^ 149)) (sym (ofBits-toBits binary32 (u1 c) (mul-fits binary32 (f .applied .low) (c .float-of .result)))) (value c))
     (first-small f (a .pre .0) (a .pre .1) x (a .pre .2)) (first-least f (a .pre .0) (a .pre .1) x (a .pre .2))

@@ -2,8 +2,8 @@
 use mathlib.Core.Path.{sym, ap, _∙_, subst}
 use Prim.Native.Nat.{ℕ}
 use borrow.Author.Needs.{needs}
-use Rattle.rounding.specs.Grid.{toEven}
 use Rattle.rounding.specs.RoundLaws.{HasBits}
+use Rattle.factor.specs.Context.{contextAt}
 use Rattle.factor.specs.Whole.{wholeOf}
 use Rattle.product.specs.Units.{firstUnits}
 use Rattle.reading.specs.Reading.{significandOf}
@@ -25,7 +25,7 @@ second-step-requires c κs =
     let a = c .before in (
       a .pre .0,
       subst (λ (n : ℕ). HasBits n (significandOf (a .args .bits))) (sym (a .pre .1)) (significand-bits (a .args .bits)),
-      c .first-step .ensures ∙ ap (λ (n : ℕ). firstUnits toEven n (wholeOf 62 (a .args .f .parts)) (significandOf (a .args .bits))) (sym (a .pre .1)),
+      c .first-step .ensures ∙ ap (λ (n : ℕ). firstUnits (contextAt n) (wholeOf (contextAt n) (a .args .f .parts)) (significandOf (a .args .bits))) (sym (a .pre .1)),
     )
 
 returns : tie.Need-returns
