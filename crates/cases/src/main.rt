@@ -28,7 +28,7 @@ use sweep::SweepState;
 ghost use Prim.Native.Nat.{_<_, _≤_, _^_};
 ghost use lib.ListN.{length};
 ghost use Rattle.factor.specs.SetUp.{Sound};
-ghost use Rattle.search.specs.Search.{halfWord};
+ghost use Rattle.wide.specs.Value.{halfWord};
 
 // A line of the input: from its first byte up to its line feed.
 struct Line {

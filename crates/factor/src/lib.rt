@@ -8,6 +8,7 @@ ghost use lib.Dec.{T, ltb};
 ghost use lib.Ieee;
 ghost use lib.Ieee.{binary32, isNan};
 ghost use lib.IntN.{natAbs};
+ghost use Rattle.wide.specs.Value.{halfWord};
 ghost use Rattle.rounding.specs.Apart.{apart};
 ghost use Rattle.rounding.specs.Signed.{negative, signedOf};
 ghost use Rattle.factor.specs.Precision.{Kept, scaleOf, roundsOf, precisionOut, newPrecision, precisionSays, leastOf, mostOf};
@@ -175,7 +176,7 @@ impl Precision {
 
 // C - Ch in the unit of the ends, signed.
 fn rest_of(end: u64, whole: u64) -> i64
-    requires { ⌜ apart end whole < 2 ^ 63 ⌝ }
+    requires { ⌜ apart end whole < halfWord ⌝ }
     ensures { λ r. ⌜ r ≡ signedOf (ltb end whole) (apart end whole) ⌝ }
 {
     if end < whole {

@@ -1,14 +1,10 @@
 -- The search by remainders (document 01, "Suspects and rounds"): of the places k = 0, 1, 2, .. the least whose remainder, k * step modulo m,
 -- lies in a window l to r, both included, with the rounds that are counted on the way. Definitions only.
-use Prim.Native.Nat.{ℕ, zero, suc, _+_, _-_, _*_, _/_, _%_, _^_}
+use Prim.Native.Nat.{ℕ, zero, suc, _+_, _-_, _*_, _/_, _%_}
 use native.Mathlib.Decide.{decLe, decLt, ℕ-discrete}
 use Rattle.search.specs.declared.Place.{Place}
 use Rattle.search.specs.declared.Place.the-variants.{At, Nowhere}
 use Rattle.search.specs.declared.Found.{Found}
-
--- half of what a word holds: two numbers up to it may be added
-abbrev pub halfWord : ℕ
-halfWord = 2 ^ 63
 
 -- a / s, rounded up: the least k with a ≤ k * s
 unfoldable pub ceilDiv : (a s : ℕ) → ℕ

@@ -1,7 +1,8 @@
 // The search by remainders (document 01, "Suspects and rounds"): the least place whose remainder lies in a window.
 ghost use mathlib.Core.Path.{_≡_};
 ghost use Prim.Native.Nat.{_≤_, _<_};
-ghost use Rattle.search.specs.Search.{halfWord, searchWindow, shift, searchFrom};
+ghost use Rattle.wide.specs.Value.{halfWord};
+ghost use Rattle.search.specs.Search.{searchWindow, shift, searchFrom};
 ghost use Rattle.search.specs.Cases.{Ready};
 ghost use Rattle.search.specs.Trace.{wound, unwound, WindsBelow, mirrorBack, roundBack, Below};
 

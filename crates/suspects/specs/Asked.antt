@@ -7,7 +7,7 @@ use lib.Pow.{pow-pos, pow-mono}
 use Rattle.factor.specs.Context.{Context, contextOf, lowerOf, upperOf, fine-at}
 use Rattle.factor.specs.declared.Factor.{Factor}
 use Rattle.factor.specs.SetUp.{Sound}
-use Rattle.search.specs.Search.{halfWord}
+use Rattle.wide.specs.Value.{halfWord}
 use Rattle.suspects.specs.Suspects.{windowW, widening}
 use Rattle.suspects.specs.Window.{room}
 use Rattle.suspects.specs.Next.{soughtNear, halves, Askable}

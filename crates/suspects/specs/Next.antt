@@ -3,10 +3,11 @@
 use mathlib.Core.Path.{_≡_}
 use mathlib.Core.Bool.{Bool, true, false}
 use Prim.Native.Nat.{ℕ, _+_, _-_, _*_, _%_, _^_, _≤_, _<_}
+use Rattle.wide.specs.Value.{halfWord}
 use Rattle.search.specs.declared.Place.{Place}
 use Rattle.search.specs.declared.Place.the-variants.{At, Nowhere}
 use Rattle.search.specs.declared.Found.{Found}
-use Rattle.search.specs.Search.{halfWord, ceilDiv, searchFrom}
+use Rattle.search.specs.Search.{ceilDiv, searchFrom}
 use Rattle.factor.specs.Context.{Context}
 use Rattle.suspects.specs.declared.Sought.{Sought}
 use Rattle.suspects.specs.declared.Halves.{Halves}

@@ -6,7 +6,7 @@ ghost use mathlib.Core.Path.{_≡_};
 ghost use Prim.Native.Nat.{_+_, _-_, _*_, _%_, _≤_, _<_, _^_};
 ghost use Rattle.factor.specs.Context.{contextOf, lowerOf, upperOf};
 ghost use Rattle.factor.specs.SetUp.{Sound};
-ghost use Rattle.search.specs.Search.{halfWord};
+ghost use Rattle.wide.specs.Value.{halfWord};
 ghost use Rattle.suspects.specs.Next.{soughtNear, soughtIn, nextIn, firstHigh, halves, Askable};
 
 // What is sought in a half: remainders from `from` to `to`, both included, of the multiples of the step modulo the modulus.

@@ -11,7 +11,7 @@ ghost use Prim.Native.Nat.{_+_, _≤_, _<_, _^_, min, max};
 ghost use lib.ListN.{length};
 ghost use Rattle.search.specs.declared.Place.the-variants.{Nowhere};
 ghost use Rattle.factor.specs.Precision.{Kept};
-ghost use Rattle.search.specs.Search.{halfWord};
+ghost use Rattle.wide.specs.Value.{halfWord};
 ghost use Rattle.suspects.specs.Next.{Askable};
 ghost use Rattle.marks.specs.AnswerLaws.{First};
 ghost use Rattle.calls.specs.Call.{newState, conditions, sweepCall};

@@ -8,7 +8,7 @@ use borrow.Author.Needs.{needs}
 use Rattle.factor.specs.declared.Factor.{Factor}
 use Rattle.factor.specs.Context.{Context, contextOf, lowerOf, upperOf}
 use Rattle.factor.specs.SetUp.{Sound}
-use Rattle.search.specs.Search.{halfWord}
+use Rattle.wide.specs.Value.{wordBits, halfWord}
 use Rattle.suspects.specs.Suspects.{windowW, widening}
 use Rattle.suspects.specs.Next.{soughtNear}
 use Rattle.suspects.specs.Asked.{fits}
@@ -27,7 +27,7 @@ module _ (f : Factor) (sound : Sound f) {power : ℕ} (is : power ≡ 2 ^ f .pre
   window-fits {d = d} w h low high = (
     omega (arith, pow-pos (E - n)),
     omega (arith, fits f sound, widened, pow-mono {i = E - 1} {j = d - 1} (omega arith)),
-    omega (arith, h, pow-succ' 2 (d - 1), pow-mono {i = suc (d - 1)} {j = 63} (omega (arith, sound .precision))),
+    omega (arith, h, pow-succ' 2 (d - 1), pow-mono {i = suc (d - 1)} {j = wordBits - 1} (omega (arith, sound .precision))),
   )
 
 window-requires : tie.Need-window-requires
