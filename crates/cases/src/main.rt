@@ -28,6 +28,7 @@ use sweep::SweepState;
 ghost use Prim.Native.Nat.{_<_, _≤_, _^_};
 ghost use lib.ListN.{length};
 ghost use Rattle.factor.specs.SetUp.{Sound};
+ghost use Rattle.wide.specs.Value.{halfWord};
 
 // A line of the input: from its first byte up to its line feed.
 struct Line {
@@ -351,7 +352,7 @@ fn read(f: Factor, bits: u64) {
 
 // The next suspect of a factor that was accepted.
 fn next(f: Factor, high: bool, x: u64) -> Found
-    requires { ⌜ Sound f × (x ≤ 2 ^ 63) ⌝ }
+    requires { ⌜ Sound f × (x ≤ halfWord) ⌝ }
 {
     let halves = suspects::prepare(f);
     let low_half = halves.low;

@@ -6,10 +6,10 @@ use lib.IntN.{ℤ, pos, negℤ, natAbs, _+ℤ_, _-ℤ_, +ℤ-comm, +ℤ-assoc, +
 use lib.Pow.{pow-pos}
 use Rattle.rounding.specs.declared.Rounded.{Rounded}
 use Rattle.rounding.specs.declared.RoundedSigned.{RoundedSigned}
-use Rattle.rounding.specs.Grid.{Rule}
 use Rattle.rounding.specs.Round.{rounded}
 use Rattle.rounding.specs.RoundLaws.{shifted, rounded-same, rounded-scale}
 use Rattle.rounding.specs.Signed.{negative, signedOf, roundedSigned}
+use Rattle.factor.specs.Context.{Context, Fine}
 use Rattle.factor.specs.Whole.{partsFrom}
 use Rattle.factor.specs.LowForm.{low-form}
 
@@ -21,38 +21,42 @@ back a b =
     ∙ ap (λ (z : ℤ). z +ℤ negℤ b) (+ℤ-invr a)
     ∙ +ℤ-idl (negℤ b)
 
--- a whole number rounded, and the same number over 2 ^ E
-scaled : (rule : Rule) (n E R : ℕ) → 0 < n → 0 < R → rounded rule n R 1 ≡ shifted E (rounded rule n R (2 ^ E))
-scaled rule n E R P h = rounded-same rule n P R 1 (R * 2 ^ E) (2 ^ E) (omega arith) (pow-pos E) (omega arith) ∙ rounded-scale rule n P R (2 ^ E) E h (pow-pos E)
+module _ (K : Context) (ok : Fine K) where
+  open Context K using (rule, n, E)
+  open Fine ok using (some as P)
 
--- no rest
-pub parts-none : (rule : Rule) (n E h : ℕ) (z : ℤ) (r : RoundedSigned) → r ≡ roundedSigned rule n z → natAbs z ≡ 0 → (r .significand ≡ partsFrom rule n E h z .low) × (0 ≡ partsFrom rule n E h z .places)
-unfolding roundedSigned partsFrom rounded
-parts-none rule n E h z r e m = (
-  ap (λ (q : RoundedSigned). q .significand) e ∙ ap (λ (k : ℕ). signedOf (negative z) (rounded rule n k 1 .significand)) m ∙ ap (λ (k : ℕ). signedOf (negative z) (rounded rule n k (2 ^ E) .significand)) (sym m),
-  ap (λ (k : ℕ). natAbs (rounded rule n k (2 ^ E) .exponent)) (sym m),
-)
+  -- a whole number rounded, and the same number over 2 ^ E
+  scaled : (R : ℕ) → 0 < R → rounded rule n R 1 ≡ shifted E (rounded rule n R (2 ^ E))
+  scaled R h = rounded-same rule n P R 1 (R * 2 ^ E) (2 ^ E) (omega arith) (pow-pos E) (omega arith) ∙ rounded-scale rule n P R (2 ^ E) E h (pow-pos E)
 
--- a rest, at most half a step
-pub record Placed (n E : ℕ) (r : RoundedSigned) (low : ℤ) (places : ℕ) : Type 0 where
-  pub significand : r .significand ≡ low
-  pub exponent : pos E -ℤ r .exponent ≡ pos places
-  pub few : places < E + n
+  -- no rest
+  pub parts-none : (h : ℕ) (z : ℤ) (r : RoundedSigned) → r ≡ roundedSigned rule n z → natAbs z ≡ 0 → (r .significand ≡ partsFrom K h z .low) × (0 ≡ partsFrom K h z .places)
+  unfolding roundedSigned partsFrom rounded
+  parts-none h z r e m = (
+    ap (λ (q : RoundedSigned). q .significand) e ∙ ap (λ (k : ℕ). signedOf (negative z) (rounded rule n k 1 .significand)) m ∙ ap (λ (k : ℕ). signedOf (negative z) (rounded rule n k (2 ^ E) .significand)) (sym m),
+    ap (λ (k : ℕ). natAbs (rounded rule n k (2 ^ E) .exponent)) (sym m),
+  )
 
-pub parts-some : (rule : Rule) (n E h : ℕ) → 0 < n → 2 * n ≤ E → (z : ℤ) (r : RoundedSigned) → r ≡ roundedSigned rule n z → 0 < natAbs z → natAbs z ≤ 2 ^ (E - n)
-    → Placed n E r (partsFrom rule n E h z .low) (partsFrom rule n E h z .places)
-unfolding roundedSigned partsFrom
-parts-some rule n E h P F z r e m w =
-    let t = scaled rule n E (natAbs z) P m in
-    let f = low-form rule n E P F (natAbs z) m w in
-    let x : r .exponent ≡ negℤ (pos (f .places)) +ℤ pos E = ap (λ (q : RoundedSigned). q .exponent) e ∙ ap (λ (q : Rounded). q .exponent) t ∙ ap (λ (k : ℤ). k +ℤ pos E) (f .exponent) in
-    let q : f .places ≡ natAbs (rounded rule n (natAbs z) (2 ^ E) .exponent) = sym (ap natAbs (f .exponent) ∙ abs-negated (f .places)) in
-    record {
-      significand = ap (λ (y : RoundedSigned). y .significand) e ∙ ap (λ (y : Rounded). signedOf (negative z) (y .significand)) t;
-      exponent = ap (λ (k : ℤ). pos E -ℤ k) x ∙ back (pos E) (negℤ (pos (f .places))) ∙ negℤ-negℤ (pos (f .places)) ∙ ap pos q;
-      few = rw (sym q) (f .most);
-    }
-  where
-    abs-negated : (q : ℕ) → natAbs (negℤ (pos q)) ≡ q
-    abs-negated Prim.Native.Nat.zero = refl
-    abs-negated (Prim.Native.Nat.suc q) = refl
+  -- a rest, at most half a step
+  pub record Placed (r : RoundedSigned) (low : ℤ) (places : ℕ) : Type 0 where
+    pub significand : r .significand ≡ low
+    pub exponent : pos E -ℤ r .exponent ≡ pos places
+    pub few : places < E + n
+
+  pub parts-some : (h : ℕ) (z : ℤ) (r : RoundedSigned) → r ≡ roundedSigned rule n z → 0 < natAbs z → natAbs z ≤ 2 ^ (E - n)
+      → Placed r (partsFrom K h z .low) (partsFrom K h z .places)
+  unfolding roundedSigned partsFrom
+  parts-some h z r e m w =
+      let t = scaled (natAbs z) m in
+      let f = low-form K ok (natAbs z) m w in
+      let x : r .exponent ≡ negℤ (pos (f .places)) +ℤ pos E = ap (λ (q : RoundedSigned). q .exponent) e ∙ ap (λ (q : Rounded). q .exponent) t ∙ ap (λ (k : ℤ). k +ℤ pos E) (f .exponent) in
+      let q : f .places ≡ natAbs (rounded rule n (natAbs z) (2 ^ E) .exponent) = sym (ap natAbs (f .exponent) ∙ abs-negated (f .places)) in
+      record {
+        significand = ap (λ (y : RoundedSigned). y .significand) e ∙ ap (λ (y : Rounded). signedOf (negative z) (y .significand)) t;
+        exponent = ap (λ (k : ℤ). pos E -ℤ k) x ∙ back (pos E) (negℤ (pos (f .places))) ∙ negℤ-negℤ (pos (f .places)) ∙ ap pos q;
+        few = rw (sym q) (f .most);
+      }
+    where
+      abs-negated : (q : ℕ) → natAbs (negℤ (pos q)) ≡ q
+      abs-negated Prim.Native.Nat.zero = refl
+      abs-negated (Prim.Native.Nat.suc q) = refl

@@ -11,64 +11,67 @@ use lib.Ieee.{size}
 use lib.Ieee.Digits.{size-lt}
 use borrow.Author.Tests.{ltb-true, ltb-false, lt-ltb, le-ltb}
 use Rattle.rounding.specs.Apart.{apart}
-use Rattle.rounding.specs.Grid.{Rule}
 use Rattle.rounding.specs.GridLaws.{nearest-mono}
 use Rattle.rounding.specs.Unit.{rn}
 use Rattle.rounding.specs.UnitLaws.{rn-mono, rn-scale-whole, rn-whole-small, rn-fixed}
 use Rattle.rounding.specs.Fraction.{Fraction, less, RN, Same}
 use Rattle.rounding.specs.FractionLaws.{Counts, RN-counts, RN-counts-fraction, less-counts, counts-finer, counts-same}
+use Rattle.factor.specs.Context.{Context, Fine}
 use Rattle.factor.specs.Parts.{highPart, lowPart, partsAt}
 use Rattle.factor.specs.Whole.{End, Whole, step, plusOrMinus, whole, worth, wholeOf}
 use Rattle.factor.specs.PartsLaws.{top-is, width-is, worth-near, high-counts, low-counts, rn-high, whole-of-parts}
 
 -- a fraction C with L ≤ C * 2 ^ E ≤ U
-pub record Between (E L U : ℕ) (C : Fraction) : Type 0 where
+pub record Between (K : Context) (L U : ℕ) (C : Fraction) : Type 0 where
   pub some : 0 < C .den
   pub sign : C .minus ≡ false
-  pub least : L * C .den ≤ C .num * 2 ^ E
-  pub most : C .num * 2 ^ E ≤ U * C .den
+  pub least : L * C .den ≤ C .num * 2 ^ K .E
+  pub most : C .num * 2 ^ K .E ≤ U * C .den
 
-module _ (rule : Rule) (n E : ℕ) (P : 0 < n) (F : 2 * n ≤ E) (L U : ℕ) (le : End E L) (ue : End E U) (same : partsAt rule n E L ≡ partsAt rule n E U) where
-  pub whole-same : whole rule n E L ≡ whole rule n E U
-  whole-same = whole-of-parts rule n E P F L le ∙ ap (wholeOf E) same ∙ sym (whole-of-parts rule n E P F U ue)
+module _ (K : Context) (ok : Fine K) (L U : ℕ) (le : End K L) (ue : End K U) (same : partsAt K L ≡ partsAt K U) where
+  open Context K using (rule, n, E)
+  open Fine ok using (some as P, room as F)
+
+  pub whole-same : whole K L ≡ whole K U
+  whole-same = whole-of-parts K ok L le ∙ ap (wholeOf K) same ∙ sym (whole-of-parts K ok U ue)
 
   -- ---- the ends are close
   pub close : U ≤ L + 2 ^ (E - 2 * n)
   close =
-      let e = ap (worth n E) whole-same in
-      omega (arith, worth-near rule n E P F L le .0, worth-near rule n E P F L le .1, worth-near rule n E P F U ue .0, worth-near rule n E P F U ue .1)
+      let e = ap (worth K) whole-same in
+      omega (arith, worth-near K ok L le .0, worth-near K ok L le .1, worth-near K ok U ue .0, worth-near K ok U ue .1)
 
   -- D ≤ W
   pub spread : (U - L) * 2 ^ n ≤ 2 ^ (E - n)
-  spread = let c : U - L ≤ 2 ^ (E - 2 * n) = omega (arith, close) in omega (arith, mul-le-mul-right (2 ^ n) c, width-is n E F)
+  spread = let c : U - L ≤ 2 ^ (E - 2 * n) = omega (arith, close) in omega (arith, mul-le-mul-right (2 ^ n) c, width-is K ok)
 
   pub narrow : (U - L) * 2 ^ (2 * n) ≤ 2 ^ E
   narrow =
       let w : 2 ^ (2 * n) ≡ 2 ^ n * 2 ^ n = ap (λ (z : ℕ). 2 ^ z) (omega arith) ∙ pow-add 2 n n in
-      omega (arith, mul-le-mul-right (2 ^ n) spread, ap (λ (z : ℕ). (U - L) * z) w, top-is n E F)
+      omega (arith, mul-le-mul-right (2 ^ n) spread, ap (λ (z : ℕ). (U - L) * z) w, top-is K ok)
 
   -- ---- a fraction between them, num / den of the unit 2 ^ - E
   module _ (num den : ℕ) (d : 0 < den) (l : L * den ≤ num) (u : num ≤ U * den) where
     abbrev p : Whole
-    p = whole rule n E L
+    p = whole K L
 
     abbrev t : ℕ
-    t = p .high * step n E
+    t = p .high * step K
 
     -- its high part
     high-between : rn rule n num den ≡ t
     high-between =
         le-antisymm
-        (le-trans (rn-mono rule n P num den U 1 d (omega arith) (omega arith)) (le-of-eq (rn-high rule n E P F U ue ∙ ap (λ (w : Whole). w .high * step n E) (sym whole-same))))
-        (le-trans (le-of-eq (sym (rn-high rule n E P F L le))) (rn-mono rule n P L 1 num den (omega arith) d (omega arith)))
+        (le-trans (rn-mono rule n P num den U 1 d (omega arith) (omega arith)) (le-of-eq (rn-high K ok U ue ∙ ap (λ (w : Whole). w .high * step K) (sym whole-same))))
+        (le-trans (le-of-eq (sym (rn-high K ok L le))) (rn-mono rule n P L 1 num den (omega arith) d (omega arith)))
 
     minus-U : ltb U t ≡ p .minus
     unfolding whole
-    minus-U = ap (λ (w : Whole). ltb U (w .high * step n E)) whole-same ∙ sym (ap (λ (w : Whole). w .minus) whole-same)
+    minus-U = ap (λ (w : Whole). ltb U (w .high * step K)) whole-same ∙ sym (ap (λ (w : Whole). w .minus) whole-same)
 
     low-U : rn rule n (apart U t) 1 ≡ p .low
     unfolding whole
-    low-U = ap (λ (w : Whole). rn rule n (apart U (w .high * step n E)) 1) whole-same ∙ sym (ap (λ (w : Whole). w .low) whole-same)
+    low-U = ap (λ (w : Whole). rn rule n (apart U (w .high * step K)) 1) whole-same ∙ sym (ap (λ (w : Whole). w .low) whole-same)
 
     -- in a finer unit, 2 ^ - (E + s)
     scaled : (a b e f s : ℕ) → 0 < e → 0 < f → a * f ≤ b * e → rn rule n (a * 2 ^ s) e ≤ rn rule n (b * 2 ^ s) f
@@ -119,7 +122,7 @@ module _ (rule : Rule) (n E : ℕ) (P : 0 < n) (F : 2 * n ≤ E) (L U : ℕ) (le
     low-between s = by-sign (ltb L t) refl minus-U s .1 refl
 
   -- ---- Ch is RN(C) and Cl is RN(C - Ch) for every fraction C between the ends
-  module _ (C : Fraction) (k : Between E L U C) where
+  module _ (C : Fraction) (k : Between K L U C) where
     abbrev N : ℕ
     N = C .num * 2 ^ E
 
@@ -134,23 +137,23 @@ module _ (rule : Rule) (n E : ℕ) (P : 0 < n) (F : 2 * n ≤ E) (L U : ℕ) (le
         let w : 2 ^ n ≤ 2 ^ E = pow-mono {i = n} {j = E} (omega arith) in
         omega (arith, k .least, mul-le-mul-right D (le .from), mul-le-mul-right D w)
 
-    high-counts-C : Counts (2 ^ E) false (p N D (k .some) (k .least) (k .most) .high * step n E) (RN rule n C)
+    high-counts-C : Counts (2 ^ E) false (p N D (k .some) (k .least) (k .most) .high * step K) (RN rule n C)
     high-counts-C = subst (λ (z : ℕ). Counts (2 ^ E) false z (RN rule n C)) (high-between N D (k .some) (k .least) (k .most)) (RN-counts-fraction rule n P E D false N C (k .some) fine C-counts)
 
-    pub high-everywhere : Same (RN rule n C) (highPart rule n E L)
-    high-everywhere = counts-same (2 ^ E) false (whole rule n E L .high * step n E) (RN rule n C) (highPart rule n E L) high-counts-C (high-counts rule n E P F L le)
+    pub high-everywhere : Same (RN rule n C) (highPart K L)
+    high-everywhere = counts-same (2 ^ E) false (whole K L .high * step K) (RN rule n C) (highPart K L) high-counts-C (high-counts K ok L le)
 
     abbrev T : ℕ
-    T = whole rule n E L .high * step n E
+    T = whole K L .high * step K
 
     abbrev A : ℕ
     A = apart N (T * D)
 
     abbrev m : Bool
-    m = whole rule n E L .minus
+    m = whole K L .minus
 
     abbrev l : ℕ
-    l = whole rule n E L .low
+    l = whole K L .low
 
     abbrev rest-C : Fraction
     rest-C = less C (RN rule n C)
@@ -164,43 +167,45 @@ module _ (rule : Rule) (n E : ℕ) (P : 0 < n) (F : 2 * n ≤ E) (L U : ℕ) (le
     low-is = low-between N D (k .some) (k .least) (k .most)
 
     -- C is Ch
-    none-left : A ≡ 0 → Same (RN rule n rest-C) (lowPart rule n E L)
+    none-left : A ≡ 0 → Same (RN rule n rest-C) (lowPart K L)
     none-left e =
         let c = rest-counts-C in
         let z : rest-C .num ≡ 0 = eq-of-mul-eq-mul-right (2 ^ E * D) (c .unit) (rest-C .num) 0 (omega (arith, c .count, ap (λ (x : ℕ). x * rest-C .den) e)) in
         let a : Counts (2 ^ E) m 0 rest-C = record { unit = pow-pos E; some = c .some; sign = c .sign; count = ap (λ (x : ℕ). x * 2 ^ E) z ∙ omega arith } in
         let w : rn rule n (A * 2 ^ 0) D ≡ 0 * 2 ^ 0 = ap (λ (x : ℕ). rn rule n x D) (omega arith) ∙ rn-fixed rule n P 0 0 D (k .some) (omega arith) in
         let b : l ≡ rn rule n 0 1 = omega (arith, low-is 0, w, rn-whole-small rule n P 0 (omega arith)) in
-        counts-same (2 ^ E) m l (RN rule n rest-C) (lowPart rule n E L) (subst (λ (x : ℕ). Counts (2 ^ E) m x (RN rule n rest-C)) (sym b) (RN-counts rule n P E m 0 rest-C a)) (low-counts rule n E P F L le)
+        counts-same (2 ^ E) m l (RN rule n rest-C) (lowPart K L) (subst (λ (x : ℕ). Counts (2 ^ E) m x (RN rule n rest-C)) (sym b) (RN-counts rule n P E m 0 rest-C a)) (low-counts K ok L le)
 
-    some-left : 0 < A → Same (RN rule n rest-C) (lowPart rule n E L)
+    some-left : 0 < A → Same (RN rule n rest-C) (lowPart K L)
     some-left h =
         let s = n + size D in
         let w : 2 ^ E * D * 2 ^ s ≡ 2 ^ (E + s) * D = omega (arith, ap (λ (x : ℕ). x * D) (pow-add 2 E s)) in
         let a : Counts (2 ^ (E + s) * D) m (A * 2 ^ s) rest-C = subst (λ (x : ℕ). Counts x m (A * 2 ^ s) rest-C) w (counts-finer (2 ^ E * D) (2 ^ s) (pow-pos s) m A rest-C rest-counts-C) in
         let g : 2 ^ n * D ≤ 2 * (A * 2 ^ s) = omega (arith, mul-le-mul-left (2 ^ n) (le-of-lt (size-lt D)), pow-add 2 n (size D), mul-le-mul-right (2 ^ s) h) in
         let b : Counts (2 ^ (E + s)) m (l * 2 ^ s) (RN rule n rest-C) = subst (λ (x : ℕ). Counts (2 ^ (E + s)) m x (RN rule n rest-C)) (low-is s) (RN-counts-fraction rule n P (E + s) D m (A * 2 ^ s) rest-C (k .some) g a) in
-        let c : Counts (2 ^ (E + s)) m (l * 2 ^ s) (lowPart rule n E L) = subst (λ (x : ℕ). Counts x m (l * 2 ^ s) (lowPart rule n E L)) (sym (pow-add 2 E s)) (counts-finer (2 ^ E) (2 ^ s) (pow-pos s) m l (lowPart rule n E L) (low-counts rule n E P F L le)) in
-        counts-same (2 ^ (E + s)) m (l * 2 ^ s) (RN rule n rest-C) (lowPart rule n E L) b c
+        let c : Counts (2 ^ (E + s)) m (l * 2 ^ s) (lowPart K L) = subst (λ (x : ℕ). Counts x m (l * 2 ^ s) (lowPart K L)) (sym (pow-add 2 E s)) (counts-finer (2 ^ E) (2 ^ s) (pow-pos s) m l (lowPart K L) (low-counts K ok L le)) in
+        counts-same (2 ^ (E + s)) m (l * 2 ^ s) (RN rule n rest-C) (lowPart K L) b c
 
-    pub low-everywhere : Same (RN rule n rest-C) (lowPart rule n E L)
+    pub low-everywhere : Same (RN rule n rest-C) (lowPart K L)
     low-everywhere = go (decLe A 0)
       where
-        go : Dec (A ≤ 0) → Same (RN rule n rest-C) (lowPart rule n E L)
+        go : Dec (A ≤ 0) → Same (RN rule n rest-C) (lowPart K L)
         go (yes h) = none-left (omega arith)
         go (no h) = some-left (lt-of-not-le h)
 
 -- ---- in one direction: the high part in the end, and the low part under one high part
-module _ (rule : Rule) (n E : ℕ) (P : 0 < n) (a b : ℕ) (ab : a ≤ b) where
-  pub high-mono : whole rule n E a .high ≤ whole rule n E b .high
-  unfolding whole
-  high-mono = nearest-mono rule a (step n E) b (step n E) (pow-pos (E + 1 - n)) (pow-pos (E + 1 - n)) (mul-le-mul-right (step n E) ab)
+module _ (K : Context) (P : 0 < K .n) (a b : ℕ) (ab : a ≤ b) where
+  open Context K using (rule, n, E)
 
-  pub low-mono : whole rule n E a .high ≡ whole rule n E b .high → worth n E (whole rule n E a) ≤ worth n E (whole rule n E b)
+  pub high-mono : whole K a .high ≤ whole K b .high
+  unfolding whole
+  high-mono = nearest-mono rule a (step K) b (step K) (pow-pos (E + 1 - n)) (pow-pos (E + 1 - n)) (mul-le-mul-right (step K) ab)
+
+  pub low-mono : whole K a .high ≡ whole K b .high → worth K (whole K a) ≤ worth K (whole K b)
   unfolding whole
   low-mono e =
-      let t = whole rule n E a .high * step n E in
-      subst (λ (h : ℕ). worth n E (whole rule n E a) ≤ plusOrMinus (ltb b (h * step n E)) (h * step n E) (rn rule n (apart b (h * step n E)) 1)) e (go t (ltb a t) (ltb b t) refl refl)
+      let t = whole K a .high * step K in
+      subst (λ (h : ℕ). worth K (whole K a) ≤ plusOrMinus (ltb b (h * step K)) (h * step K) (rn rule n (apart b (h * step K)) 1)) e (go t (ltb a t) (ltb b t) refl refl)
     where
       round-mono : (x y : ℕ) → x ≤ y → rn rule n x 1 ≤ rn rule n y 1
       round-mono x y h = rn-mono rule n P x 1 y 1 (omega arith) (omega arith) (omega arith)

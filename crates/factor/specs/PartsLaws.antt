@@ -1,7 +1,7 @@
 -- The parts at one end: their bounds, how near they are to the end, and that the whole numbers are the parts of document 01. Assumes nothing.
 use mathlib.Core.Path.{_≡_, refl, sym, ap, ap₂, _∙_, subst}
 use mathlib.Core.Bool.{Bool, true, false}
-use Prim.Native.Nat.{ℕ, _+_, _-_, _*_, _/_, _^_, _≤_, _<_}
+use Prim.Native.Nat.{ℕ, _+_, _-_, _*_, _/_, _^_, _≤_}
 use native.Mathlib.Nat.{mul-le-mul-right, le-trans, le-of-eq, pow-succ', eq-of-mul-eq-mul-right, mul-div-cancel}
 use native.Mathlib.Omega.{arith}
 use lib.Dec.{ltb}
@@ -9,7 +9,7 @@ use lib.IntN.{natAbs}
 use lib.Pow.{pow-add, pow-pos, pow-mono}
 use borrow.Author.Tests.{ltb-true, ltb-false}
 use Rattle.rounding.specs.Apart.{apart}
-use Rattle.rounding.specs.Grid.{Rule, nearest}
+use Rattle.rounding.specs.Grid.{nearest}
 use Rattle.rounding.specs.GridLaws.{nearest-is, nearest-le, nearest-ge}
 use Rattle.rounding.specs.Digits.{pow-half}
 use Rattle.rounding.specs.Unit.{rn}
@@ -23,20 +23,27 @@ use Rattle.rounding.specs.Signed.{negative, signedOf}
 use Rattle.factor.specs.declared.Parts.{Parts}
 pub use Rattle.factor.specs.LowForm.{top-is, width-is}
 use Rattle.factor.specs.LowForm.{size-of, sign-of, keep-sign, Tells, from-tells}
+use Rattle.factor.specs.Context.{Context, Fine}
 use Rattle.factor.specs.Parts.{highPart, rest, lowPart, partsAt}
 use Rattle.factor.specs.Whole.{End, Whole, step, plusOrMinus, whole, worth, wholeOf, partsFrom}
 
 -- ---- the powers of two: W = 2 ^ (E - n) is half a step
-module _ (n E : ℕ) (F : 2 * n ≤ E) where
-  pub step-is : step n E ≡ 2 * 2 ^ (E - n)
+module _ (K : Context) (ok : Fine K) where
+  open Context K using (rule, n, E)
+  open Fine ok using (some as P, room as F)
+
+  pub step-is : step K ≡ 2 * 2 ^ (E - n)
   step-is = ap (λ (z : ℕ). 2 ^ z) (omega arith) ∙ pow-succ' 2 (E - n)
 
-  pub bottom-is : 0 < n → 2 ^ E ≡ 2 ^ (n - 1) * step n E
-  bottom-is P = omega (arith, ap (λ (z : ℕ). 2 ^ (n - 1) * z) step-is, top-is n E F, ap (λ (z : ℕ). z * 2 ^ (E - n)) (pow-half n P))
+  pub bottom-is : 2 ^ E ≡ 2 ^ (n - 1) * step K
+  bottom-is = omega (arith, ap (λ (z : ℕ). 2 ^ (n - 1) * z) step-is, top-is K ok, ap (λ (z : ℕ). z * 2 ^ (E - n)) (pow-half n P))
 
-module _ (rule : Rule) (n E : ℕ) (P : 0 < n) (F : 2 * n ≤ E) (c : ℕ) (ce : End E c) where
+module _ (K : Context) (ok : Fine K) (c : ℕ) (ce : End K c) where
+  open Context K using (rule, n, E)
+  open Fine ok using (some as P, room as F)
+
   abbrev G : ℕ
-  G = step n E
+  G = step K
 
   abbrev W : ℕ
   W = 2 ^ (E - n)
@@ -45,44 +52,44 @@ module _ (rule : Rule) (n E : ℕ) (P : 0 < n) (F : 2 * n ≤ E) (c : ℕ) (ce :
   Q = 2 ^ (E - 2 * n)
 
   abbrev p : Whole
-  p = whole rule n E c
+  p = whole K c
 
   pub high-most : p .high ≤ 2 ^ n
   unfolding whole
-  high-most = nearest-le rule c G (2 ^ n) (pow-pos (E + 1 - n)) (omega (arith, ce .to, ap (λ (z : ℕ). 2 ^ n * z) (step-is n E F), top-is n E F, pow-succ' 2 E))
+  high-most = nearest-le rule c G (2 ^ n) (pow-pos (E + 1 - n)) (omega (arith, ce .to, ap (λ (z : ℕ). 2 ^ n * z) (step-is K ok), top-is K ok, pow-succ' 2 E))
 
   pub high-least : 2 ^ (n - 1) ≤ p .high
   unfolding whole
-  high-least = nearest-ge rule c G (2 ^ (n - 1)) (pow-pos (E + 1 - n)) (omega (arith, ce .from, bottom-is n E F P))
+  high-least = nearest-ge rule c G (2 ^ (n - 1)) (pow-pos (E + 1 - n)) (omega (arith, ce .from, bottom-is K ok))
 
   -- |C - Ch| is at most 2 ^ - n
   pub high-near : (c ≤ p .high * G + W) × (p .high * G ≤ c + W)
   unfolding whole
-  high-near = let r = nearest-is rule c G (pow-pos (E + 1 - n)) in let s = step-is n E F in (omega (arith, r .high), omega (arith, r .low))
+  high-near = let r = nearest-is rule c G (pow-pos (E + 1 - n)) in let s = step-is K ok in (omega (arith, r .high), omega (arith, r .low))
 
   pub rest-le : apart c (p .high * G) ≤ W
   rest-le = let h = high-near in omega (arith, h .0, h .1)
 
   pub high-from : 2 ^ E ≤ p .high * G
-  high-from = omega (arith, mul-le-mul-right G high-least, bottom-is n E F P)
+  high-from = omega (arith, mul-le-mul-right G high-least, bottom-is K ok)
 
   pub low-most : p .low ≤ W
   unfolding whole
   low-most =
-      le-trans (rn-le rule n P (apart c (p .high * G)) 1 (2 ^ n) (E - 2 * n) (omega arith) (le-of-eq refl) (omega (arith, rest-le, width-is n E F))) (le-of-eq (sym (width-is n E F)))
+      le-trans (rn-le rule n P (apart c (p .high * G)) 1 (2 ^ n) (E - 2 * n) (omega arith) (le-of-eq refl) (omega (arith, rest-le, width-is K ok))) (le-of-eq (sym (width-is K ok)))
 
   -- Cl is within 2 ^ - (2 * n + 1) of C - Ch
   pub low-near : (2 * p .low ≤ 2 * apart c (p .high * G) + Q) × (2 * apart c (p .high * G) ≤ 2 * p .low + Q)
   unfolding whole
   low-near =
-      let r = rn-error rule n P (apart c (p .high * G)) 1 (E - 2 * n) (omega arith) (omega (arith, rest-le, width-is n E F, pow-add 2 n (E - 2 * n))) in
+      let r = rn-error rule n P (apart c (p .high * G)) 1 (E - 2 * n) (omega arith) (omega (arith, rest-le, width-is K ok, pow-add 2 n (E - 2 * n))) in
       (omega (arith, r .0), omega (arith, r .1))
 
   pub width-le : W ≤ 2 ^ E
   width-le = pow-mono {i = E - n} {j = E} (omega arith)
 
   -- so Ch + Cl is within 2 ^ - (2 * n + 1) of C
-  pub worth-near : (2 * worth n E p ≤ 2 * c + Q) × (2 * c ≤ 2 * worth n E p + Q)
+  pub worth-near : (2 * worth K p ≤ 2 * c + Q) × (2 * c ≤ 2 * worth K p + Q)
   unfolding whole
   worth-near = go (ltb c (p .high * G)) refl
     where
@@ -105,24 +112,24 @@ module _ (rule : Rule) (n E : ℕ) (P : 0 < n) (F : 2 * n ≤ E) (c : ℕ) (ce :
       let a : 2 ^ (n + k) ≡ 2 * 2 ^ E = ap (λ (z : ℕ). 2 ^ z) (omega arith) ∙ pow-succ' 2 E in
       rn-at rule n P c 1 k (omega arith) (omega (arith, ce .from)) (omega (arith, ce .to, pow-succ' 2 E)) ∙ ap (λ (z : ℕ). nearest rule c z * 2 ^ k) (omega arith)
 
-  pub high-counts : Counts (2 ^ E) false (p .high * G) (highPart rule n E c)
-  high-counts = subst (λ (z : ℕ). Counts (2 ^ E) false z (highPart rule n E c)) rn-high (RN-counts rule n P E false c (over c E) (over-counts c E))
+  pub high-counts : Counts (2 ^ E) false (p .high * G) (highPart K c)
+  high-counts = subst (λ (z : ℕ). Counts (2 ^ E) false z (highPart K c)) rn-high (RN-counts rule n P E false c (over c E) (over-counts c E))
 
-  pub rest-counts : Counts (2 ^ E) (p .minus) (apart c (p .high * G)) (rest rule n E c)
+  pub rest-counts : Counts (2 ^ E) (p .minus) (apart c (p .high * G)) (rest K c)
   unfolding whole
-  rest-counts = less-counts (2 ^ E) c (p .high * G) (over c E) (highPart rule n E c) (over-counts c E) high-counts
+  rest-counts = less-counts (2 ^ E) c (p .high * G) (over c E) (highPart K c) (over-counts c E) high-counts
 
-  pub low-counts : Counts (2 ^ E) (p .minus) (p .low) (lowPart rule n E c)
+  pub low-counts : Counts (2 ^ E) (p .minus) (p .low) (lowPart K c)
   unfolding whole
-  low-counts = RN-counts rule n P E (p .minus) (apart c (p .high * G)) (rest rule n E c) rest-counts
+  low-counts = RN-counts rule n P E (p .minus) (apart c (p .high * G)) (rest K c) rest-counts
 
   -- ---- the high significand
-  pub high-is : partsAt rule n E c .high ≡ p .high
+  pub high-is : partsAt K c .high ≡ p .high
   unfolding partsAt
   high-is =
-      let x = highPart rule n E c in
+      let x = highPart K c in
       let k = high-counts in
-      let b = bottom-is n E F P in
+      let b = bottom-is K ok in
       let e : x .num * 2 ^ (n - 1) ≡ p .high * x .den = eq-of-mul-eq-mul-right G (pow-pos (E + 1 - n)) (x .num * 2 ^ (n - 1)) (p .high * x .den) (omega (arith, k .count, ap (λ (z : ℕ). x .num * z) b)) in
       ap (λ (z : ℕ). z / x .den) e ∙ mul-div-cancel (p .high) (k .some)
 
@@ -131,20 +138,20 @@ module _ (rule : Rule) (n E : ℕ) (P : 0 < n) (F : 2 * n ≤ E) (c : ℕ) (ce :
   R = apart c (p .high * G)
 
   abbrev s : Parts
-  s = partsAt rule n E c
+  s = partsAt K c
 
   -- the parts, from the high significand and the signed rest
-  pub parts-from : s ≡ partsFrom rule n E (p .high) (signedOf (p .minus) R)
+  pub parts-from : s ≡ partsFrom K (p .high) (signedOf (p .minus) R)
   unfolding partsAt partsFrom
   parts-from =
-      let d = rest rule n E c in
+      let d = rest K c in
       let k = rest-counts in
       let r : rounded rule n (d .num) (d .den) ≡ rounded rule n R (2 ^ E) = rounded-same rule n P (d .num) (d .den) R (2 ^ E) (k .some) (pow-pos E) (k .count) in
       let size : R ≡ natAbs (signedOf (p .minus) R) = sym (size-of (p .minus) R) in
       let t : rounded rule n (d .num) (d .den) ≡ rounded rule n (natAbs (signedOf (p .minus) R)) (2 ^ E) = r ∙ ap (λ (z : ℕ). rounded rule n z (2 ^ E)) size in
       let low : signedOf (d .minus) (rounded rule n (d .num) (d .den) .significand) ≡ signedOf (negative (signedOf (p .minus) R)) (rounded rule n (natAbs (signedOf (p .minus) R)) (2 ^ E) .significand) =
       ap₂ (λ (b : Bool) (q : Rounded). signedOf b (q .significand)) (k .sign) r
-      ∙ keep-sign rule n E (p .minus) R
+      ∙ keep-sign K (p .minus) R
       ∙ ap (λ (z : ℕ). signedOf (negative (signedOf (p .minus) R)) (rounded rule n z (2 ^ E) .significand)) size in
       λ i. record { high = high-is i; low = low i; places = natAbs (t i .exponent) }
 
@@ -165,20 +172,20 @@ module _ (rule : Rule) (n E : ℕ) (P : 0 < n) (F : 2 * n ≤ E) (c : ℕ) (ce :
       go false e = refl
 
   -- so the parts that are kept tell the whole numbers
-  pub whole-of-parts : p ≡ wholeOf E s
+  pub whole-of-parts : p ≡ wholeOf K s
   whole-of-parts =
-      let f = from-tells rule n E P F (p .high) (signedOf (p .minus) R) rest-bound in
-      join p (partsFrom rule n E (p .high) (signedOf (p .minus) R)) (f .high) (sign-is ∙ f .sign) (rest-size ∙ f .size) ∙ ap (wholeOf E) (sym parts-from)
+      let f = from-tells K ok (p .high) (signedOf (p .minus) R) rest-bound in
+      join p (partsFrom K (p .high) (signedOf (p .minus) R)) (f .high) (sign-is ∙ f .sign) (rest-size ∙ f .size) ∙ ap (wholeOf K) (sym parts-from)
     where
-      join : (x : Whole) (y : Parts) → y .high ≡ x .high → x .minus ≡ negative (y .low) → x .low ≡ natAbs (y .low) * 2 ^ E / 2 ^ y .places → x ≡ wholeOf E y
+      join : (x : Whole) (y : Parts) → y .high ≡ x .high → x .minus ≡ negative (y .low) → x .low ≡ natAbs (y .low) * 2 ^ E / 2 ^ y .places → x ≡ wholeOf K y
       join x y a b d i = record { high = sym a i; minus = b i; low = d i }
 
   -- s / 2 ^ places is the low part
   pub low-kept : natAbs (s .low) * 2 ^ E ≡ p .low * 2 ^ s .places
   low-kept =
-      let f = from-tells rule n E P F (p .high) (signedOf (p .minus) R) rest-bound in
+      let f = from-tells K ok (p .high) (signedOf (p .minus) R) rest-bound in
       rw (parts-from, rest-size) (f .value)
 
   -- s = q = 0 where there is no rest; else |s| has n bits, and the range of q is known
-  pub low-tells : Tells n E (p .high) (signedOf (p .minus) R) (rn rule n (natAbs (signedOf (p .minus) R)) 1) s
-  low-tells = rw parts-from (from-tells rule n E P F (p .high) (signedOf (p .minus) R) rest-bound)
+  pub low-tells : Tells K (p .high) (signedOf (p .minus) R) (rn rule n (natAbs (signedOf (p .minus) R)) 1) s
+  low-tells = rw parts-from (from-tells K ok (p .high) (signedOf (p .minus) R) rest-bound)

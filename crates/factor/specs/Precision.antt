@@ -1,4 +1,5 @@
--- What belongs to a precision n (document 01: "Limits and exponents that belong to a precision are named once, with the precision"). Definitions only. Assumes nothing.
+-- What belongs to a precision n (document 01: "Limits and exponents that belong to a precision are named once, with the precision"). Assumes nothing.
+use mathlib.Core.Path.{_≡_, refl}
 use mathlib.Core.Bool.{Bool, _||_}
 use mathlib.Core.List.{[], _∷_}
 use Prim.Native.Nat.{ℕ, _-_, _^_, _≤_}
@@ -8,8 +9,8 @@ use Rattle.factor.specs.declared.Precision.{Precision}
 use Rattle.factor.specs.declared.PrecisionAnswer.{PrecisionAnswer}
 use Rattle.factor.specs.declared.PrecisionAnswer.the-variants.{Accepted, Refused}
 
--- the scale E of the ends: an end c stands for c / 2 ^ E
-abbrev pub scaleOf : ℕ → ℕ
+-- the scale E of the ends: an end c stands for c / 2 ^ E. It stays shut: its number is known from `Kept`
+unfoldable pub scaleOf : ℕ → ℕ
 scaleOf n = 62
 
 -- a search takes at most so many rounds
@@ -23,14 +24,26 @@ leastOf n = 2 ^ (n - 1)
 abbrev pub mostOf : ℕ → ℕ
 mostOf n = 2 ^ n - 1
 
+-- the limits of a precision
+abbrev pub leastPrecision : ℕ
+leastPrecision = 4
+
+abbrev pub mostPrecision : ℕ
+mostPrecision = 24
+
 -- refusal 11: precision not 4 to 24
 abbrev pub precisionOut : ℕ → Bool
-precisionOut n = ltb n 4 || ltb 24 n
+precisionOut n = ltb n leastPrecision || ltb mostPrecision n
 
 -- what is known of a precision that was accepted
 pub record Kept (n : ℕ) : Type 0 where
-  pub least : 4 ≤ n
-  pub most : n ≤ 24
+  pub least : leastPrecision ≤ n
+  pub most : n ≤ mostPrecision
+  pub scale : scaleOf n ≡ 62
+
+pub kept : {n : ℕ} → leastPrecision ≤ n → n ≤ mostPrecision → Kept n
+unfolding scaleOf
+kept a b = record { least = a; most = b; scale = refl }
 
 -- the precision, or refusal 11
 abbrev pub newPrecision : ℕ → Outcome Precision

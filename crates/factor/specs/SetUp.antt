@@ -9,7 +9,6 @@ use lib.Signed.{ltZ}
 use lib.Ieee
 use lib.Ieee.{Float, binary32, toBits}
 use Rattle.marks.specs.Answers.{Outcome, refused, accepted, answer}
-use Rattle.rounding.specs.Grid.{toEven}
 use Rattle.rounding.specs.Fraction.{Fraction}
 use Rattle.factor.specs.declared.Description.{Description}
 use Rattle.factor.specs.declared.Parts.{Parts}
@@ -17,14 +16,15 @@ use Rattle.factor.specs.declared.Applied.{Applied}
 use Rattle.factor.specs.declared.Factor.{Factor}
 use Rattle.factor.specs.declared.SetUp.{SetUp}
 use Rattle.factor.specs.declared.SetUp.the-variants.{Accepted, Refused}
-use Rattle.factor.specs.Precision.{scaleOf, precisionOut}
+use Rattle.factor.specs.Precision.{Kept, precisionOut}
+use Rattle.factor.specs.Context.{Context, contextFor, contextOf, lowerOf, upperOf}
 use Rattle.factor.specs.Parts.{highPart, lowPart, partsAt}
 use Rattle.factor.specs.Whole.{End}
 
 -- ---- the conditions
 -- 12: an end not 2 ^ E to 2 ^ (E + 1) - 1
-abbrev pub endOut : (E c : ℕ) → Bool
-endOut E c = ltb c (2 ^ E) || leb (2 ^ suc E) c
+abbrev pub endOut : Context → ℕ → Bool
+endOut K c = ltb c (2 ^ K .E) || leb (2 ^ suc (K .E)) c
 
 -- 14: scale not -100 to 100
 abbrev pub scaleOut : ℤ → Bool
@@ -49,37 +49,30 @@ sameLow p q = sameZ (p .low) (q .low) && eqb (p .places) (q .places)
 abbrev pub float32 : Fraction → Float
 float32 x = Ieee.round binary32 (x .minus) (x .num) (x .den)
 
--- the parts at an end
-unfoldable pub partsOf : Description → (end : ℕ) → Parts
-unfolding partsAt
-partsOf d c = partsAt toEven (d .precision) (scaleOf (d .precision)) c
-
 -- what a handheld applies: the parts at the lower end, which are those of the upper end too
 unfoldable pub appliedOf : Description → Applied
 unfolding Ieee.round
-appliedOf d =
-    let n = d .precision in
-    record { high = float32 (highPart toEven n (scaleOf n) (d .lower)); low = float32 (lowPart toEven n (scaleOf n) (d .lower)); scale = d .scale }
+appliedOf d = record { high = float32 (highPart (contextFor d) (d .lower)); low = float32 (lowPart (contextFor d) (d .lower)); scale = d .scale }
 
 -- the factor: precision, both ends, the parts, and what a handheld applies
 abbrev pub factorOf : Description → Factor
-factorOf d = record { precision = record { bits = d .precision }; lower = d .lower; upper = d .upper; parts = partsOf d (d .lower); applied = appliedOf d }
+factorOf d = record { precision = record { bits = d .precision }; lower = d .lower; upper = d .upper; parts = partsAt (contextFor d) (d .lower); applied = appliedOf d }
 
 -- ---- set-up
 -- the conditions that refuse a description
 abbrev pub conditions : Description → List (ℕ × Bool)
 conditions d =
     (11, precisionOut (d .precision))
-    ∷ (12, endOut (scaleOf (d .precision)) (d .lower) || endOut (scaleOf (d .precision)) (d .upper))
+    ∷ (12, endOut (contextFor d) (d .lower) || endOut (contextFor d) (d .upper))
     ∷ (13, ltb (d .upper) (d .lower))
     ∷ (14, scaleOut (d .scale))
-    ∷ (15, not (sameHigh (partsOf d (d .lower)) (partsOf d (d .upper))))
-    ∷ (16, not (sameLow (partsOf d (d .lower)) (partsOf d (d .upper))))
+    ∷ (15, not (sameHigh (partsAt (contextFor d) (d .lower)) (partsAt (contextFor d) (d .upper))))
+    ∷ (16, not (sameLow (partsAt (contextFor d) (d .lower)) (partsAt (contextFor d) (d .upper))))
     ∷ []
 
 -- the factor, unless one of them holds
 unfoldable pub setUp : Description → Outcome Factor
-unfolding partsOf appliedOf
+unfolding partsAt appliedOf
 setUp d = answer (conditions d) (factorOf d)
 
 -- what each case of set-up's answer says
@@ -115,13 +108,12 @@ intact f = given f (setUp (described f))
 
 -- ---- what is known of a factor that was accepted
 pub record Sound (f : Factor) : Type 0 where
-  pub fewest : 4 ≤ f .precision .bits
-  pub most : f .precision .bits ≤ 24
-  pub lower-end : End 62 (f .lower)
-  pub upper-end : End 62 (f .upper)
-  pub ordered : f .lower ≤ f .upper
+  pub precision : Kept (f .precision .bits)
+  pub lower-end : End (contextOf f) (lowerOf f)
+  pub upper-end : End (contextOf f) (upperOf f)
+  pub ordered : lowerOf f ≤ upperOf f
   pub scale : scaleOut (f .applied .scale) ≡ false
-  pub same : partsAt toEven (f .precision .bits) 62 (f .lower) ≡ partsAt toEven (f .precision .bits) 62 (f .upper)
-  pub parts : f .parts ≡ partsOf (described f) (f .lower)
+  pub same : partsAt (contextOf f) (lowerOf f) ≡ partsAt (contextOf f) (upperOf f)
+  pub parts : f .parts ≡ partsAt (contextOf f) (lowerOf f)
   pub high-stored : toBits binary32 (f .applied .high) ≡ toBits binary32 (appliedOf (described f) .high)
   pub low-stored : toBits binary32 (f .applied .low) ≡ toBits binary32 (appliedOf (described f) .low)

@@ -11,9 +11,11 @@ use Rattle.marks.specs.AnswerLaws.{only-accepted, or-false, and-true}
 use Rattle.factor.specs.declared.Description.{Description}
 use Rattle.factor.specs.declared.Parts.{Parts}
 use Rattle.factor.specs.declared.Factor.{Factor}
-use Rattle.factor.specs.Precision.{Kept, precisionOut}
+use Rattle.factor.specs.Precision.{leastPrecision, mostPrecision, Kept, kept, precisionOut}
+use Rattle.factor.specs.Context.{Context, contextFor}
+use Rattle.factor.specs.Parts.{partsAt}
 use Rattle.factor.specs.Whole.{End}
-use Rattle.factor.specs.SetUp.{endOut, sameHigh, sameZ, sameLow, partsOf, appliedOf, factorOf, conditions, setUp, sameFloat, sameFactor, given, described, intact, Sound}
+use Rattle.factor.specs.SetUp.{endOut, sameHigh, sameZ, sameLow, appliedOf, factorOf, conditions, setUp, sameFloat, sameFactor, given, described, intact, Sound}
 
 -- ---- tests
 pub sameZ-true : (x y : ℤ) → sameZ x y ≡ true → x ≡ y
@@ -34,12 +36,12 @@ same-parts p q h l =
     let c = eqb-true (p .places) (q .places) (t .1) in
     λ i. record { high = a i; low = b i; places = c i }
 
-pub end-in : (E c : ℕ) → endOut E c ≡ false → End E c
-end-in E c e = let t = or-false (ltb c (2 ^ E)) (leb (2 ^ suc E) c) e in record { from = ltb-false c (2 ^ E) (t .0); to = leb-false (2 ^ suc E) c (t .1) }
+pub end-in : (K : Context) (c : ℕ) → endOut K c ≡ false → End K c
+end-in K c e = let t = or-false (ltb c (2 ^ K .E)) (leb (2 ^ suc (K .E)) c) e in record { from = ltb-false c (2 ^ K .E) (t .0); to = leb-false (2 ^ suc (K .E)) c (t .1) }
 
 -- a precision that 11 lets through
 pub kept-in : (n : ℕ) → precisionOut n ≡ false → Kept n
-kept-in n e = let t = or-false (ltb n 4) (ltb 24 n) e in record { least = ltb-false n 4 (t .0); most = ltb-false 24 n (t .1) }
+kept-in n e = let t = or-false (ltb n leastPrecision) (ltb mostPrecision n) e in kept (ltb-false n leastPrecision (t .0)) (ltb-false mostPrecision n (t .1))
 
 -- ---- set-up gave f
 pub setUp-sound : (d : Description) (f : Factor) → setUp d ≡ accepted f → (factorOf d ≡ f) × Sound (factorOf d)
@@ -50,16 +52,15 @@ setUp-sound d f e =
   where
     sound : NoneHolds (conditions d) → Sound (factorOf d)
     sound h =
-        let n-in = kept-in (d .precision) (h .0) in
-        let ends = or-false (endOut 62 (d .lower)) (endOut 62 (d .upper)) (h .1 .0) in
+        let K = contextFor d in
+        let ends = or-false (endOut K (d .lower)) (endOut K (d .upper)) (h .1 .0) in
         record {
-          fewest = n-in .least;
-          most = n-in .most;
-          lower-end = end-in 62 (d .lower) (ends .0);
-          upper-end = end-in 62 (d .upper) (ends .1);
+          precision = kept-in (d .precision) (h .0);
+          lower-end = end-in K (d .lower) (ends .0);
+          upper-end = end-in K (d .upper) (ends .1);
           ordered = ltb-false (d .upper) (d .lower) (h .1 .1 .0);
           scale = h .1 .1 .1 .0;
-          same = unfold partsOf in same-parts (partsOf d (d .lower)) (partsOf d (d .upper)) (not-false _ (h .1 .1 .1 .1 .0)) (not-false _ (h .1 .1 .1 .1 .1 .0));
+          same = same-parts (partsAt K (d .lower)) (partsAt K (d .upper)) (not-false _ (h .1 .1 .1 .1 .0)) (not-false _ (h .1 .1 .1 .1 .1 .0));
           parts = refl;
           high-stored = refl;
           low-stored = refl;
@@ -90,8 +91,7 @@ module _ (f : Factor) (e : intact f ≡ true) where
       let x = and-true (sameFloat (f .applied .high) (g .applied .high)) _ (l .1) in
       let y = and-true (sameFloat (f .applied .low) (g .applied .low)) _ (x .1) in
       record {
-        fewest = s .fewest;
-        most = s .most;
+        precision = s .precision;
         lower-end = s .lower-end;
         upper-end = s .upper-end;
         ordered = s .ordered;

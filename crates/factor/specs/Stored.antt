@@ -14,20 +14,20 @@ use lib.Ieee.Exact.{HasValue}
 use lib.Ieee.Scale.{round-same}
 use Rattle.marks.specs.Answers.{accepted}
 use Rattle.rounding.specs.Apart.{apart}
-use Rattle.rounding.specs.Grid.{toEven}
 use Rattle.rounding.specs.Ieee.{round-itself}
 use Rattle.rounding.specs.RoundLaws.{HasBits}
 use Rattle.rounding.specs.Signed.{negative, signedOf}
 use Rattle.factor.specs.declared.Parts.{Parts}
 use Rattle.factor.specs.declared.Applied.{Applied}
 use Rattle.factor.specs.Precision.{Kept}
+use Rattle.factor.specs.Context.{Context, Fine, contextFor, fine-at}
 use Rattle.factor.specs.Parts.{highPart, lowPart, partsAt}
 use Rattle.factor.specs.Whole.{End, whole, step}
 use Rattle.factor.specs.LowForm.{Tells}
 use Rattle.factor.specs.PartsLaws.{bottom-is, high-counts, high-is, high-least, high-most, low-counts, low-kept, low-tells, whole-of-parts}
 use Rattle.factor.specs.declared.Factor.{Factor}
 use Rattle.factor.specs.declared.Description.{Description}
-use Rattle.factor.specs.SetUp.{float32, partsOf, appliedOf, setUp}
+use Rattle.factor.specs.SetUp.{float32, appliedOf, setUp}
 use Rattle.factor.specs.SetUpLaws.{setUp-sound}
 use Rattle.rounding.specs.Binary32.{value-number}
 
@@ -36,68 +36,64 @@ abbrev pub appliedFrom : (n : ℕ) → ℤ → Parts → Applied
 appliedFrom n k p = record { high = Ieee.round binary32 false (p .high) (2 ^ (n - 1)); low = Ieee.round binary32 (negative (p .low)) (natAbs (p .low)) (2 ^ p .places); scale = k }
 
 -- parts that a binary32 number holds: the low significand zero, or of n bits
-pub record LowStorable (n : ℕ) (low : ℤ) (places : ℕ) : Type 0 where
+pub record LowStorable (K : Context) (low : ℤ) (places : ℕ) : Type 0 where
   pub none : natAbs low ≡ 0 → (low ≡ pos 0) × (places ≡ 0)
-  pub some : 0 < natAbs low → HasBits n (natAbs low)
-  pub deep : 0 < natAbs low → n ≤ suc places
-  pub shallow : places < 62 + n
+  pub some : 0 < natAbs low → HasBits (K .n) (natAbs low)
+  pub deep : 0 < natAbs low → K .n ≤ suc places
+  pub shallow : places < K .E + K .n
 
 -- and the high one from 2 ^ (n - 1) to 2 ^ n
-pub record Storable (n : ℕ) (p : Parts) : Type 0 where
-  pub least : 2 ^ (n - 1) ≤ p .high
-  pub most : p .high ≤ 2 ^ n
-  pub low : LowStorable n (p .low) (p .places)
+pub record Storable (K : Context) (p : Parts) : Type 0 where
+  pub least : 2 ^ (K .n - 1) ≤ p .high
+  pub most : p .high ≤ 2 ^ K .n
+  pub low : LowStorable K (p .low) (p .places)
 
-module _ (n : ℕ) (N : Kept n) (c : ℕ) (ce : End 62 c) where
-  P : 0 < n
-  P = omega (arith, N)
-
-  F : 2 * n ≤ 62
-  F = omega (arith, N)
+module _ (K : Context) (ok : Fine K) (c : ℕ) (ce : End K c) where
+  open Context K using (n, E)
 
   abbrev p : Parts
-  p = partsAt toEven n 62 c
+  p = partsAt K c
 
   -- Ch is the high significand over 2 ^ (n - 1)
-  pub high-over : highPart toEven n 62 c .num * 2 ^ (n - 1) ≡ p .high * highPart toEven n 62 c .den
+  pub high-over : highPart K c .num * 2 ^ (n - 1) ≡ p .high * highPart K c .den
   high-over =
-      let x = highPart toEven n 62 c in
-      let k = high-counts toEven n 62 P F c ce in
-      let b = bottom-is n 62 F P in
-      eq-of-mul-eq-mul-right (step n 62) (pow-pos (62 + 1 - n)) (x .num * 2 ^ (n - 1)) (p .high * x .den)
-      (omega (arith, k .count, ap (λ (z : ℕ). x .num * z) b, ap (λ (z : ℕ). z * step n 62 * x .den) (high-is toEven n 62 P F c ce)))
+      let x = highPart K c in
+      let k = high-counts K ok c ce in
+      let b = bottom-is K ok in
+      eq-of-mul-eq-mul-right (step K) (pow-pos (E + 1 - n)) (x .num * 2 ^ (n - 1)) (p .high * x .den)
+      (omega (arith, k .count, ap (λ (z : ℕ). x .num * z) b, ap (λ (z : ℕ). z * step K * x .den) (high-is K ok c ce)))
 
   -- Cl is s over 2 ^ places
-  pub low-over : lowPart toEven n 62 c .num * 2 ^ p .places ≡ natAbs (p .low) * lowPart toEven n 62 c .den
+  pub low-over : lowPart K c .num * 2 ^ p .places ≡ natAbs (p .low) * lowPart K c .den
   low-over =
-      let x = lowPart toEven n 62 c in
-      let k = low-counts toEven n 62 P F c ce in
-      eq-of-mul-eq-mul-right (2 ^ 62) (pow-pos 62) (x .num * 2 ^ p .places) (natAbs (p .low) * x .den)
-      (omega (arith, ap (λ (z : ℕ). z * 2 ^ p .places) (k .count), ap (λ (z : ℕ). z * x .den) (low-kept toEven n 62 P F c ce)))
+      let x = lowPart K c in
+      let k = low-counts K ok c ce in
+      eq-of-mul-eq-mul-right (2 ^ E) (pow-pos E) (x .num * 2 ^ p .places) (natAbs (p .low) * x .den)
+      (omega (arith, ap (λ (z : ℕ). z * 2 ^ p .places) (k .count), ap (λ (z : ℕ). z * x .den) (low-kept K ok c ce)))
 
-  pub low-sign : lowPart toEven n 62 c .minus ≡ negative (p .low)
-  low-sign = low-counts toEven n 62 P F c ce .sign ∙ ap (λ w. w .minus) (whole-of-parts toEven n 62 P F c ce)
+  pub low-sign : lowPart K c .minus ≡ negative (p .low)
+  low-sign = low-counts K ok c ce .sign ∙ ap (λ w. w .minus) (whole-of-parts K ok c ce)
 
-  pub storable : Storable n p
+  pub storable : Storable K p
   storable =
-      let t = low-tells toEven n 62 P F c ce in
-      let z = natAbs (signedOf (whole toEven n 62 c .minus) (apart c (whole toEven n 62 c .high * step n 62))) in
-      let h = high-is toEven n 62 P F c ce in
+      let t = low-tells K ok c ce in
+      let z = natAbs (signedOf (whole K c .minus) (apart c (whole K c .high * step K))) in
+      let h = high-is K ok c ce in
       go (decLe z 0) t h
     where
-      go : {h l : ℕ} {z : ℤ} → Dec (natAbs z ≤ 0) → Tells n 62 h z l p → p .high ≡ whole toEven n 62 c .high → Storable n p
+      go : {h l : ℕ} {z : ℤ} → Dec (natAbs z ≤ 0) → Tells K h z l p → p .high ≡ whole K c .high → Storable K p
       go (yes y) t h =
           let e = t .none (omega arith) in
           record {
-            least = rw h (high-least toEven n 62 P F c ce);
-            most = rw h (high-most toEven n 62 P F c ce);
+            least = rw h (high-least K ok c ce);
+            most = rw h (high-most K ok c ce);
             low = record { none = λ _. e; some = λ m. absurd (omega (arith, ap natAbs (e .0))); deep = λ m. absurd (omega (arith, ap natAbs (e .0))); shallow = omega (arith, e .1) };
           }
       go (no y) t h =
           let b = t .some (lt-of-not-le y) in
           record {
-            least = rw h (high-least toEven n 62 P F c ce);
-            most = rw h (high-most toEven n 62 P F c ce);
+            least = rw h (high-least K ok c ce);
+            most = rw h (high-most K ok c ce);
             low = record { none = λ e. absurd (omega (arith, b .0 .least, pow-pos (n - 1))); some = λ _. b .0; deep = λ _. omega (arith, b .1); shallow = b .2 };
           }
 
@@ -140,61 +136,65 @@ module _ (n : ℕ) (N : n ≤ 24) where
   in-floats s m q h = round-same binary32 s (m * 2 ^ (24 - n) * 2 ^ (125 + n - q)) (2 ^ 149) m (2 ^ q) (pow-pos 149) (pow-pos q) (sym (in-units m q h))
 
 -- ---- what is stored of a description
-module _ (d : Description) (N : Kept (d .precision)) (ce : End 62 (d .lower)) where
-  abbrev n : ℕ
-  n = d .precision
+module _ (d : Description) (N : Kept (d .precision)) (ce : End (contextFor d) (d .lower)) where
+  abbrev K : Context
+  K = contextFor d
+
+  open Context K using (n)
 
   abbrev c : ℕ
   c = d .lower
 
+  ok : Fine K
+  ok = fine-at N
+
   -- the floats are those of the kept parts
-  pub applied-from : appliedOf d ≡ appliedFrom n (d .scale) (partsOf d c)
-  unfolding appliedOf partsOf
+  pub applied-from : appliedOf d ≡ appliedFrom n (d .scale) (partsAt K c)
+  unfolding appliedOf
   applied-from =
-      let p = partsAt toEven n 62 c in
-      let h = highPart toEven n 62 c in
-      let l = lowPart toEven n 62 c in
-      let hc = high-counts toEven n 62 (P n N c ce) (F n N c ce) c ce in
-      let lc = low-counts toEven n 62 (P n N c ce) (F n N c ce) c ce in
+      let p = partsAt K c in
+      let h = highPart K c in
+      let l = lowPart K c in
+      let hc = high-counts K ok c ce in
+      let lc = low-counts K ok c ce in
       let high : float32 h ≡ Ieee.round binary32 false (p .high) (2 ^ (n - 1)) =
-      ap (λ (b : Bool). Ieee.round binary32 b (h .num) (h .den)) (hc .sign) ∙ round-same binary32 false (h .num) (h .den) (p .high) (2 ^ (n - 1)) (hc .some) (pow-pos (n - 1)) (high-over n N c ce) in
+      ap (λ (b : Bool). Ieee.round binary32 b (h .num) (h .den)) (hc .sign) ∙ round-same binary32 false (h .num) (h .den) (p .high) (2 ^ (n - 1)) (hc .some) (pow-pos (n - 1)) (high-over K ok c ce) in
       let low : float32 l ≡ Ieee.round binary32 (negative (p .low)) (natAbs (p .low)) (2 ^ p .places) =
-      ap (λ (b : Bool). Ieee.round binary32 b (l .num) (l .den)) (low-sign n N c ce) ∙ round-same binary32 (negative (p .low)) (l .num) (l .den) (natAbs (p .low)) (2 ^ p .places) (lc .some) (pow-pos (p .places)) (low-over n N c ce) in
+      ap (λ (b : Bool). Ieee.round binary32 b (l .num) (l .den)) (low-sign K ok c ce) ∙ round-same binary32 (negative (p .low)) (l .num) (l .den) (natAbs (p .low)) (2 ^ p .places) (lc .some) (pow-pos (p .places)) (low-over K ok c ce) in
       λ i. record { high = high i; low = low i; scale = d .scale }
 
   -- and have exactly the values Ch and Cl
-  pub stored-high : HasValue (appliedOf d .high) false (highPart toEven n 62 c .num) (highPart toEven n 62 c .den)
+  pub stored-high : HasValue (appliedOf d .high) false (highPart K c .num) (highPart K c .den)
   unfolding appliedOf
   stored-high =
-      let x = highPart toEven n 62 c in
-      let t = high-counts toEven n 62 (P n N c ce) (F n N c ce) c ce in
+      let x = highPart K c in
+      let t = high-counts K ok c ce in
       subst (λ (b : Bool). HasValue (Ieee.round binary32 b (x .num) (x .den)) false (x .num) (x .den)) (sym (t .sign))
-      (stored-exactly n (N .most) false (x .num) (x .den) (partsAt toEven n 62 c .high) (n - 1) (t .some) (storable n N c ce .most) (omega arith) (omega arith) (high-over n N c ce))
+      (stored-exactly n (N .most) false (x .num) (x .den) (partsAt K c .high) (n - 1) (t .some) (storable K ok c ce .most) (omega arith) (omega arith) (high-over K ok c ce))
 
-  pub stored-low : HasValue (appliedOf d .low) (lowPart toEven n 62 c .minus) (lowPart toEven n 62 c .num) (lowPart toEven n 62 c .den)
+  pub stored-low : HasValue (appliedOf d .low) (lowPart K c .minus) (lowPart K c .num) (lowPart K c .den)
   unfolding appliedOf
-  stored-low = go (decLe (natAbs (partsAt toEven n 62 c .low)) 0)
+  stored-low = go (decLe (natAbs (partsAt K c .low)) 0)
     where
-      s : LowStorable n (partsAt toEven n 62 c .low) (partsAt toEven n 62 c .places)
-      s = storable n N c ce .low
+      s : LowStorable K (partsAt K c .low) (partsAt K c .places)
+      s = storable K ok c ce .low
 
-      go : Dec (natAbs (partsAt toEven n 62 c .low) ≤ 0) → HasValue (float32 (lowPart toEven n 62 c)) (lowPart toEven n 62 c .minus) (lowPart toEven n 62 c .num) (lowPart toEven n 62 c .den)
+      go : Dec (natAbs (partsAt K c .low) ≤ 0) → HasValue (float32 (lowPart K c)) (lowPart K c .minus) (lowPart K c .num) (lowPart K c .den)
       go (yes y) =
           let z = s .none (omega arith) in
-          let none : lowPart toEven n 62 c .num ≡ 0 = omega (arith, low-over n N c ce, ap (λ (q : ℕ). lowPart toEven n 62 c .num * 2 ^ q) (z .1), ap (λ (m : ℤ). natAbs m * lowPart toEven n 62 c .den) (z .0)) in
-          stored-exactly n (N .most) (lowPart toEven n 62 c .minus) (lowPart toEven n 62 c .num) (lowPart toEven n 62 c .den) 0 n (low-counts toEven n 62 (P n N c ce) (F n N c ce) c ce .some) (omega arith) (omega arith) (omega arith) (omega (arith, ap (λ (m : ℕ). m * 2 ^ n) none))
+          let none : lowPart K c .num ≡ 0 = omega (arith, low-over K ok c ce, ap (λ (q : ℕ). lowPart K c .num * 2 ^ q) (z .1), ap (λ (m : ℤ). natAbs m * lowPart K c .den) (z .0)) in
+          stored-exactly n (N .most) (lowPart K c .minus) (lowPart K c .num) (lowPart K c .den) 0 n (low-counts K ok c ce .some) (omega arith) (omega arith) (omega arith) (omega (arith, ap (λ (m : ℕ). m * 2 ^ n) none))
       go (no y) =
-          let m : 0 < natAbs (partsAt toEven n 62 c .low) = lt-of-not-le y in
-          stored-exactly n (N .most) (lowPart toEven n 62 c .minus) (lowPart toEven n 62 c .num) (lowPart toEven n 62 c .den) (natAbs (partsAt toEven n 62 c .low)) (partsAt toEven n 62 c .places) (low-counts toEven n 62 (P n N c ce) (F n N c ce) c ce .some) (le-of-lt (s .some m .most)) (s .deep m) (omega (arith, s .shallow)) (low-over n N c ce)
+          let m : 0 < natAbs (partsAt K c .low) = lt-of-not-le y in
+          stored-exactly n (N .most) (lowPart K c .minus) (lowPart K c .num) (lowPart K c .den) (natAbs (partsAt K c .low)) (partsAt K c .places) (low-counts K ok c ce .some) (le-of-lt (s .some m .most)) (s .deep m) (omega (arith, s .shallow)) (low-over K ok c ce)
 
 -- so what set-up stores are numbers
 pub accepted-numbers : (d : Description) (f : Factor) → setUp d ≡ accepted f → T (not (isNan (f .applied .high))) × T (not (isNan (f .applied .low)))
 accepted-numbers d f e =
     let t = setUp-sound d f e in
-    let kept : Kept (d .precision) = record { least = t .1 .fewest; most = t .1 .most } in
-    let h = highPart toEven (d .precision) 62 (d .lower) in
-    let l = lowPart toEven (d .precision) 62 (d .lower) in
+    let h = highPart (contextFor d) (d .lower) in
+    let l = lowPart (contextFor d) (d .lower) in
     subst (λ (g : Factor). T (not (isNan (g .applied .high))) × T (not (isNan (g .applied .low)))) (t .0) (
-      value-number (appliedOf d .high) false (h .num) (h .den) (stored-high d kept (t .1 .lower-end)),
-      value-number (appliedOf d .low) (l .minus) (l .num) (l .den) (stored-low d kept (t .1 .lower-end)),
+      value-number (appliedOf d .high) false (h .num) (h .den) (stored-high d (t .1 .precision) (t .1 .lower-end)),
+      value-number (appliedOf d .low) (l .minus) (l .num) (l .den) (stored-low d (t .1 .precision) (t .1 .lower-end)),
     )

@@ -2,16 +2,17 @@
 
 use rounding::TieRule;
 ghost use mathlib.Core.Path.{_≡_};
-ghost use Prim.Native.Nat.{_+_, _-_, _*_, _<_, _≤_, _^_};
+ghost use Prim.Native.Nat.{suc, _+_, _-_, _*_, _<_, _≤_, _^_};
 ghost use mathlib.Core.Bool.{false, not, _||_};
 ghost use lib.Dec.{T, ltb};
 ghost use lib.Ieee;
 ghost use lib.Ieee.{binary32, isNan};
 ghost use lib.IntN.{natAbs};
+ghost use Rattle.wide.specs.Value.{halfWord};
 ghost use Rattle.rounding.specs.Apart.{apart};
-ghost use Rattle.rounding.specs.Grid.{toEven};
 ghost use Rattle.rounding.specs.Signed.{negative, signedOf};
-ghost use Rattle.factor.specs.Precision.{Kept, precisionOut, newPrecision, precisionSays, leastOf, mostOf};
+ghost use Rattle.factor.specs.Precision.{Kept, scaleOf, roundsOf, precisionOut, newPrecision, precisionSays, leastOf, mostOf};
+ghost use Rattle.factor.specs.Context.{contextAt};
 ghost use Rattle.factor.specs.Whole.{End, partsFrom};
 ghost use Rattle.factor.specs.Parts.{partsAt};
 ghost use Rattle.factor.specs.SetUp.{endOut, scaleOut, sameLow, sameFloat, sameApplied, sameFactor, setUp, outcomeOf, intact};
@@ -70,19 +71,6 @@ impl Precision {
     pub const LEAST: u32 = 4;
 
     pub const MOST: u32 = 24;
-    // The ends are whole numbers over 2 ^ SCALE, from 2 ^ SCALE to 2 ^ (SCALE + 1) - 1.
-    pub const SCALE: u32 = 62;
-
-    pub const LEAST_END: u64 = 4611686018427387904;
-
-    pub const PAST_END: u64 = 9223372036854775808;
-    // Digits dropped of a product below 2, and of one from 2 on, both counted in the unit 2 ^ - (SCALE + n - 1).
-    pub const LOW_DROPPED: u32 = 62;
-
-    pub const HIGH_DROPPED: u32 = 63;
-    // A search takes at most so many rounds.
-    pub const ROUNDS: u64 = 64;
-
     // Refusal 11: precision not 4 to 24.
     fn is_out(bits: u32) -> bool
         ensures { λ r. ⌜ r ≡ precisionOut bits ⌝ }
@@ -121,26 +109,74 @@ impl Precision {
         wide::power(n) - 1
     }
 
-    // The exponent of the high significand's step in the unit of the ends: 63 - n.
-    pub fn step(self) -> u32
+    // The scale E of the ends, which are whole numbers over 2 ^ E.
+    pub fn scale(self) -> u32
         requires { ⌜ Kept (self .bits) ⌝ }
-        ensures { λ r. ⌜ r ≡ 62 + 1 - self .bits ⌝ }
+        ensures { λ r. ⌜ r ≡ scaleOf (self .bits) ⌝ }
     {
-        Precision::SCALE + 1 - self.bits
+        62
     }
 
-    // The exponent of W: 62 - n.
+    // Digits dropped of a product below 2, counted in the unit 2 ^ - (E + n - 1).
+    pub fn low_dropped(self) -> u32
+        requires { ⌜ Kept (self .bits) ⌝ }
+        ensures { λ r. ⌜ r ≡ scaleOf (self .bits) ⌝ }
+    {
+        self.scale()
+    }
+
+    // And of one from 2 on.
+    pub fn high_dropped(self) -> u32
+        requires { ⌜ Kept (self .bits) ⌝ }
+        ensures { λ r. ⌜ r ≡ scaleOf (self .bits) + 1 ⌝ }
+    {
+        self.scale() + 1
+    }
+
+    // The least end, 2 ^ E, which stands for 1.
+    pub fn least_end(self) -> u64
+        requires { ⌜ Kept (self .bits) ⌝ }
+        ensures { λ r. ⌜ r ≡ 2 ^ scaleOf (self .bits) ⌝ }
+    {
+        wide::power(self.scale())
+    }
+
+    // The number past the largest end, 2 ^ (E + 1), which stands for 2.
+    pub fn past_end(self) -> u64
+        requires { ⌜ Kept (self .bits) ⌝ }
+        ensures { λ r. ⌜ r ≡ 2 ^ suc (scaleOf (self .bits)) ⌝ }
+    {
+        wide::power(self.high_dropped())
+    }
+
+    // The exponent of the high significand's step in the unit of the ends, E + 1 - n.
+    pub fn step(self) -> u32
+        requires { ⌜ Kept (self .bits) ⌝ }
+        ensures { λ r. ⌜ r ≡ scaleOf (self .bits) + 1 - self .bits ⌝ }
+    {
+        self.scale() + 1 - self.bits
+    }
+
+    // The exponent of the window W, E - n.
     pub fn window(self) -> u32
         requires { ⌜ Kept (self .bits) ⌝ }
-        ensures { λ r. ⌜ r ≡ 62 - self .bits ⌝ }
+        ensures { λ r. ⌜ r ≡ scaleOf (self .bits) - self .bits ⌝ }
     {
-        Precision::SCALE - self.bits
+        self.scale() - self.bits
+    }
+
+    // A search takes at most so many rounds.
+    pub fn rounds(self) -> u64
+        requires { ⌜ Kept (self .bits) ⌝ }
+        ensures { λ r. ⌜ r ≡ roundsOf (self .bits) ⌝ }
+    {
+        64
     }
 }
 
 // C - Ch in the unit of the ends, signed.
 fn rest_of(end: u64, whole: u64) -> i64
-    requires { ⌜ apart end whole < 2 ^ 63 ⌝ }
+    requires { ⌜ apart end whole < halfWord ⌝ }
     ensures { λ r. ⌜ r ≡ signedOf (ltb end whole) (apart end whole) ⌝ }
 {
     if end < whole {
@@ -151,8 +187,8 @@ fn rest_of(end: u64, whole: u64) -> i64
 
 // The parts from the high significand and the rest: the low part is the rest rounded, its exact sign kept.
 fn parts_from(p: Precision, high: u64, rest: i64) -> Parts
-    requires { ⌜ Kept (p .bits) × (natAbs rest ≤ 2 ^ (62 - p .bits)) ⌝ }
-    ensures { λ r. ⌜ r ≡ partsFrom toEven (p .bits) 62 high rest ⌝ }
+    requires { ⌜ Kept (p .bits) × (natAbs rest ≤ 2 ^ (scaleOf (p .bits) - p .bits)) ⌝ }
+    ensures { λ r. ⌜ r ≡ partsFrom (contextAt (p .bits)) high rest ⌝ }
 {
     let n = p.bits;
     let r = round::round_signed(rest, n, TieRule::ToEven);
@@ -167,14 +203,14 @@ fn parts_from(p: Precision, high: u64, rest: i64) -> Parts
     Parts {
         high,
         low,
-        places: (62 - r.exponent) as u32,
+        places: (p.scale() as i32 - r.exponent) as u32,
     }
 }
 
 // The parts at one end.
 pub fn parts_at(p: Precision, end: u64) -> Parts
-    requires { ⌜ Kept (p .bits) × End 62 end ⌝ }
-    ensures { λ r. ⌜ r ≡ partsAt toEven (p .bits) 62 end ⌝ }
+    requires { ⌜ Kept (p .bits) × End (contextAt (p .bits)) end ⌝ }
+    ensures { λ r. ⌜ r ≡ partsAt (contextAt (p .bits)) end ⌝ }
 {
     let k = p.step();
     let near = round::nearest_word(end, k, TieRule::ToEven);
@@ -204,7 +240,7 @@ fn high_float(n: u32, high: u64) -> f32
 
 // The low part as a binary32 number; a zero low part is plus zero.
 fn low_float(n: u32, low: i64, places: u32) -> f32
-    requires { ⌜ Kept n × LowStorable n low places ⌝ }
+    requires { ⌜ Kept n × LowStorable (contextAt n) low places ⌝ }
     ensures { λ r. ⌜ r ≡ Ieee.round binary32 (negative low) (natAbs low) (2 ^ places) ⌝ }
 {
     let size = round::magnitude(low);
@@ -217,7 +253,7 @@ fn low_float(n: u32, low: i64, places: u32) -> f32
 
 // What a handheld applies, from the parts.
 fn stored_parts(p: Precision, parts: Parts, scale: i32) -> Applied
-    requires { ⌜ Kept (p .bits) × Storable (p .bits) parts ⌝ }
+    requires { ⌜ Kept (p .bits) × Storable (contextAt (p .bits)) parts ⌝ }
     ensures { λ r. ⌜ r ≡ appliedFrom (p .bits) scale parts ⌝ }
 {
     let n = p.bits;
@@ -226,14 +262,15 @@ fn stored_parts(p: Precision, parts: Parts, scale: i32) -> Applied
     Applied { high, low, scale }
 }
 
-// Refusal 12: an end not 2 ^ 62 to 2 ^ 63 - 1.
-fn end_out(end: u64) -> bool
-    ensures { λ r. ⌜ r ≡ endOut 62 end ⌝ }
+// Refusal 12: an end not 2 ^ E to 2 ^ (E + 1) - 1.
+fn end_out(p: Precision, end: u64) -> bool
+    requires { ⌜ Kept (p .bits) ⌝ }
+    ensures { λ r. ⌜ r ≡ endOut (contextAt (p .bits)) end ⌝ }
 {
-    if end < Precision::LEAST_END {
+    if end < p.least_end() {
         return true;
     }
-    Precision::PAST_END <= end
+    p.past_end() <= end
 }
 
 // Refusal 14: scale not -100 to 100.
@@ -257,13 +294,14 @@ fn same_low(p: Parts, q: Parts) -> bool
 }
 
 // Refusal 12: one end or the other.
-fn ends_out(lower: u64, upper: u64) -> bool
-    ensures { λ r. ⌜ r ≡ endOut 62 lower || endOut 62 upper ⌝ }
+fn ends_out(p: Precision, lower: u64, upper: u64) -> bool
+    requires { ⌜ Kept (p .bits) ⌝ }
+    ensures { λ r. ⌜ r ≡ endOut (contextAt (p .bits)) lower || endOut (contextAt (p .bits)) upper ⌝ }
 {
-    if end_out(lower) {
+    if end_out(p, lower) {
         return true;
     }
-    end_out(upper)
+    end_out(p, upper)
 }
 
 // Set-up: the factor, or the first refusal whose condition holds.
@@ -273,7 +311,7 @@ pub fn set_up(d: Description) -> SetUp
     let PrecisionAnswer::Accepted(precision) = Precision::new(d.precision) else {
         return SetUp::Refused(11);
     };
-    if ends_out(d.lower, d.upper) {
+    if ends_out(precision, d.lower, d.upper) {
         return SetUp::Refused(12);
     }
     if d.upper < d.lower {

@@ -11,7 +11,9 @@ use Rattle.rounding.specs.Round.{rounded}
 use Rattle.factor.specs.declared.Description.{Description}
 use Rattle.factor.specs.declared.Parts.{Parts}
 use Rattle.factor.specs.Parts.{partsAt}
-use Rattle.factor.specs.SetUp.{setUp, partsOf, appliedOf, intact}
+use Rattle.factor.specs.Precision.{scaleOf}
+use Rattle.factor.specs.Context.{tieRule}
+use Rattle.factor.specs.SetUp.{setUp, appliedOf, intact}
 use Rattle.product.specs.Product.{product}
 use Rattle.product.specs.Marks.{mark}
 use Rattle.product.specs.Answer.{multiplied}
@@ -77,7 +79,7 @@ figures =
 
 -- every row holds
 pub every-figure : All Holds figures
-unfolding figures answer setUp partsOf appliedOf partsAt intact multiplied rounded nearest product mark isSuspect row pick span spanOf Ieee.round Ieee.size Ieee.span Ieee.climb Ieee.toBits
+unfolding figures answer setUp appliedOf scaleOf tieRule partsAt intact multiplied rounded nearest product mark isSuspect row pick span spanOf Ieee.round Ieee.size Ieee.span Ieee.climb Ieee.toBits
 every-figure = (
   (refl, (refl, (refl, tt)), refl),
   (

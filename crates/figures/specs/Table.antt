@@ -6,7 +6,8 @@ use Rattle.marks.specs.declared.Mark.{Mark}
 use Rattle.marks.specs.Answers.{Outcome, accepted, andThen}
 use Rattle.factor.specs.declared.Description.{Description}
 use Rattle.factor.specs.declared.Parts.{Parts}
-use Rattle.factor.specs.Precision.{scaleOf, leastOf}
+use Rattle.factor.specs.Precision.{leastOf}
+use Rattle.factor.specs.Context.{contextFor}
 use Rattle.factor.specs.SetUp.{setUp}
 use Rattle.product.specs.Answer.{multiplied}
 use Rattle.suspects.specs.Suspects.{isSuspect}
@@ -43,7 +44,7 @@ Multiplies d m = andThen (setUp d) (λ f. multiplied f (m .X)) ≡ accepted (rec
 
 abbrev pub Suspects : Description → Suspected → Type 0
 Suspects d unsaid = Unit {0}
-Suspects d (exactly l) = let n = d .precision in row (isSuspect n (scaleOf n) (d .lower) (d .upper)) (leastOf n) (2 ^ n) ≡ l
+Suspects d (exactly l) = let n = d .precision in row (isSuspect (contextFor d) (d .lower) (d .upper)) (leastOf n) (2 ^ n) ≡ l
 
 -- every one of a list
 abbrev pub All : {A : Type 0} → (A → Type 0) → List A → Type 0

@@ -42,6 +42,9 @@ pub unlike-plus : (s : Bool) → unlike s false ≡ s
 unlike-plus true = refl
 unlike-plus false = refl
 
+pub unit-is : (f : Format) (E : ℕ) → E < emax f → 2 ^ low f ≡ 2 ^ (E + (prec f - 1)) * 2 ^ unitAt f E
+unit-is f E h = ap (λ (z : ℕ). 2 ^ z) (omega (arith, two f)) ∙ pow-add 2 (E + (prec f - 1)) (unitAt f E)
+
 -- ---- m / 2 ^ q times X / hid, where m / 2 ^ q is l / 2 ^ E
 module _ (f : Format) (E : ℕ) (near : E < emax f) (m q l X : ℕ) (same : m * 2 ^ E ≡ l * 2 ^ q) where
   abbrev u : ℕ
@@ -49,9 +52,6 @@ module _ (f : Format) (E : ℕ) (near : E < emax f) (m q l X : ℕ) (same : m * 
 
   abbrev d : ℕ
   d = unitAt f E
-
-  unit : E + (prec f - 1) + d ≡ low f
-  unit = omega (arith, two f)
 
   P : 0 < prec f
   P = digits-some f
@@ -61,7 +61,7 @@ module _ (f : Format) (E : ℕ) (near : E < emax f) (m q l X : ℕ) (same : m * 
   on-grid =
       let c = 2 ^ q * hid f in
       let C : 0 < c = mul-pos (pow-pos q) (pow-pos (prec f - 1)) in
-      let t : 2 ^ low f ≡ 2 ^ E * hid f * 2 ^ d = ap (λ (z : ℕ). 2 ^ z) (sym unit) ∙ pow-add 2 (E + (prec f - 1)) d ∙ ap (λ (z : ℕ). z * 2 ^ d) (pow-add 2 E (prec f - 1)) in
+      let t : 2 ^ low f ≡ 2 ^ E * hid f * 2 ^ d = unit-is f E near ∙ ap (λ (z : ℕ). z * 2 ^ d) (pow-add 2 E (prec f - 1)) in
       sym (rn-grid f (m * X) c C)
       ∙ rn-same toEven (prec f) P (m * X * 2 ^ low f) c (l * X * 2 ^ d) 1 C (lit< tt) (regroup m X (2 ^ E) l (2 ^ q) (2 ^ d) (hid f) (2 ^ low f) t same)
       ∙ rn-scale-whole toEven (prec f) P (l * X) d
@@ -77,7 +77,7 @@ module _ (f : Format) (E : ℕ) (near : E < emax f) (m q l X : ℕ) (same : m * 
   product-value small x y s vx vy =
       let e = mul-value f x y s false m (2 ^ q) X (hid f) (pow-pos q) (pow-pos (prec f - 1)) vx vy ∙ ap (λ (z : Bool). Ieee.round f z (m * X) (2 ^ q * hid f)) (unlike-plus s) in
       let g = on-grid in
-      let under : u * 2 ^ d < overflow f = lt-of-lt-of-le (shl-lt E d small) (pow-mono {i = E + d} {j = low f + suc (emax f)} (omega (arith, unit))) in
+      let under : u * 2 ^ d < overflow f = lt-of-lt-of-le (shl-lt E d small) (pow-mono {i = E + d} {j = low f + suc (emax f)} (omega (arith, two f))) in
       subst (λ (z : Float). HasValue z s (u * 2 ^ d) (2 ^ low f)) (sym e)
       (subst (λ (z : ℕ). HasValue (Ieee.round f s (m * X) (2 ^ q * hid f)) s z (2 ^ low f)) g (round-value f s (m * X) (2 ^ q * hid f) (subst (λ (z : ℕ). z < overflow f) (sym g) under)))
 

@@ -1,17 +1,17 @@
 // Binary32 numbers by their bit patterns: the one crate that knows how a float is laid out. What it knows is stated over a format, of which binary32 is one.
 ghost use mathlib.Core.Path.{_≡_};
 ghost use mathlib.Core.Bool.{not};
-ghost use Prim.Native.Nat.{_^_};
+ghost use Prim.Native.Nat.{_<_, _^_};
 ghost use lib.Dec.{T};
 ghost use lib.Ieee;
-ghost use lib.Ieee.{binary32, isNan, ofBits, toBits};
-ghost use Rattle.floats.specs.Fields.{signOf, fieldOf, digitsOf, significandOf, sameFloat, floatOf, Normalized, Narrow, InUnits, unitsOf};
+ghost use lib.Ieee.{binary32, emax, isNan, ofBits, toBits};
+ghost use Rattle.floats.specs.Fields.{signOf, fieldOf, digitsOf, significandOf, sameFloat, floatOf, Normalized, Narrow, unitAt, InUnits, unitsOf};
 
 // How many digits a significand has, the leading one counted.
 pub const PRECISION: u32 = 24;
 
 // The largest exponent.
-pub const MOST_EXPONENT: u32 = 127;
+const MOST_EXPONENT: u32 = 127;
 
 // The exponent's field of infinities and NaNs.
 pub const ENDLESS: u32 = 255;
@@ -104,6 +104,14 @@ pub fn narrow_float(minus: bool, n: u32, m: u64, places: u32) -> f32
 {
     let up = PRECISION - n;
     float_of(minus, MOST_EXPONENT + n - 2 - places, (m << up) as u32)
+}
+
+// The unit of a product of a number over 2 ^ scale and one from 1 to below 2: 2 ^ unit_at(scale) of the smallest values.
+pub fn unit_at(scale: u32) -> u32
+    requires { ⌜ scale < emax binary32 ⌝ }
+    ensures { λ r. ⌜ r ≡ unitAt binary32 scale ⌝ }
+{
+    MOST_EXPONENT - 1 - scale
 }
 
 // The size of a number that is whole in units of 2 ^ d of the smallest values, counted in them.

@@ -9,12 +9,12 @@ use lib.Pow.{pow-add, pow-pos}
 use borrow.Author.Tests.{ltb-true, ltb-false, eqb-true, eqb-false, le-ltb, eq-eqb}
 use Rattle.marks.specs.declared.Mark.{Mark}
 use Rattle.marks.specs.declared.Mark.the-variants.{Right, Open, Wrong}
-use Rattle.rounding.specs.Grid.{Rule}
 use Rattle.rounding.specs.Digits.{pow-half}
 use Rattle.rounding.specs.Unit.{rn}
 use Rattle.rounding.specs.UnitLaws.{rn-mono, rn-fixed}
 use Rattle.rounding.specs.Fraction.{Fraction, over, times}
 use Rattle.rounding.specs.FractionLaws.{Counts, over-counts, RN-counts, RN-counts-fraction, times-counts, counts-same, counts-unique, below-counts, equal-counts}
+use Rattle.factor.specs.Context.{Context}
 use Rattle.factor.specs.Accepted.{Between}
 use Rattle.product.specs.declared.Product.{Product}
 use Rattle.product.specs.Product.{argument, valueOf}
@@ -26,12 +26,14 @@ use Rattle.product.specs.Marks.{exact, mark, Gives, Says}
 pub right-units : (a b v : ℕ) → a ≡ v → b ≡ v → markUnits a b v ≡ Right
 right-units a b v p q = rw (le-ltb v a (omega arith), le-ltb b v (omega arith), eq-eqb a v p, eq-eqb b v q)
 
-module _ (rule : Rule) (n E : ℕ) (P : 0 < n) (L U X : ℕ) (v : Product) where
+module _ (K : Context) (P : 0 < K .n) (L U X : ℕ) (v : Product) where
+  open Context K using (rule, n, E)
+
   abbrev t : ℕ
   t = E + (n - 1)
 
   abbrev N : ℕ
-  N = units E v
+  N = units K v
 
   abbrev a : ℕ
   a = rn rule n (L * X) 1
@@ -43,30 +45,30 @@ module _ (rule : Rule) (n E : ℕ) (P : 0 < n) (L U X : ℕ) (v : Product) where
   unit = sym (pow-add 2 E (n - 1))
 
   -- ---- the mark by whole numbers
-  end-counts : (c : ℕ) → Counts (2 ^ t) false (rn rule n (c * X) 1) (exact rule n X (over c E))
+  end-counts : (c : ℕ) → Counts (2 ^ t) false (rn rule n (c * X) 1) (exact K X (over c E))
   end-counts c =
       RN-counts rule n P t false (c * X) (times (over c E) (argument n X))
       (subst (λ (z : ℕ). Counts z false (c * X) (times (over c E) (argument n X))) unit (times-counts (2 ^ E) (2 ^ (n - 1)) c X false (over c E) (argument n X) (over-counts c E) (over-counts X (n - 1))))
 
-  mark-counts : (T i j m : ℕ) → Counts T false i (exact rule n X (over L E)) → Counts T false j (exact rule n X (over U E)) → Counts T false m (valueOf n v) → mark rule n E L U X v ≡ markUnits i j m
+  mark-counts : (T i j m : ℕ) → Counts T false i (exact K X (over L E)) → Counts T false j (exact K X (over U E)) → Counts T false m (valueOf n v) → mark K L U X v ≡ markUnits i j m
   unfolding mark
   mark-counts T i j m p q r =
-      let wrong-below = below-counts T m i (valueOf n v) (exact rule n X (over L E)) r p in
-      let wrong-above = below-counts T j m (exact rule n X (over U E)) (valueOf n v) q r in
-      let at-lower = equal-counts T i m (exact rule n X (over L E)) (valueOf n v) p r in
-      let at-upper = equal-counts T j m (exact rule n X (over U E)) (valueOf n v) q r in
+      let wrong-below = below-counts T m i (valueOf n v) (exact K X (over L E)) r p in
+      let wrong-above = below-counts T j m (exact K X (over U E)) (valueOf n v) q r in
+      let at-lower = equal-counts T i m (exact K X (over L E)) (valueOf n v) p r in
+      let at-upper = equal-counts T j m (exact K X (over U E)) (valueOf n v) q r in
       λ k. cond (wrong-below k) Wrong (cond (wrong-above k) Wrong (cond (at-lower k && at-upper k) Right Open))
 
-  pub mark-units : mark rule n E L U X v ≡ markUnits a b N
-  mark-units = mark-counts (2 ^ t) a b N (end-counts L) (end-counts U) (value-counts n E v)
+  pub mark-units : mark K L U X v ≡ markUnits a b N
+  mark-units = mark-counts (2 ^ t) a b N (end-counts L) (end-counts U) (value-counts K v)
 
   -- and by whole numbers of the step 2 ^ (1 - n) of binade 0, i and j being those of the ends
-  pub mark-steps : (i j : ℕ) → i * 2 ^ E ≡ a → j * 2 ^ E ≡ b → mark rule n E L U X v ≡ markUnits i j (v .significand * 2 ^ v .binade)
+  pub mark-steps : (i j : ℕ) → i * 2 ^ E ≡ a → j * 2 ^ E ≡ b → mark K L U X v ≡ markUnits i j (v .significand * 2 ^ v .binade)
   mark-steps i j p q = mark-counts (2 ^ (n - 1)) i j (v .significand * 2 ^ v .binade) (at L i p) (at U j q) (over-counts (v .significand * 2 ^ v .binade) (n - 1))
     where
-      at : (c k : ℕ) → k * 2 ^ E ≡ rn rule n (c * X) 1 → Counts (2 ^ (n - 1)) false k (exact rule n X (over c E))
+      at : (c k : ℕ) → k * 2 ^ E ≡ rn rule n (c * X) 1 → Counts (2 ^ (n - 1)) false k (exact K X (over c E))
       at c k e =
-          let x = exact rule n X (over c E) in
+          let x = exact K X (over c E) in
           let w = end-counts c in
           record {
             unit = pow-pos (n - 1);
@@ -84,7 +86,7 @@ module _ (rule : Rule) (n E : ℕ) (P : 0 < n) (L U X : ℕ) (v : Product) where
     abbrev rounds : Fraction → ℕ
     rounds C = rn rule n (C .num * 2 ^ E * X) (C .den)
 
-    exact-counts : (C : Fraction) → Between E L U C → Counts (2 ^ t) false (rounds C) (exact rule n X C)
+    exact-counts : (C : Fraction) → Between K L U C → Counts (2 ^ t) false (rounds C) (exact K X C)
     exact-counts C k =
         RN-counts-fraction rule n P t (C .den) false (C .num * 2 ^ E * X) (times C (argument n X)) (k .some) fine
         (record {
@@ -100,23 +102,23 @@ module _ (rule : Rule) (n E : ℕ) (P : 0 < n) (L U X : ℕ) (v : Product) where
             let f = mul-le-mul-right X (le-trans (mul-le-mul-right (C .den) (le-trans one le)) (k .least)) in
             omega (arith, f, mul-le-mul-right (C .den) x1, ap (λ (z : ℕ). z * C .den) (pow-half n P))
 
-    gives : (C : Fraction) → Between E L U C → rounds C ≡ N → Gives rule n X v C
-    gives C k e = counts-same (2 ^ t) false N (exact rule n X C) (valueOf n v) (subst (λ (z : ℕ). Counts (2 ^ t) false z (exact rule n X C)) e (exact-counts C k)) (value-counts n E v)
+    gives : (C : Fraction) → Between K L U C → rounds C ≡ N → Gives K X v C
+    gives C k e = counts-same (2 ^ t) false N (exact K X C) (valueOf n v) (subst (λ (z : ℕ). Counts (2 ^ t) false z (exact K X C)) e (exact-counts C k)) (value-counts K v)
 
-    given : (C : Fraction) → Between E L U C → Gives rule n X v C → rounds C ≡ N
-    given C k = counts-unique (2 ^ t) false (rounds C) N (exact rule n X C) (valueOf n v) (exact-counts C k) (value-counts n E v)
+    given : (C : Fraction) → Between K L U C → Gives K X v C → rounds C ≡ N
+    given C k = counts-unique (2 ^ t) false (rounds C) N (exact K X C) (valueOf n v) (exact-counts C k) (value-counts K v)
 
-    from-L : (C : Fraction) → Between E L U C → a ≤ rounds C
+    from-L : (C : Fraction) → Between K L U C → a ≤ rounds C
     from-L C k = rn-mono rule n P (L * X) 1 (C .num * 2 ^ E * X) (C .den) (omega arith) (k .some) (omega (arith, mul-le-mul-right X (k .least)))
 
-    to-U : (C : Fraction) → Between E L U C → rounds C ≤ b
+    to-U : (C : Fraction) → Between K L U C → rounds C ≤ b
     to-U C k = rn-mono rule n P (C .num * 2 ^ E * X) (C .den) (U * X) 1 (k .some) (omega arith) (omega (arith, mul-le-mul-right X (k .most)))
 
     -- the ends themselves
-    at-L : Between E L U (over L E)
+    at-L : Between K L U (over L E)
     at-L = record { some = pow-pos E; sign = refl; least = le-of-eq refl; most = mul-le-mul-right (2 ^ E) lu }
 
-    at-U : Between E L U (over U E)
+    at-U : Between K L U (over U E)
     at-U = record { some = pow-pos E; sign = refl; least = mul-le-mul-right (2 ^ E) lu; most = le-of-eq refl }
 
     end-rounds : (c : ℕ) → rounds (over c E) ≡ rn rule n (c * X) 1
@@ -131,7 +133,7 @@ module _ (rule : Rule) (n E : ℕ) (P : 0 < n) (L U X : ℕ) (v : Product) where
     abbrev C-v : Fraction
     C-v = record { minus = false; num = N; den = X * 2 ^ E }
 
-    at-v : a < N → N < b → Between E L U C-v
+    at-v : a < N → N < b → Between K L U C-v
     at-v p q = record {
       some = mul-pos x0 (pow-pos E);
       sign = refl;
@@ -146,22 +148,22 @@ module _ (rule : Rule) (n E : ℕ) (P : 0 < n) (L U X : ℕ) (v : Product) where
     v-rounds : rounds C-v ≡ N
     v-rounds = ap (λ (z : ℕ). rn rule n z (X * 2 ^ E)) (omega arith) ∙ fixed (X * 2 ^ E) (mul-pos x0 (pow-pos E))
 
-    says-units : Says rule n E L U X v (markUnits a b N)
+    says-units : Says K L U X v (markUnits a b N)
     says-units = go (ltb N a) (ltb b N) (eqb a N) (eqb b N) refl refl refl refl
       where
-        L-gives : a ≡ N → Gives rule n X v (over L E)
+        L-gives : a ≡ N → Gives K X v (over L E)
         L-gives e = gives (over L E) at-L (end-rounds L ∙ e)
 
-        U-gives : b ≡ N → Gives rule n X v (over U E)
+        U-gives : b ≡ N → Gives K X v (over U E)
         U-gives e = gives (over U E) at-U (end-rounds U ∙ e)
 
-        L-not : (a ≡ N → ⊥) → ¬ Gives rule n X v (over L E)
+        L-not : (a ≡ N → ⊥) → ¬ Gives K X v (over L E)
         L-not e g = e (sym (end-rounds L) ∙ given (over L E) at-L g)
 
-        U-not : (b ≡ N → ⊥) → ¬ Gives rule n X v (over U E)
+        U-not : (b ≡ N → ⊥) → ¬ Gives K X v (over U E)
         U-not e g = e (sym (end-rounds U) ∙ given (over U E) at-U g)
 
-        go : (p q r s : Bool) → ltb N a ≡ p → ltb b N ≡ q → eqb a N ≡ r → eqb b N ≡ s → Says rule n E L U X v (cond p Wrong (cond q Wrong (cond (r && s) Right Open)))
+        go : (p q r s : Bool) → ltb N a ≡ p → ltb b N ≡ q → eqb a N ≡ r → eqb b N ≡ s → Says K L U X v (cond p Wrong (cond q Wrong (cond (r && s) Right Open)))
         go true q r s e f g h = λ C k z. omega (arith, ltb-true N a e, from-L C k, given C k z)
         go false true r s e f g h = λ C k z. omega (arith, ltb-true b N f, to-U C k, given C k z)
         go false false true true e f g h = λ C k. gives C k (omega (arith, eqb-true a N g, eqb-true b N h, from-L C k, to-U C k))
@@ -172,14 +174,14 @@ module _ (rule : Rule) (n E : ℕ) (P : 0 < n) (L U X : ℕ) (v : Product) where
             ((C-v, k, gives C-v k v-rounds), (over L E, at-L, L-not (eqb-false a N g)))
 
     -- the mark says so
-    pub mark-says : Says rule n E L U X v (mark rule n E L U X v)
-    mark-says = subst (Says rule n E L U X v) (sym mark-units) says-units
+    pub mark-says : Says K L U X v (mark K L U X v)
+    mark-says = subst (Says K L U X v) (sym mark-units) says-units
 
     -- and it is the only one that does
-    pub mark-only : (m : Mark) → Says rule n E L U X v m → mark rule n E L U X v ≡ m
-    mark-only m s = go (mark rule n E L U X v) m mark-says s
+    pub mark-only : (m : Mark) → Says K L U X v m → mark K L U X v ≡ m
+    mark-only m s = go (mark K L U X v) m mark-says s
       where
-        go : (x y : Mark) → Says rule n E L U X v x → Says rule n E L U X v y → x ≡ y
+        go : (x y : Mark) → Says K L U X v x → Says K L U X v y → x ≡ y
         go Right Right p q = refl
         go Right Open p q = absurd (q .1 .2 (p (q .1 .0) (q .1 .1)))
         go Right Wrong p q = absurd (q (over L E) at-L (p (over L E) at-L))

@@ -1,11 +1,11 @@
--- The two-step product (document 01, "The product"; source document 004, Algorithm 1), over the tie rule and the precision n. Definitions only. Assumes nothing.
+-- The two-step product (document 01, "The product"; source document 004, Algorithm 1), over a context. Definitions only. Assumes nothing.
 use Prim.Native.Nat.{ℕ, _-_, _*_, _^_}
 use lib.IntN.{pos, natAbs, _+ℤ_}
-use Rattle.rounding.specs.Grid.{Rule, toEven}
 use Rattle.rounding.specs.Round.{rounded}
 use Rattle.rounding.specs.Fraction.{Fraction, over, times, plus, RN}
 use Rattle.factor.specs.declared.Parts.{Parts}
 use Rattle.factor.specs.declared.Factor.{Factor}
+use Rattle.factor.specs.Context.{Context, contextOf}
 use Rattle.rounding.specs.Signed.{negative}
 use Rattle.product.specs.declared.Product.{Product}
 
@@ -20,29 +20,32 @@ high n p = over (p .high) (n - 1)
 abbrev pub low : Parts → Fraction
 low p = record { minus = negative (p .low); num = natAbs (p .low); den = 2 ^ p .places }
 
--- u1 = RN(Cl * x)
-abbrev pub first : Rule → (n : ℕ) → Parts → ℕ → Fraction
-first rule n p X = RN rule n (times (low p) (argument n X))
+module _ (K : Context) where
+  open Context K using (rule, n)
 
--- Ch * x + u1, exactly
-abbrev pub fused : Rule → (n : ℕ) → Parts → ℕ → Fraction
-fused rule n p X = plus (times (high n p) (argument n X)) (first rule n p X)
+  -- u1 = RN(Cl * x)
+  abbrev pub first : Parts → ℕ → Fraction
+  first p X = RN rule n (times (low p) (argument n X))
 
--- u2 = RN(Ch * x + u1)
-abbrev pub second : Rule → (n : ℕ) → Parts → ℕ → Fraction
-second rule n p X = RN rule n (fused rule n p X)
+  -- Ch * x + u1, exactly
+  abbrev pub fused : Parts → ℕ → Fraction
+  fused p X = plus (times (high n p) (argument n X)) (first p X)
 
--- u2 as a significand of n bits and a binade: significand * 2 ^ binade / 2 ^ (n - 1)
-unfoldable pub product : Rule → (n : ℕ) → Parts → ℕ → Product
-unfolding rounded
-product rule n p X =
-    let y = fused rule n p X in
-    let r = rounded rule n (y .num) (y .den) in
-    record { significand = r .significand; binade = natAbs (r .exponent +ℤ pos (n - 1)) }
+  -- u2 = RN(Ch * x + u1)
+  abbrev pub second : Parts → ℕ → Fraction
+  second p X = RN rule n (fused p X)
+
+  -- u2 as a significand of n bits and a binade: significand * 2 ^ binade / 2 ^ (n - 1)
+  unfoldable pub product : Parts → ℕ → Product
+  unfolding rounded
+  product p X =
+      let y = fused p X in
+      let r = rounded rule n (y .num) (y .den) in
+      record { significand = r .significand; binade = natAbs (r .exponent +ℤ pos (n - 1)) }
 
 -- the product of a factor, by its own precision and parts
 abbrev pub productBy : Factor → ℕ → Product
-productBy f X = product toEven (f .precision .bits) (f .parts) X
+productBy f X = product (contextOf f) (f .parts) X
 
 -- a product as a number
 abbrev pub valueOf : (n : ℕ) → Product → Fraction

@@ -10,7 +10,6 @@ use lib.IntN.{ℤ, pos, natAbs, _+ℤ_}
 use lib.Ieee.{minus}
 use borrow.Author.Tests.{ltb-true, le-ltb}
 use Rattle.rounding.specs.declared.Rounded.{Rounded}
-use Rattle.rounding.specs.Grid.{Rule}
 use Rattle.rounding.specs.Digits.{pow-half}
 use Rattle.rounding.specs.Unit.{rn}
 use Rattle.rounding.specs.UnitLaws.{rn-error, rn-le, rn-ge, rn-below}
@@ -19,6 +18,7 @@ use Rattle.rounding.specs.RoundLaws.{HasBits, rounded-at, rounded-bits, rounded
 use Rattle.rounding.specs.Fraction.{Fraction, times, Same}
 use Rattle.rounding.specs.FractionLaws.{Counts, sumSign, sumSize, over-counts, counts-finer, RN-counts, times-counts, plus-counts, counts-same}
 use Rattle.factor.specs.declared.Parts.{Parts}
+use Rattle.factor.specs.Context.{Context, Fine}
 use Rattle.factor.specs.Parts.{partsAt}
 use Rattle.factor.specs.Whole.{End, Whole, step, plusOrMinus, whole}
 use Rattle.rounding.specs.Signed.{negative}
@@ -38,24 +38,28 @@ module _ (n : ℕ) (P : 0 < n) where
   exponent-le s j t k h l e = le-of-suc-le-suc (lt-of-not-le (λ (g : suc j ≤ k). not-le-of-lt (exponent-order s j t k h l g) e))
 
 -- ---- a product as a whole number of the unit
-pub value-counts : (n E : ℕ) (v : Product) → Counts (2 ^ (E + (n - 1))) false (units E v) (valueOf n v)
-value-counts n E v =
+pub value-counts : (K : Context) (v : Product) → Counts (2 ^ (K .E + (K .n - 1))) false (units K v) (valueOf (K .n) v)
+value-counts K v =
+    let n = K .n in
+    let E = K .E in
     let s = v .significand in
     let k = counts-finer (2 ^ (n - 1)) (2 ^ E) (pow-pos E) false (s * 2 ^ v .binade) (valueOf n v) (over-counts (s * 2 ^ v .binade) (n - 1)) in
     subst (λ (z : ℕ). Counts (2 ^ (E + (n - 1))) false z (valueOf n v)) (omega (arith, ap (λ (z : ℕ). s * z) (pow-add 2 E (v .binade))))
     (subst (λ (z : ℕ). Counts z false (s * 2 ^ v .binade * 2 ^ E) (valueOf n v)) (omega (arith, pow-add 2 E (n - 1))) k)
 
 -- v is N of that unit, from 1 to below 4, with a significand of n bits
-pub record IsProduct (n E N : ℕ) (v : Product) : Type 0 where
-  pub bits : HasBits n (v .significand)
+pub record IsProduct (K : Context) (N : ℕ) (v : Product) : Type 0 where
+  pub bits : HasBits (K .n) (v .significand)
   pub binade : v .binade ≤ 1
-  pub value : units E v ≡ N
+  pub value : units K v ≡ N
 
-module _ (n E : ℕ) (P : 0 < n) (N : ℕ) where
+module _ (K : Context) (P : 0 < K .n) (N : ℕ) where
+  open Context K using (rule, n, E)
+
   -- N has just one such form
-  pub product-only : (u v : Product) → IsProduct n E N u → IsProduct n E N v → u ≡ v
+  pub product-only : (u v : Product) → IsProduct K N u → IsProduct K N v → u ≡ v
   product-only u v p q =
-      let e : units E u ≡ units E v = p .value ∙ sym (q .value) in
+      let e : units K u ≡ units K v = p .value ∙ sym (q .value) in
       let l = exponent-le n P (u .significand) (E + u .binade) (v .significand) (E + v .binade) (p .bits .most) (q .bits .least) (le-of-eq (sym e)) in
       let g = exponent-le n P (v .significand) (E + v .binade) (u .significand) (E + u .binade) (q .bits .most) (p .bits .least) (le-of-eq e) in
       let b : u .binade ≡ v .binade = omega arith in
@@ -67,15 +71,18 @@ module _ (n E : ℕ) (P : 0 < n) (N : ℕ) where
     pub exponent-from : E ≤ i
     exponent-from = exponent-le n P s i (2 ^ (n - 1)) E (bits .most) (le-of-eq refl) (le-trans from (le-of-eq (sym v)))
 
-    pub is-product : N ≤ (2 ^ n - 1) * 2 ^ suc E → IsProduct n E N (record { significand = s; binade = i - E })
+    pub is-product : N ≤ (2 ^ n - 1) * 2 ^ suc E → IsProduct K N (record { significand = s; binade = i - E })
     is-product to =
         let lo = exponent-from in
         let hi : i ≤ suc E = exponent-le n P (2 ^ n - 1) (suc E) s i (omega (arith, pow-pos n)) (bits .least) (le-trans (le-of-eq v) to) in
         record { bits = bits; binade = omega arith; value = ap (λ (z : ℕ). s * 2 ^ z) (omega arith) ∙ v }
 
-module _ (rule : Rule) (n E : ℕ) (P : 0 < n) (F : 2 * n ≤ E) (c : ℕ) (ce : End E c) where
+module _ (K : Context) (ok : Fine K) (c : ℕ) (ce : End K c) where
+  open Context K using (rule, n, E)
+  open Fine ok using (some as P, room as F)
+
   abbrev G : ℕ
-  G = step n E
+  G = step K
 
   abbrev W : ℕ
   W = 2 ^ (E - n)
@@ -84,52 +91,52 @@ module _ (rule : Rule) (n E : ℕ) (P : 0 < n) (F : 2 * n ≤ E) (c : ℕ) (ce :
   Q = 2 ^ (E - 2 * n)
 
   abbrev w : Whole
-  w = whole rule n E c
+  w = whole K c
 
   abbrev p : Parts
-  p = partsAt rule n E c
+  p = partsAt K c
 
   module _ (X : ℕ) (xe : X < 2 ^ n) where
     -- ---- u1
-    pub first-most : firstUnits rule n w X ≤ X * W
+    pub first-most : firstUnits K w X ≤ X * W
     unfolding firstUnits
-    first-most = rn-le rule n P (w .low * X) 1 X (E - n) (omega arith) (le-of-lt xe) (omega (arith, mul-le-mul-right X (low-most rule n E P F c ce)))
+    first-most = rn-le rule n P (w .low * X) 1 X (E - n) (omega arith) (le-of-lt xe) (omega (arith, mul-le-mul-right X (low-most K ok c ce)))
 
-    first-near : (2 * firstUnits rule n w X ≤ 2 * (w .low * X) + W) × (2 * (w .low * X) ≤ 2 * firstUnits rule n w X + W)
+    first-near : (2 * firstUnits K w X ≤ 2 * (w .low * X) + W) × (2 * (w .low * X) ≤ 2 * firstUnits K w X + W)
     unfolding firstUnits
     first-near =
-        let b : w .low * X ≤ 2 ^ (n + (E - n)) * 1 = omega (arith, mul-le-mul (low-most rule n E P F c ce) (le-of-lt xe), pow-add 2 n (E - n)) in
+        let b : w .low * X ≤ 2 ^ (n + (E - n)) * 1 = omega (arith, mul-le-mul (low-most K ok c ce) (le-of-lt xe), pow-add 2 n (E - n)) in
         let r = rn-error rule n P (w .low * X) 1 (E - n) (omega arith) b in
         (omega (arith, r .0), omega (arith, r .1))
 
-    pub first-under : firstUnits rule n w X ≤ w .high * G * X
-    first-under = omega (arith, first-most, mul-le-mul-right X (le-trans (width-le rule n E P F c ce) (high-from rule n E P F c ce)))
+    pub first-under : firstUnits K w X ≤ w .high * G * X
+    first-under = omega (arith, first-most, mul-le-mul-right X (le-trans (width-le K ok c ce) (high-from K ok c ce)))
 
     -- ---- Ch * x + u1 is never below x: where the low part is negative the high part is a whole step above 1
-    pub fused-least : 2 ^ E * X ≤ fusedUnits rule n E w X
+    pub fused-least : 2 ^ E * X ≤ fusedUnits K w X
     unfolding fusedUnits whole
     fused-least = go (ltb c (w .high * G)) refl
       where
-        go : (b : Bool) → ltb c (w .high * G) ≡ b → 2 ^ E * X ≤ plusOrMinus b (w .high * G * X) (firstUnits rule n w X)
+        go : (b : Bool) → ltb c (w .high * G) ≡ b → 2 ^ E * X ≤ plusOrMinus b (w .high * G * X) (firstUnits K w X)
         go true e =
             let l = ltb-true c (w .high * G) e in
-            let b = bottom-is n E F P in
+            let b = bottom-is K ok in
             let h : 2 ^ (n - 1) < w .high = lt-of-mul-lt-mul-right G (omega (arith, ce .from)) in
-            omega (arith, mul-le-mul-right X (mul-le-mul-right G h), ap (λ (z : ℕ). z * X) b, ap (λ (z : ℕ). z * X) (step-is n E F), first-most)
-        go false e = omega (arith, mul-le-mul-right X (high-from rule n E P F c ce))
+            omega (arith, mul-le-mul-right X (mul-le-mul-right G h), ap (λ (z : ℕ). z * X) b, ap (λ (z : ℕ). z * X) (step-is K ok), first-most)
+        go false e = omega (arith, mul-le-mul-right X (high-from K ok c ce))
 
     -- ---- |Ch * x + u1 - C * x| < 2 ^ (1 - 2 * n), at the end c
-    pub fused-near : (fusedUnits rule n E w X < c * X + W) × (c * X < fusedUnits rule n E w X + W)
+    pub fused-near : (fusedUnits K w X < c * X + W) × (c * X < fusedUnits K w X + W)
     unfolding fusedUnits
-    fused-near = go (w .minus) (worth-near rule n E P F c ce .0) (worth-near rule n E P F c ce .1)
+    fused-near = go (w .minus) (worth-near K ok c ce .0) (worth-near K ok c ce .1)
       where
         v : Q * X < W
-        v = omega (arith, mul-lt-mul-of-pos-left xe (pow-pos (E - 2 * n)), width-is n E F)
+        v = omega (arith, mul-lt-mul-of-pos-left xe (pow-pos (E - 2 * n)), width-is K ok)
 
         go : (b : Bool) → 2 * plusOrMinus b (w .high * G) (w .low) ≤ 2 * c + Q → 2 * c ≤ 2 * plusOrMinus b (w .high * G) (w .low) + Q
-            → (plusOrMinus b (w .high * G * X) (firstUnits rule n w X) < c * X + W) × (c * X < plusOrMinus b (w .high * G * X) (firstUnits rule n w X) + W)
+            → (plusOrMinus b (w .high * G * X) (firstUnits K w X) < c * X + W) × (c * X < plusOrMinus b (w .high * G * X) (firstUnits K w X) + W)
         go true x y =
-            let l : w .low ≤ w .high * G = le-trans (low-most rule n E P F c ce) (le-trans (width-le rule n E P F c ce) (high-from rule n E P F c ce)) in
+            let l : w .low ≤ w .high * G = le-trans (low-most K ok c ce) (le-trans (width-le K ok c ce) (high-from K ok c ce)) in
             let x' : 2 * (w .high * G) ≤ 2 * c + Q + 2 * w .low = omega arith in
             let y' : 2 * c + 2 * w .low ≤ 2 * (w .high * G) + Q = omega arith in
             let a = mul-le-mul-right X x' in
@@ -150,52 +157,52 @@ module _ (rule : Rule) (n E : ℕ) (P : 0 < n) (F : 2 * n ≤ E) (c : ℕ) (ce :
     unit = sym (pow-add 2 E (n - 1))
 
     minus-is : negative (p .low) ≡ w .minus
-    minus-is = ap (λ (z : Whole). z .minus) (sym (whole-of-parts rule n E P F c ce))
+    minus-is = ap (λ (z : Whole). z .minus) (sym (whole-of-parts K ok c ce))
 
     low-counts : Counts (2 ^ E) (w .minus) (w .low) (low p)
-    low-counts = record { unit = pow-pos E; some = pow-pos (p .places); sign = minus-is; count = low-kept rule n E P F c ce }
+    low-counts = record { unit = pow-pos E; some = pow-pos (p .places); sign = minus-is; count = low-kept K ok c ce }
 
     high-counts : Counts (2 ^ E) false (w .high * G) (high n p)
     high-counts =
-        let e = bottom-is n E F P in
-        subst (λ (z : ℕ). Counts (2 ^ E) false (z * G) (high n p)) (high-is rule n E P F c ce)
+        let e = bottom-is K ok in
+        subst (λ (z : ℕ). Counts (2 ^ E) false (z * G) (high n p)) (high-is K ok c ce)
         (subst (λ (z : ℕ). Counts z false (p .high * G) (high n p)) (sym e) (counts-finer (2 ^ (n - 1)) G (pow-pos (E + 1 - n)) false (p .high) (high n p) (over-counts (p .high) (n - 1))))
 
     at-unit : (m : Bool) (a : ℕ) (x : Fraction) → Counts (2 ^ E) m a x → Counts (2 ^ t) m (a * X) (times x (argument n X))
     at-unit m a x k = subst (λ (z : ℕ). Counts z m (a * X) (times x (argument n X))) unit (times-counts (2 ^ E) (2 ^ (n - 1)) a X m x (argument n X) k (over-counts X (n - 1)))
 
-    pub first-counts : Counts (2 ^ t) (w .minus) (firstUnits rule n w X) (first rule n p X)
+    pub first-counts : Counts (2 ^ t) (w .minus) (firstUnits K w X) (first K p X)
     unfolding firstUnits
     first-counts = RN-counts rule n P t (w .minus) (w .low * X) (times (low p) (argument n X)) (at-unit (w .minus) (w .low) (low p) low-counts)
 
-    pub fused-counts : Counts (2 ^ t) false (fusedUnits rule n E w X) (fused rule n p X)
+    pub fused-counts : Counts (2 ^ t) false (fusedUnits K w X) (fused K p X)
     unfolding fusedUnits
-    fused-counts = go (w .minus) (plus-counts (2 ^ t) (w .high * G * X) (firstUnits rule n w X) false (w .minus) (times (high n p) (argument n X)) (first rule n p X) (at-unit false (w .high * G) (high n p) high-counts) first-counts)
+    fused-counts = go (w .minus) (plus-counts (2 ^ t) (w .high * G * X) (firstUnits K w X) false (w .minus) (times (high n p) (argument n X)) (first K p X) (at-unit false (w .high * G) (high n p) high-counts) first-counts)
       where
-        go : (b : Bool) → Counts (2 ^ t) (sumSign false b (w .high * G * X) (firstUnits rule n w X)) (sumSize false b (w .high * G * X) (firstUnits rule n w X)) (fused rule n p X)
-            → Counts (2 ^ t) false (plusOrMinus b (w .high * G * X) (firstUnits rule n w X)) (fused rule n p X)
-        go true k = record { unit = k .unit; some = k .some; sign = k .sign ∙ le-ltb (w .high * G * X) (firstUnits rule n w X) first-under; count = k .count ∙ ap (λ (z : ℕ). z * fused rule n p X .den) (omega (arith, first-under)) }
+        go : (b : Bool) → Counts (2 ^ t) (sumSign false b (w .high * G * X) (firstUnits K w X)) (sumSize false b (w .high * G * X) (firstUnits K w X)) (fused K p X)
+            → Counts (2 ^ t) false (plusOrMinus b (w .high * G * X) (firstUnits K w X)) (fused K p X)
+        go true k = record { unit = k .unit; some = k .some; sign = k .sign ∙ le-ltb (w .high * G * X) (firstUnits K w X) first-under; count = k .count ∙ ap (λ (z : ℕ). z * fused K p X .den) (omega (arith, first-under)) }
         go false k = k
 
-    pub second-counts : Counts (2 ^ t) false (secondUnits rule n E w X) (second rule n p X)
+    pub second-counts : Counts (2 ^ t) false (secondUnits K w X) (second K p X)
     unfolding secondUnits
-    second-counts = RN-counts rule n P t false (fusedUnits rule n E w X) (fused rule n p X) fused-counts
+    second-counts = RN-counts rule n P t false (fusedUnits K w X) (fused K p X) fused-counts
 
     -- ---- the product is from 1 to below 4
     module _ (x1 : 2 ^ (n - 1) ≤ X) where
       abbrev y : ℕ
-      y = fusedUnits rule n E w X
+      y = fusedUnits K w X
 
-      pub second-least : 2 ^ (n - 1) * 2 ^ E ≤ secondUnits rule n E w X
+      pub second-least : 2 ^ (n - 1) * 2 ^ E ≤ secondUnits K w X
       unfolding secondUnits
       second-least = rn-ge rule n P y 1 (2 ^ (n - 1)) E (omega arith) (omega (arith, pow-half n P)) (omega (arith, fused-least, mul-le-mul-right (2 ^ E) x1))
 
       y-most : y < (2 ^ n - 1) * 2 ^ suc E + 2 ^ E
       y-most =
           let u : X ≤ 2 ^ n - 1 = omega arith in
-          omega (arith, fused-near .0, mul-le-mul u (le-of-lt (ce .to)), width-le rule n E P F c ce)
+          omega (arith, fused-near .0, mul-le-mul u (le-of-lt (ce .to)), width-le K ok c ce)
 
-      pub second-most : secondUnits rule n E w X ≤ (2 ^ n - 1) * 2 ^ suc E
+      pub second-most : secondUnits K w X ≤ (2 ^ n - 1) * 2 ^ suc E
       unfolding secondUnits
       second-most =
           let h = pow-half n P in
@@ -210,36 +217,36 @@ module _ (rule : Rule) (n E : ℕ) (P : 0 < n) (F : 2 * n ≤ E) (c : ℕ) (ce :
       y-pos : 0 < y
       y-pos = omega (arith, fine, pow-pos n)
 
-      pub fused-some : (0 < fused rule n p X .num) × (0 < fused rule n p X .den)
-      fused-some = let k = fused-counts in (num-pos (fused rule n p X .num) (fused rule n p X .den) (k .count) (k .some), k .some)
+      pub fused-some : (0 < fused K p X .num) × (0 < fused K p X .den)
+      fused-some = let k = fused-counts in (num-pos (fused K p X .num) (fused K p X .den) (k .count) (k .some), k .some)
         where
           num-pos : (a d : ℕ) → a * 2 ^ t ≡ y * d → 0 < d → 0 < a
           num-pos zero d e D = absurd (omega (arith, mul-pos y-pos D))
           num-pos (suc a) d e D = omega arith
 
       abbrev r : Rounded
-      r = rounded rule n (fused rule n p X .num) (fused rule n p X .den)
+      r = rounded rule n (fused K p X .num) (fused K p X .den)
 
       r-at : r ≡ roundedIn rule n t y 1
-      r-at = let k = fused-counts in rounded-at rule n P (fused rule n p X .num) (fused rule n p X .den) t y 1 (k .some) (omega arith) (omega (arith, k .count)) fine
+      r-at = let k = fused-counts in rounded-at rule n P (fused K p X .num) (fused K p X .den) t y 1 (k .some) (omega arith) (omega (arith, k .count)) fine
 
-      pub product-is : IsProduct n E (secondUnits rule n E w X) (product rule n p X)
+      pub product-is : IsProduct K (secondUnits K w X) (product K p X)
       unfolding product secondUnits
       product-is = of (roundedIn-exponent rule n P t y 1)
         where
           bits : HasBits n (r .significand)
-          bits = rounded-bits rule n P (fused rule n p X .num) (fused rule n p X .den) (fused-some .0) (fused-some .1)
+          bits = rounded-bits rule n P (fused K p X .num) (fused K p X .den) (fused-some .0) (fused-some .1)
 
           of : (i : ℕ) × (roundedIn rule n t y 1 .exponent ≡ minus i t) × (roundedIn rule n t y 1 .significand * 2 ^ i ≡ rn rule n y 1)
-              → IsProduct n E (rn rule n y 1) (record { significand = r .significand; binade = natAbs (r .exponent +ℤ pos (n - 1)) })
+              → IsProduct K (rn rule n y 1) (record { significand = r .significand; binade = natAbs (r .exponent +ℤ pos (n - 1)) })
           of (i, e, v) =
               let v' : r .significand * 2 ^ i ≡ rn rule n y 1 = ap (λ (z : Rounded). z .significand * 2 ^ i) r-at ∙ v in
-              let lo = exponent-from n E P (rn rule n y 1) second-least (r .significand) i bits v' in
+              let lo = exponent-from K P (rn rule n y 1) second-least (r .significand) i bits v' in
               let b : natAbs (r .exponent +ℤ pos (n - 1)) ≡ i - E = ap natAbs (ap (λ (z : ℤ). z +ℤ pos (n - 1)) (ap (λ (z : Rounded). z .exponent) r-at ∙ e) ∙ minus-shift i E (n - 1) ∙ minus-le i E lo) in
-              subst (λ (z : ℕ). IsProduct n E (rn rule n y 1) (record { significand = r .significand; binade = z })) (sym b) (is-product n E P (rn rule n y 1) second-least (r .significand) i bits v' second-most)
+              subst (λ (z : ℕ). IsProduct K (rn rule n y 1) (record { significand = r .significand; binade = z })) (sym b) (is-product K P (rn rule n y 1) second-least (r .significand) i bits v' second-most)
 
       -- it is u2
-      pub product-value : Same (second rule n p X) (valueOf n (product rule n p X))
+      pub product-value : Same (second K p X) (valueOf n (product K p X))
       product-value =
-          let v = product rule n p X in
-          counts-same (2 ^ t) false (units E v) (second rule n p X) (valueOf n v) (subst (λ (z : ℕ). Counts (2 ^ t) false z (second rule n p X)) (sym (product-is .value)) second-counts) (value-counts n E v)
+          let v = product K p X in
+          counts-same (2 ^ t) false (units K v) (second K p X) (valueOf n v) (subst (λ (z : ℕ). Counts (2 ^ t) false z (second K p X)) (sym (product-is .value)) second-counts) (value-counts K v)

@@ -12,7 +12,7 @@ use lib.Ieee.Digits.{size-lt, size-le}
 use lib.Ieee.Order.{drop}
 use Rattle.rounding.specs.Apart.{apart}
 use Rattle.rounding.specs.declared.Rounded.{Rounded}
-use Rattle.rounding.specs.Grid.{Rule, nearest}
+use Rattle.rounding.specs.Grid.{nearest}
 use Rattle.rounding.specs.Digits.{pow-half}
 use Rattle.rounding.specs.Unit.{rn}
 use Rattle.rounding.specs.UnitLaws.{rn-le, rn-ge, rn-in-binade, rn-scale-whole, rn-whole-small}
@@ -20,6 +20,7 @@ use Rattle.rounding.specs.Round.{rounded, roundedIn}
 use Rattle.rounding.specs.RoundLaws.{HasBits, rounded-at, rounded-bits, roundedIn-exponent, minus-zero}
 use Rattle.rounding.specs.Signed.{signedOf}
 use Rattle.factor.specs.declared.Parts.{Parts}
+use Rattle.factor.specs.Context.{Context, Fine}
 use Rattle.factor.specs.Parts.{partsAt}
 use Rattle.factor.specs.Whole.{End, Whole, step, whole, wholeOf}
 use Rattle.factor.specs.PartsLaws.{high-most, low-kept, low-tells, whole-of-parts}
@@ -29,7 +30,9 @@ use Rattle.product.specs.Units.{firstUnits, fusedUnits, secondUnits, rou
 use Rattle.product.specs.ProductLaws.{IsProduct, is-product, exponent-from, product-only, product-is, first-most, first-under, fused-least, second-most}
 
 -- ---- RN of a whole number N of the unit, at least 1
-module _ (rule : Rule) (n E : ℕ) (P : 0 < n) (N : ℕ) (from : 2 ^ (n - 1) * 2 ^ E ≤ N) where
+module _ (K : Context) (P : 0 < K .n) (N : ℕ) (from : 2 ^ (K .n - 1) * 2 ^ K .E ≤ N) where
+  open Context K using (rule, n, E)
+
   abbrev r : Rounded
   r = rounded rule n N 1
 
@@ -65,55 +68,61 @@ module _ (rule : Rule) (n E : ℕ) (P : 0 < n) (N : ℕ) (from : 2 ^ (n - 1) * 2
             count = i;
             exponent = ap (λ (z : Rounded). z .exponent) at ∙ e ∙ minus-zero i;
             value = v';
-            least = exponent-from n E P (rn rule n N 1) rn-from (r .significand) i bits v';
+            least = exponent-from K P (rn rule n N 1) rn-from (r .significand) i bits v';
           }
 
   -- so the form of `roundedUnits` is the number's
-  pub rounded-units-is : rn rule n N 1 ≤ (2 ^ n - 1) * 2 ^ suc E → IsProduct n E (rn rule n N 1) (roundedUnits rule n E N)
+  pub rounded-units-is : rn rule n N 1 ≤ (2 ^ n - 1) * 2 ^ suc E → IsProduct K (rn rule n N 1) (roundedUnits K N)
   unfolding roundedUnits
   rounded-units-is to =
       let d = dropped in
-      subst (λ (z : ℤ). IsProduct n E (rn rule n N 1) (record { significand = r .significand; binade = natAbs z - E })) (sym (d .exponent)) (is-product n E P (rn rule n N 1) rn-from (r .significand) (d .count) bits (d .value) to)
+      subst (λ (z : ℤ). IsProduct K (rn rule n N 1) (record { significand = r .significand; binade = natAbs z - E })) (sym (d .exponent)) (is-product K P (rn rule n N 1) rn-from (r .significand) (d .count) bits (d .value) to)
 
 -- ---- at an end c, with X a significand: RN(C * x)
-module _ (rule : Rule) (n E : ℕ) (P : 0 < n) (c : ℕ) (ce : End E c) (X : ℕ) (xb : HasBits n X) where
+module _ (K : Context) (P : 0 < K .n) (c : ℕ) (ce : End K c) (X : ℕ) (xb : HasBits (K .n) X) where
+  open Context K using (rule, n, E)
+
   pub end-from : 2 ^ (n - 1) * 2 ^ E ≤ c * X
   end-from = omega (arith, mul-le-mul (ce .from) (xb .least))
 
-  pub end-is : IsProduct n E (rn rule n (c * X) 1) (roundedUnits rule n E (c * X))
+  pub end-is : IsProduct K (rn rule n (c * X) 1) (roundedUnits K (c * X))
   end-is =
       let u : X ≤ 2 ^ n - 1 = omega (arith, xb .most) in
-      rounded-units-is rule n E P (c * X) end-from (rn-le rule n P (c * X) 1 (2 ^ n - 1) (suc E) (omega arith) (omega arith) (omega (arith, mul-le-mul u (le-of-lt (ce .to)))))
+      rounded-units-is K P (c * X) end-from (rn-le rule n P (c * X) 1 (2 ^ n - 1) (suc E) (omega arith) (omega arith) (omega (arith, mul-le-mul u (le-of-lt (ce .to)))))
 
 -- u1 = u as code has it: m is |s| * X of d digits, for the low significand s of q places. All but n digits are dropped, and what is kept is shifted into the unit
-pub record FirstStep (rule : Rule) (n E q m d u : ℕ) : Type 0 where
-  pub digits : 2 * n ≤ suc d
-  pub reach : q ≤ d - n + E
-  pub room : d - n + E - q ≤ E
-  pub value : u ≡ nearest rule m (2 ^ (d - n)) * 2 ^ (d - n + E - q)
+module _ (K : Context) where
+  open Context K using (rule, n, E)
+
+  pub record FirstStep (q m d u : ℕ) : Type 0 where
+    pub digits : 2 * n ≤ suc d
+    pub reach : q ≤ d - n + E
+    pub room : d - n + E - q ≤ E
+    pub value : u ≡ nearest rule m (2 ^ (d - n)) * 2 ^ (d - n + E - q)
 
 -- ---- p are the parts at an end
-module _ (rule : Rule) (n E : ℕ) (p : Parts) (at : PartsAtEnd rule n E p) where
-  P : 0 < n
-  P = omega (arith, at .two)
+module _ (K : Context) (p : Parts) (at : PartsAtEnd K p) where
+  open Context K using (rule, n, E)
 
-  abbrev F : 2 * n ≤ E
-  F = at .fine
+  abbrev ok : Fine K
+  ok = at .fine
+
+  open Fine ok using (some as P)
 
   abbrev c : ℕ
   c = at .end
 
-  abbrev ce : End E c
+  abbrev ce : End K c
   ce = at .is-end
 
-  abbrev kept : p ≡ partsAt rule n E c
+  abbrev kept : p ≡ partsAt K c
   kept = at .parts
 
   abbrev w : Whole
-  w = wholeOf E p
+  w = wholeOf K p
 
-  w-is : whole rule n E c ≡ w
-  w-is = whole-of-parts rule n E P F c ce ∙ ap (wholeOf E) (sym kept)
+  w-is : whole K c ≡ w
+  w-is = whole-of-parts K ok c ce ∙ ap (wholeOf K) (sym kept)
 
   abbrev s : ℕ
   s = natAbs (p .low)
@@ -122,18 +131,18 @@ module _ (rule : Rule) (n E : ℕ) (p : Parts) (at : PartsAtEnd rule n E p) wher
   q = p .places
 
   pub high-le : p .high ≤ 2 ^ n
-  high-le = subst (λ (v : Whole). v .high ≤ 2 ^ n) w-is (high-most rule n E P F c ce)
+  high-le = subst (λ (v : Whole). v .high ≤ 2 ^ n) w-is (high-most K ok c ce)
 
   -- the low significand has n bits where it is not zero, and its places have a range
   pub low-some : 0 < s → HasBits n s × (2 * n ≤ suc q) × (q < E + n)
   low-some h = subst (λ (z : Parts). HasBits n (natAbs (z .low)) × (2 * n ≤ suc (z .places)) × (z .places < E + n)) (sym kept) (go (decLe (natAbs z) 0))
     where
       z : ℤ
-      z = signedOf (whole rule n E c .minus) (apart c (whole rule n E c .high * step n E))
+      z = signedOf (whole K c .minus) (apart c (whole K c .high * step K))
 
-      go : Dec (natAbs z ≤ 0) → HasBits n (natAbs (partsAt rule n E c .low)) × (2 * n ≤ suc (partsAt rule n E c .places)) × (partsAt rule n E c .places < E + n)
-      go (yes g) = let none = low-tells rule n E P F c ce .none (omega arith) in absurd (omega (arith, ap (λ (y : Parts). natAbs (y .low)) kept, ap natAbs (none .0)))
-      go (no g) = low-tells rule n E P F c ce .some (lt-of-not-le g)
+      go : Dec (natAbs z ≤ 0) → HasBits n (natAbs (partsAt K c .low)) × (2 * n ≤ suc (partsAt K c .places)) × (partsAt K c .places < E + n)
+      go (yes g) = let none = low-tells K ok c ce .none (omega arith) in absurd (omega (arith, ap (λ (y : Parts). natAbs (y .low)) kept, ap natAbs (none .0)))
+      go (no g) = low-tells K ok c ce .some (lt-of-not-le g)
 
   pub low-lt : s < 2 ^ n
   low-lt = go (decLt 0 s)
@@ -143,20 +152,20 @@ module _ (rule : Rule) (n E : ℕ) (p : Parts) (at : PartsAtEnd rule n E p) wher
       go (no h) = omega (arith, pow-pos n)
 
   pub low-value : s * 2 ^ E ≡ w .low * 2 ^ q
-  low-value = subst (λ (v : Whole). s * 2 ^ E ≡ v .low * 2 ^ q) w-is (subst (λ (z : Parts). natAbs (z .low) * 2 ^ E ≡ whole rule n E c .low * 2 ^ z .places) (sym kept) (low-kept rule n E P F c ce))
+  low-value = subst (λ (v : Whole). s * 2 ^ E ≡ v .low * 2 ^ q) w-is (subst (λ (z : Parts). natAbs (z .low) * 2 ^ E ≡ whole K c .low * 2 ^ z .places) (sym kept) (low-kept K ok c ce))
 
   module _ (X : ℕ) (xb : HasBits n X) where
     abbrev u : ℕ
-    u = firstUnits rule n w X
+    u = firstUnits K w X
 
     -- ---- u1
     pub first-lt : u < 2 ^ E
     first-lt =
-        let m = subst (λ (v : Whole). firstUnits rule n v X ≤ X * 2 ^ (E - n)) w-is (first-most rule n E P F c ce X (xb .most)) in
-        omega (arith, m, mul-lt-mul-of-pos-right (xb .most) (pow-pos (E - n)), top-is n E F)
+        let m = subst (λ (v : Whole). firstUnits K v X ≤ X * 2 ^ (E - n)) w-is (first-most K ok c ce X (xb .most)) in
+        omega (arith, m, mul-lt-mul-of-pos-right (xb .most) (pow-pos (E - n)), top-is K ok)
 
-    pub first-le : u ≤ p .high * step n E * X
-    first-le = subst (λ (v : Whole). firstUnits rule n v X ≤ v .high * step n E * X) w-is (first-under rule n E P F c ce X (xb .most))
+    pub first-le : u ≤ p .high * step K * X
+    first-le = subst (λ (v : Whole). firstUnits K v X ≤ v .high * step K * X) w-is (first-under K ok c ce X (xb .most))
 
     first-scaled : u * 2 ^ q ≡ rn rule n (s * X) 1 * 2 ^ E
     unfolding firstUnits
@@ -170,7 +179,7 @@ module _ (rule : Rule) (n E : ℕ) (p : Parts) (at : PartsAtEnd rule n E p) wher
         eq-of-mul-eq-mul-right (2 ^ q) (pow-pos q) u 0
         (first-scaled ∙ ap (λ (z : ℕ). rn rule n z 1 * 2 ^ E) e ∙ ap (λ (z : ℕ). z * 2 ^ E) (rn-whole-small rule n P 0 (omega arith)) ∙ omega arith)
 
-    pub first-some : (m d : ℕ) → m ≡ s * X → d ≡ size m → 0 < m → FirstStep rule n E q m d u
+    pub first-some : (m d : ℕ) → m ≡ s * X → d ≡ size m → 0 < m → FirstStep K q m d u
     first-some m d e f h = record { digits = digits; reach = reach; room = room; value = value }
       where
         pos-of : (a b : ℕ) → 0 < a * b → 0 < a
@@ -210,20 +219,20 @@ module _ (rule : Rule) (n E : ℕ) (p : Parts) (at : PartsAtEnd rule n E p) wher
             (first-scaled ∙ ap (λ (z : ℕ). rn rule n z 1 * 2 ^ E) (sym e) ∙ omega (arith, ap (λ (z : ℕ). z * 2 ^ E) r, ap (λ (z : ℕ). nearest rule m (2 ^ k) * z) t))
 
     -- ---- u2
-    pub fused-from : 2 ^ (n - 1) * 2 ^ E ≤ fusedUnits rule n E w X
-    fused-from = subst (λ (v : Whole). 2 ^ (n - 1) * 2 ^ E ≤ fusedUnits rule n E v X) w-is (omega (arith, fused-least rule n E P F c ce X (xb .most), mul-le-mul-left (2 ^ E) (xb .least)))
+    pub fused-from : 2 ^ (n - 1) * 2 ^ E ≤ fusedUnits K w X
+    fused-from = subst (λ (v : Whole). 2 ^ (n - 1) * 2 ^ E ≤ fusedUnits K v X) w-is (omega (arith, fused-least K ok c ce X (xb .most), mul-le-mul-left (2 ^ E) (xb .least)))
 
-    pub product-of-parts : IsProduct n E (secondUnits rule n E w X) (product rule n p X)
+    pub product-of-parts : IsProduct K (secondUnits K w X) (product K p X)
     product-of-parts =
-        subst (λ (v : Whole). IsProduct n E (secondUnits rule n E v X) (product rule n p X)) w-is
-        (subst (λ (z : Parts). IsProduct n E (secondUnits rule n E (whole rule n E c) X) (product rule n z X)) (sym kept) (product-is rule n E P F c ce X (xb .most) (xb .least)))
+        subst (λ (v : Whole). IsProduct K (secondUnits K v X) (product K p X)) w-is
+        (subst (λ (z : Parts). IsProduct K (secondUnits K (whole K c) X) (product K z X)) (sym kept) (product-is K ok c ce X (xb .most) (xb .least)))
 
-    second-le : secondUnits rule n E w X ≤ (2 ^ n - 1) * 2 ^ suc E
-    second-le = subst (λ (v : Whole). secondUnits rule n E v X ≤ (2 ^ n - 1) * 2 ^ suc E) w-is (second-most rule n E P F c ce X (xb .most) (xb .least))
+    second-le : secondUnits K w X ≤ (2 ^ n - 1) * 2 ^ suc E
+    second-le = subst (λ (v : Whole). secondUnits K v X ≤ (2 ^ n - 1) * 2 ^ suc E) w-is (second-most K ok c ce X (xb .most) (xb .least))
 
     -- rounding the fused sum gives the product
-    pub product-rounds : roundedUnits rule n E (fusedUnits rule n E w X) ≡ product rule n p X
+    pub product-rounds : roundedUnits K (fusedUnits K w X) ≡ product K p X
     unfolding secondUnits
     product-rounds =
-        let y = fusedUnits rule n E w X in
-        product-only n E P (rn rule n y 1) (roundedUnits rule n E y) (product rule n p X) (rounded-units-is rule n E P y fused-from second-le) product-of-parts
+        let y = fusedUnits K w X in
+        product-only K P (rn rule n y 1) (roundedUnits K y) (product K p X) (rounded-units-is K P y fused-from second-le) product-of-parts

@@ -6,45 +6,48 @@ use lib.Dec.{ltb, eqb}
 use lib.IntN.{natAbs}
 use Rattle.marks.specs.declared.Mark.{Mark}
 use Rattle.marks.specs.declared.Mark.the-variants.{Right, Open, Wrong}
-use Rattle.rounding.specs.Grid.{Rule}
 use Rattle.rounding.specs.Unit.{rn}
 use Rattle.rounding.specs.Round.{rounded}
 use Rattle.factor.specs.declared.Parts.{Parts}
+use Rattle.factor.specs.Context.{Context, Fine}
 use Rattle.factor.specs.Parts.{partsAt}
 use Rattle.factor.specs.Whole.{End, Whole, step, plusOrMinus}
 use Rattle.product.specs.declared.Product.{Product}
-
--- u1, its size
-unfoldable pub firstUnits : Rule → (n : ℕ) → Whole → ℕ → ℕ
-firstUnits rule n w X = rn rule n (w .low * X) 1
-
--- Ch * x + u1
-unfoldable pub fusedUnits : Rule → (n E : ℕ) → Whole → ℕ → ℕ
-unfolding firstUnits
-fusedUnits rule n E w X = plusOrMinus (w .minus) (w .high * step n E * X) (firstUnits rule n w X)
-
--- u2
-unfoldable pub secondUnits : Rule → (n E : ℕ) → Whole → ℕ → ℕ
-unfolding fusedUnits
-secondUnits rule n E w X = rn rule n (fusedUnits rule n E w X) 1
-
--- RN of N units, for an N from 1 to below 4: in binade 0 just E digits are dropped
-unfoldable pub roundedUnits : Rule → (n E N : ℕ) → Product
-unfolding rounded
-roundedUnits rule n E N = let r = rounded rule n N 1 in record { significand = r .significand; binade = natAbs (r .exponent) - E }
-
--- the other way: a product S * 2 ^ b / 2 ^ (n - 1) in units
-abbrev pub units : (E : ℕ) → Product → ℕ
-units E v = v .significand * 2 ^ (E + v .binade)
 
 -- the mark of v by whole numbers: a and b are RN(L * x) and RN(U * x)
 abbrev pub markUnits : (a b v : ℕ) → Mark
 markUnits a b v = cond (ltb v a) Wrong (cond (ltb b v) Wrong (cond (eqb a v && eqb b v) Right Open))
 
--- p are the parts at some end of the scale E
-pub record PartsAtEnd (rule : Rule) (n E : ℕ) (p : Parts) : Type 0 where
-  pub two : 2 ≤ n
-  pub fine : 2 * n ≤ E
-  pub end : ℕ
-  pub is-end : End E end
-  pub parts : p ≡ partsAt rule n E end
+module _ (K : Context) where
+  open Context K using (rule, n, E)
+
+  -- u1, its size
+  unfoldable pub firstUnits : Whole → ℕ → ℕ
+  firstUnits w X = rn rule n (w .low * X) 1
+
+  -- Ch * x + u1
+  unfoldable pub fusedUnits : Whole → ℕ → ℕ
+  unfolding firstUnits
+  fusedUnits w X = plusOrMinus (w .minus) (w .high * step K * X) (firstUnits w X)
+
+  -- u2
+  unfoldable pub secondUnits : Whole → ℕ → ℕ
+  unfolding fusedUnits
+  secondUnits w X = rn rule n (fusedUnits w X) 1
+
+  -- RN of N units, for an N from 1 to below 4: in binade 0 just E digits are dropped
+  unfoldable pub roundedUnits : ℕ → Product
+  unfolding rounded
+  roundedUnits N = let r = rounded rule n N 1 in record { significand = r .significand; binade = natAbs (r .exponent) - E }
+
+  -- the other way: a product S * 2 ^ b / 2 ^ (n - 1) in units
+  abbrev pub units : Product → ℕ
+  units v = v .significand * 2 ^ (E + v .binade)
+
+  -- p are the parts at some end
+  pub record PartsAtEnd (p : Parts) : Type 0 where
+    pub two : 2 ≤ n
+    pub fine : Fine K
+    pub end : ℕ
+    pub is-end : End K end
+    pub parts : p ≡ partsAt K end

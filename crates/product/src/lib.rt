@@ -8,11 +8,11 @@ use wide::Wide;
 ghost use mathlib.Core.Path.{_≡_};
 ghost use Prim.Native.Nat.{_+_, _-_, _*_, _<_, _≤_, _^_};
 ghost use Rattle.marks.specs.Answers.{accepted};
-ghost use Rattle.rounding.specs.Grid.{toEven};
 ghost use Rattle.rounding.specs.Unit.{rn};
 ghost use Rattle.rounding.specs.RoundLaws.{HasBits};
 ghost use Rattle.wide.specs.Value.{valueOf};
-ghost use Rattle.factor.specs.Precision.{Kept, significandOut};
+ghost use Rattle.factor.specs.Precision.{Kept, scaleOf, significandOut};
+ghost use Rattle.factor.specs.Context.{tieRule, contextAt, contextOf};
 ghost use Rattle.factor.specs.Whole.{End, wholeOf};
 ghost use Rattle.factor.specs.SetUp.{Sound};
 ghost use Rattle.product.specs.Product.{productBy};
@@ -34,24 +34,24 @@ pub enum ProductAnswer {
     Refused(u32),
 }
 
-// The size of u1 = RN(Cl * x), in the unit 2 ^ - (61 + n), in which all that follows is a whole number.
-fn first_units(n: u32, parts: Parts, x: u64) -> u64
-    requires { ⌜ Kept n × PartsAtEnd toEven n 62 parts × HasBits n x ⌝ }
-    ensures { λ r. ⌜ r ≡ firstUnits toEven n (wholeOf 62 parts) x ⌝ }
+// The size of u1 = RN(Cl * x), in the unit 2 ^ - (E + n - 1), in which all that follows is a whole number.
+fn first_units(p: Precision, parts: Parts, x: u64) -> u64
+    requires { ⌜ Kept (p .bits) × PartsAtEnd (contextAt (p .bits)) parts × HasBits (p .bits) x ⌝ }
+    ensures { λ r. ⌜ r ≡ firstUnits (contextAt (p .bits)) (wholeOf (contextAt (p .bits)) parts) x ⌝ }
 {
     let exact = round::magnitude(parts.low) * x;
     if exact == 0 {
         return 0;
     }
-    let dropped = wide::word_digits(exact) - n;
+    let dropped = wide::word_digits(exact) - p.bits;
     let near = round::nearest_word(exact, dropped, TieRule::ToEven);
-    near.taken << (dropped + Precision::SCALE - parts.places)
+    near.taken << (dropped + p.scale() - parts.places)
 }
 
 // Ch * x + u1, the sum and the product exact; u1 is given, by its size in that unit.
 fn fused_units(p: Precision, parts: Parts, x: u64, u1: u64) -> Wide
-    requires { ⌜ Kept (p .bits) × PartsAtEnd toEven (p .bits) 62 parts × HasBits (p .bits) x × (u1 ≡ firstUnits toEven (p .bits) (wholeOf 62 parts) x) ⌝ }
-    ensures { λ r. ⌜ valueOf r ≡ fusedUnits toEven (p .bits) 62 (wholeOf 62 parts) x ⌝ }
+    requires { ⌜ Kept (p .bits) × PartsAtEnd (contextAt (p .bits)) parts × HasBits (p .bits) x × (u1 ≡ firstUnits (contextAt (p .bits)) (wholeOf (contextAt (p .bits)) parts) x) ⌝ }
+    ensures { λ r. ⌜ valueOf r ≡ fusedUnits (contextAt (p .bits)) (wholeOf (contextAt (p .bits)) parts) x ⌝ }
 {
     let high = wide::shifted_left(wide::from_word(parts.high * x), p.step());
     let first = wide::from_word(u1);
@@ -61,26 +61,26 @@ fn fused_units(p: Precision, parts: Parts, x: u64, u1: u64) -> Wide
     wide::sum(high, first)
 }
 
-// A number of that unit, at least 1, to n bits: its leading zeros tell the digits to drop, 62 in binade 0.
-fn rounded_units(y: Wide, n: u32) -> Product
-    requires { ⌜ (1 ≤ n) × (n < 64) × (2 ^ (n - 1) * 2 ^ 62 ≤ valueOf y) ⌝ }
-    ensures { λ r. ⌜ r ≡ roundedUnits toEven n 62 (valueOf y) ⌝ }
+// A number of that unit, at least 1, to n bits: its leading zeros tell the digits to drop, and how many more than in binade 0 they are tells the binade.
+fn rounded_units(p: Precision, y: Wide) -> Product
+    requires { ⌜ Kept (p .bits) × (2 ^ (p .bits - 1) * 2 ^ scaleOf (p .bits) ≤ valueOf y) ⌝ }
+    ensures { λ r. ⌜ r ≡ roundedUnits (contextAt (p .bits)) (valueOf y) ⌝ }
 {
-    let r = round::round_wide(y, n, TieRule::ToEven);
+    let r = round::round_wide(y, p.bits, TieRule::ToEven);
     Product {
         significand: r.significand,
-        binade: r.exponent as u32 - Precision::SCALE,
+        binade: r.exponent as u32 - p.low_dropped(),
     }
 }
 
 // The second step, u2 = RN(Ch * x + u1), of a factor that was accepted, a significand in range and its u1.
 pub fn second_step(f: Factor, x: u64, u1: u64) -> Product
-    requires { ⌜ Sound f × HasBits (f .precision .bits) x × (u1 ≡ firstUnits toEven (f .precision .bits) (wholeOf 62 (f .parts)) x) ⌝ }
+    requires { ⌜ Sound f × HasBits (f .precision .bits) x × (u1 ≡ firstUnits (contextOf f) (wholeOf (contextOf f) (f .parts)) x) ⌝ }
     ensures { λ r. ⌜ r ≡ productBy f x ⌝ }
 {
     let p = f.precision;
     let parts = f.parts;
-    rounded_units(fused_units(p, parts, x, u1), p.bits)
+    rounded_units(p, fused_units(p, parts, x, u1))
 }
 
 // The product of a factor that was accepted and a significand in range.
@@ -88,25 +88,25 @@ pub fn product_of(f: Factor, x: u64) -> Product
     requires { ⌜ Sound f × HasBits (f .precision .bits) x ⌝ }
     ensures { λ r. ⌜ r ≡ productBy f x ⌝ }
 {
-    let n = f.precision.bits;
+    let p = f.precision;
     let parts = f.parts;
-    second_step(f, x, first_units(n, parts, x))
+    second_step(f, x, first_units(p, parts, x))
 }
 
 // A product as a whole number of 2 ^ (1 - n), the step of binade 0: so products are compared.
 fn steps_of(v: Product) -> u64
-    requires { ⌜ (v .significand < 2 ^ 63) × (v .binade ≤ 1) ⌝ }
+    requires { ⌜ (v .binade ≤ 1) × (v .significand * 2 ^ v .binade < 2 ^ 64) ⌝ }
     ensures { λ r. ⌜ r ≡ v .significand * 2 ^ v .binade ⌝ }
 {
     v.significand << v.binade
 }
 
 // RN(C * x) at an end, in the same steps.
-fn end_steps(c: u64, n: u32, x: u64) -> u64
-    requires { ⌜ Kept n × End 62 c × HasBits n x ⌝ }
-    ensures { λ r. ⌜ r * 2 ^ 62 ≡ rn toEven n (c * x) 1 ⌝ }
+fn end_steps(p: Precision, c: u64, x: u64) -> u64
+    requires { ⌜ Kept (p .bits) × End (contextAt (p .bits)) c × HasBits (p .bits) x ⌝ }
+    ensures { λ r. ⌜ r * 2 ^ scaleOf (p .bits) ≡ rn tieRule (p .bits) (c * x) 1 ⌝ }
 {
-    steps_of(rounded_units(wide::product(c, x), n))
+    steps_of(rounded_units(p, wide::product(c, x)))
 }
 
 // The mark of a value between or outside the two that the ends round to.
@@ -133,10 +133,10 @@ pub fn mark_of(f: Factor, x: u64, v: Product) -> Mark
     requires { ⌜ Sound f × HasBits (f .precision .bits) x × HasBits (f .precision .bits) (v .significand) × (v .binade ≤ 1) ⌝ }
     ensures { λ r. ⌜ r ≡ markBy f x v ⌝ }
 {
-    let n = f.precision.bits;
+    let p = f.precision;
     compared(
-        end_steps(f.lower, n, x),
-        end_steps(f.upper, n, x),
+        end_steps(p, f.lower, x),
+        end_steps(p, f.upper, x),
         steps_of(v),
     )
 }

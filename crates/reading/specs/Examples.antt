@@ -8,7 +8,10 @@ use lib.Ieee.{Float, nan, inf, fin}
 use Rattle.marks.specs.declared.Mark.{Mark}
 use Rattle.marks.specs.Answers.{judged, Outcome, refused, accepted, answer, Marked}
 use Rattle.factor.specs.declared.Factor.{Factor}
-use Rattle.factor.specs.SetUp.{partsOf, appliedOf, factorOf}
+use Rattle.factor.specs.Precision.{scaleOf}
+use Rattle.factor.specs.Context.{tieRule}
+use Rattle.factor.specs.Parts.{partsAt}
+use Rattle.factor.specs.SetUp.{appliedOf, factorOf}
 use Rattle.factor.specs.declared.Description.{Description}
 use Rattle.reading.specs.Reading.{applied}
 
@@ -21,7 +24,7 @@ right y = accepted (record { mark = Mark.Right; value = y })
 
 -- C = 3/2, n = 24, at a scale
 threeHalves : ℤ → Factor
-unfolding partsOf appliedOf
+unfolding scaleOf tieRule partsAt appliedOf
 threeHalves k = factorOf (at 24 k (3 * 2 ^ 61))
 
 -- 2 ^ 27 at scale 100 is accepted, 2 ^ 28 refused with 23
@@ -64,10 +67,10 @@ below-normal = refl
 
 -- n = 23 is refused with 20, an infinity offered to it too
 short : applied (factorOf (at 23 (pos 0) (3 * 2 ^ 61))) (inf false) ≡ refused 20
-unfolding partsOf appliedOf applied answer judged Ieee.toBits
+unfolding scaleOf tieRule partsAt appliedOf applied answer judged Ieee.toBits
 short = refl
 
 -- C = 3/2 + 2 ^ -62 and x = 11184814 / 2 ^ 23: Ch * x lies half way between two numbers, and u1, 63 places below its leading digit, decides. In binary64 it would be lost, and the tie go down to 8388610
 fused-once : applied (factorOf (at 24 (pos 0) (3 * 2 ^ 61 + 1))) (fin false 5592407 (negsuc 21)) ≡ right (fin false 8388611 (negsuc 21))
-unfolding partsOf appliedOf applied answer judged Ieee.toBits
+unfolding scaleOf tieRule partsAt appliedOf applied answer judged Ieee.toBits
 fused-once = refl

@@ -5,11 +5,10 @@ use Prim.Native.Nat.{ℕ, _*_, _^_, _<_}
 use native.Mathlib.Omega.{arith}
 use lib.Dec.{T, lit<, lit≤}
 use lib.IntN.{natAbs}
-use lib.Ieee.{Float, binary32, low, hid, mul, ofBits, toBits, fits}
+use lib.Ieee.{Float, binary32, prec, emax, low, hid, mul, ofBits, toBits, fits}
 use lib.Ieee.Bits.{ofBits-toBits}
 use lib.Ieee.Exact.{HasValue}
 use lib.Ieee.Fits.{round-fits, mul-fits}
-use Rattle.rounding.specs.Grid.{toEven}
 use Rattle.rounding.specs.RoundLaws.{HasBits}
 use Rattle.rounding.specs.Signed.{negative}
 use Rattle.rounding.specs.Ieee.{revalue}
@@ -17,16 +16,29 @@ use Rattle.floats.specs.Fields.{unitAt}
 use Rattle.floats.specs.Times.{product-value, product-least, Told, told}
 use Rattle.factor.specs.declared.Factor.{Factor}
 use Rattle.factor.specs.declared.Parts.{Parts}
+use Rattle.factor.specs.Precision.{scaleOf, kept}
+use Rattle.factor.specs.Context.{Context, Fine, tieRule, contextAt, contextOf, lowerOf, fine-at}
 use Rattle.factor.specs.Parts.{lowPart, partsAt}
 use Rattle.factor.specs.Whole.{Whole, wholeOf}
-use Rattle.factor.specs.PartsLaws.{low-counts, whole-of-parts}
-use Rattle.factor.specs.SetUp.{Sound, partsOf, appliedOf, described}
-use Rattle.factor.specs.Stored.{stored-low, low-over}
+use Rattle.factor.specs.PartsLaws.{low-counts}
+use Rattle.factor.specs.SetUp.{Sound, appliedOf, described}
+use Rattle.factor.specs.Stored.{stored-low, low-over, low-sign}
 use Rattle.product.specs.Units.{firstUnits, PartsAtEnd}
-use Rattle.product.specs.SoundLaws.{sound-precision, sound-parts}
+use Rattle.product.specs.SoundLaws.{sound-fine, sound-parts}
 use Rattle.product.specs.StepLaws.{low-value, first-lt}
 
-module _ (f : Factor) (s : Sound f) (n : f .precision .bits ≡ 24) where
+-- ---- the context of readings
+abbrev pub K32 : Context
+K32 = contextAt (prec binary32)
+
+pub fine-32 : Fine K32
+fine-32 = fine-at (kept (lit≤ tt) (lit≤ tt))
+
+pub near-32 : K32 .E < emax binary32
+unfolding scaleOf
+near-32 = lit< tt
+
+module _ (f : Factor) (s : Sound f) (n : f .precision .bits ≡ prec binary32) where
   abbrev q : ℕ
   q = f .parts .places
 
@@ -34,46 +46,41 @@ module _ (f : Factor) (s : Sound f) (n : f .precision .bits ≡ 24) where
   m = natAbs (f .parts .low)
 
   abbrev w : Whole
-  w = wholeOf 62 (f .parts)
+  w = wholeOf K32 (f .parts)
 
-  at : PartsAtEnd toEven 24 62 (f .parts)
-  at = subst (λ (b : ℕ). PartsAtEnd toEven b 62 (f .parts)) n (sound-parts f s)
+  at : PartsAtEnd K32 (f .parts)
+  at = subst (λ (b : ℕ). PartsAtEnd (contextAt b) (f .parts)) n (sound-parts f s)
 
   -- ---- the stored low part is Cl, that is s / 2 ^ q
   pub low-number : T (fits binary32 (f .applied .low)) → HasValue (f .applied .low) (negative (f .parts .low)) m (2 ^ q)
-  unfolding appliedOf partsOf
+  unfolding appliedOf
   low-number h =
-      let b = f .precision .bits in
-      let L = f .lower in
-      let N = sound-precision f s in
-      let x = lowPart toEven b 62 L in
+      let K = contextOf f in
+      let ok = sound-fine f s in
+      let L = lowerOf f in
+      let x = lowPart K L in
       let stored = appliedOf (described f) .low in
       let same : f .applied .low ≡ stored = sym (ofBits-toBits binary32 (f .applied .low) h) ∙ ap (ofBits binary32) (s .low-stored) ∙ ofBits-toBits binary32 stored (round-fits binary32 (x .minus) (x .num) (x .den)) in
-      let c = low-counts toEven b 62 (omega (arith, N .least)) (omega (arith, N .most)) L (s .lower-end) in
-      let p = partsAt toEven b 62 L in
-      let sign : x .minus ≡ negative (p .low) = c .sign ∙ ap (λ (z : Whole). z .minus) (whole-of-parts toEven b 62 (omega (arith, N .least)) (omega (arith, N .most)) L (s .lower-end)) in
+      let p = partsAt K L in
       let v : HasValue stored (negative (p .low)) (natAbs (p .low)) (2 ^ p .places) =
-      subst (λ (z : Bool). HasValue stored z (natAbs (p .low)) (2 ^ p .places)) sign
-      (revalue stored (x .minus) (x .num) (x .den) (natAbs (p .low)) (2 ^ p .places) (c .some) (low-over b N L (s .lower-end)) (stored-low (described f) N (s .lower-end))) in
+      subst (λ (z : Bool). HasValue stored z (natAbs (p .low)) (2 ^ p .places)) (low-sign K ok L (s .lower-end))
+      (revalue stored (x .minus) (x .num) (x .den) (natAbs (p .low)) (2 ^ p .places) (low-counts K ok L (s .lower-end) .some) (low-over K ok L (s .lower-end)) (stored-low (described f) (s .precision) (s .lower-end))) in
       subst (λ (z : Float). HasValue z (negative (f .parts .low)) m (2 ^ q)) (sym same) (subst (λ (z : Parts). HasValue stored (negative (z .low)) (natAbs (z .low)) (2 ^ z .places)) (sym (s .parts)) v)
 
-  module _ (X : ℕ) (xb : HasBits 24 X) where
+  -- ---- one binary32 multiplication of the stored low part and x is u1
+  module _ (X : ℕ) (xb : HasBits (prec binary32) X) (x y : Float) (low-is : HasValue x (negative (f .parts .low)) m (2 ^ q)) (x-is : HasValue y false X (hid binary32)) where
     abbrev u : ℕ
-    u = firstUnits toEven 24 w X
+    u = firstUnits K32 w X
 
-    pub first-small : u < 2 ^ 62
-    first-small = first-lt toEven 24 62 (f .parts) at X xb
+    pub first-float : HasValue (mul binary32 x y) (negative (f .parts .low)) (u * 2 ^ unitAt binary32 (K32 .E)) (2 ^ low binary32)
+    unfolding firstUnits tieRule
+    first-float = product-value binary32 (K32 .E) near-32 m q (w .low) X (low-value K32 (f .parts) at) (first-lt K32 (f .parts) at X xb) x y (negative (f .parts .low)) low-is x-is
 
-    -- one binary32 multiplication of the stored low part and x is u1
-    module _ (x y : Float) (low-is : HasValue x (negative (f .parts .low)) m (2 ^ q)) (x-is : HasValue y false X (hid binary32)) where
-      pub first-float : HasValue (mul binary32 x y) (negative (f .parts .low)) (u * 2 ^ unitAt binary32 62) (2 ^ low binary32)
-      unfolding firstUnits
-      first-float = product-value binary32 62 (lit< tt) m q (w .low) X (low-value toEven 24 62 (f .parts) at) first-small x y (negative (f .parts .low)) low-is x-is
-
-      -- and its bits tell it
-      pub first-told : Told binary32 64 (unitAt binary32 62) (toBits binary32 (mul binary32 x y)) u
-      unfolding firstUnits
-      first-told =
-          let is : ofBits binary32 (toBits binary32 (mul binary32 x y)) ≡ mul binary32 x y = ofBits-toBits binary32 (mul binary32 x y) (mul-fits binary32 x y) in
-          let v = subst (λ (z : Float). HasValue z (negative (f .parts .low)) (u * 2 ^ unitAt binary32 62) (2 ^ low binary32)) (sym is) first-float in
-          told binary32 64 (unitAt binary32 62) (lit≤ tt) (toBits binary32 (mul binary32 x y)) u (negative (f .parts .low)) v (omega (arith, first-small)) (product-least binary32 62 (lit< tt) m q (w .low) X (low-value toEven 24 62 (f .parts) at) (xb .least))
+    -- and its bits tell it
+    pub first-told : Told binary32 64 (unitAt binary32 (K32 .E)) (toBits binary32 (mul binary32 x y)) u
+    unfolding firstUnits tieRule scaleOf
+    first-told =
+        let is : ofBits binary32 (toBits binary32 (mul binary32 x y)) ≡ mul binary32 x y = ofBits-toBits binary32 (mul binary32 x y) (mul-fits binary32 x y) in
+        let v = subst (λ (z : Float). HasValue z (negative (f .parts .low)) (u * 2 ^ unitAt binary32 (K32 .E)) (2 ^ low binary32)) (sym is) first-float in
+        let small : u < 2 ^ 64 = omega (arith, first-lt K32 (f .parts) at X xb) in
+        told binary32 64 (unitAt binary32 (K32 .E)) (lit≤ tt) (toBits binary32 (mul binary32 x y)) u (negative (f .parts .low)) v small (product-least binary32 (K32 .E) near-32 m q (w .low) X (low-value K32 (f .parts) at) (xb .least))

@@ -1,57 +1,65 @@
 -- Both steps in the standard's own operations: u1 is the binary32 product of the stored low part and x, and u2 is IEEE 754-2019's fusedMultiplyAdd,
 -- the exact Ch * x + u1 rounded once to binary32. Assumes nothing.
-use mathlib.Core.Path.{_≡_, refl, sym, ap, _∙_, subst}
+use mathlib.Core.Path.{_≡_, sym, ap, _∙_, subst}
 use mathlib.Core.Bool.{false}
 use Prim.Native.Nat.{ℕ, _+_, _-_, _*_, _^_, _≤_, _<_}
 use native.Mathlib.Nat.{mul-le-mul, mul-le-mul-right, le-of-mul-le-mul-right, le-of-lt}
 use native.Mathlib.Omega.{arith}
-use lib.Dec.{T, lit<, lit≤}
+use lib.Dec.{T, lit≤}
 use lib.Pow.{pow-pos}
 use lib.Ieee
-use lib.Ieee.{Float, binary32, mul, down, fits}
+use lib.Ieee.{Float, binary32, prec, emax, low, hid, mul, down, fits}
 use lib.Ieee.Exact.{HasValue}
 use lib.Ieee.Fits.{down-pos}
-use Rattle.rounding.specs.Grid.{toEven}
 use Rattle.rounding.specs.Round.{rounded}
 use Rattle.rounding.specs.RoundLaws.{HasBits}
 use Rattle.rounding.specs.Fraction.{Fraction}
 use Rattle.rounding.specs.FractionLaws.{Counts}
 use Rattle.rounding.specs.Ieee.{revalue, InRange, rounded-is-ieee}
-use Rattle.floats.specs.Times.{unlike-plus}
+use Rattle.floats.specs.Fields.{unitAt}
+use Rattle.floats.specs.Times.{unlike-plus, unit-is}
 use Rattle.factor.specs.declared.Factor.{Factor}
 use Rattle.factor.specs.declared.Parts.{Parts}
+use Rattle.factor.specs.Precision.{scaleOf}
+use Rattle.factor.specs.Context.{tieRule, contextAt, lowerOf}
 use Rattle.factor.specs.Parts.{partsAt}
 use Rattle.factor.specs.Whole.{End, Whole, whole, wholeOf}
 use Rattle.factor.specs.PartsLaws.{whole-of-parts}
-use Rattle.factor.specs.SetUp.{Sound, partsOf}
+use Rattle.factor.specs.SetUp.{Sound}
 use Rattle.product.specs.Product.{first, fused, product, productBy, valueOf}
 use Rattle.product.specs.Units.{firstUnits, fusedUnits}
 use Rattle.product.specs.ProductLaws.{first-counts, fused-counts, fused-least, fused-near, product-value}
-use Rattle.reading.specs.FirstLaws.{low-number, first-float}
+use Rattle.reading.specs.FirstLaws.{K32, fine-32, near-32, low-number, first-float}
 
 -- ---- at an end c
-module _ (c : ℕ) (ce : End 62 c) (X : ℕ) (xb : HasBits 24 X) where
-  abbrev y : Fraction
-  y = fused toEven 24 (partsAt toEven 24 62 c) X
+-- the unit of a product is 2 ^ - t
+abbrev t : ℕ
+t = K32 .E + (prec binary32 - 1)
 
-  counts : Counts (2 ^ 85) false (fusedUnits toEven 24 62 (whole toEven 24 62 c) X) y
-  counts = fused-counts toEven 24 62 (lit< tt) (lit≤ tt) c ce X (xb .most)
+module _ (c : ℕ) (ce : End K32 c) (X : ℕ) (xb : HasBits (prec binary32) X) where
+  abbrev y : Fraction
+  y = fused K32 (partsAt K32 c) X
+
+  counts : Counts (2 ^ t) false (fusedUnits K32 (whole K32 c) X) y
+  counts = fused-counts K32 fine-32 c ce X (xb .most)
 
   -- from 1 to below 8
   from-one : y .den ≤ y .num
+  unfolding scaleOf tieRule
   from-one =
-      let U = fusedUnits toEven 24 62 (whole toEven 24 62 c) X in
-      let u : 2 ^ 85 ≤ U = omega (arith, fused-least toEven 24 62 (lit< tt) (lit≤ tt) c ce X (xb .most), xb .least) in
-      le-of-mul-le-mul-right {k = 2 ^ 85} (omega (arith, counts .count, mul-le-mul-right (y .den) u)) (pow-pos 85)
+      let U = fusedUnits K32 (whole K32 c) X in
+      let u : 2 ^ t ≤ U = omega (arith, fused-least K32 fine-32 c ce X (xb .most), xb .least) in
+      le-of-mul-le-mul-right {k = 2 ^ t} (omega (arith, counts .count, mul-le-mul-right (y .den) u)) (pow-pos t)
 
   to-eight : y .num ≤ 8 * y .den
+  unfolding scaleOf tieRule
   to-eight =
-      let U = fusedUnits toEven 24 62 (whole toEven 24 62 c) X in
-      let u : U ≤ 2 ^ 88 = omega (arith, fused-near toEven 24 62 (lit< tt) (lit≤ tt) c ce X (xb .most) .0, mul-le-mul (le-of-lt (ce .to)) (le-of-lt (xb .most))) in
-      le-of-mul-le-mul-right {k = 2 ^ 85} (omega (arith, counts .count, mul-le-mul-right (y .den) u)) (pow-pos 85)
+      let U = fusedUnits K32 (whole K32 c) X in
+      let u : U ≤ 8 * 2 ^ t = omega (arith, fused-near K32 fine-32 c ce X (xb .most) .0, mul-le-mul (le-of-lt (ce .to)) (le-of-lt (xb .most))) in
+      le-of-mul-le-mul-right {k = 2 ^ t} (omega (arith, counts .count, mul-le-mul-right (y .den) u)) (pow-pos t)
 
   in-range : InRange binary32 (y .num) (y .den)
-  in-range = record { from = least (y .num) (y .den) (2 ^ 23) (2 ^ 149) from-one (lit≤ tt); to = most (y .num) (y .den) (2 ^ 149) ((2 ^ 24 - 1) * 2 ^ 253) to-eight (lit≤ tt) }
+  in-range = record { from = least (y .num) (y .den) (hid binary32) (2 ^ low binary32) from-one (lit≤ tt); to = most (y .num) (y .den) (2 ^ low binary32) ((2 ^ prec binary32 - 1) * 2 ^ (2 * emax binary32 - 1)) to-eight (lit≤ tt) }
     where
       least : (N d a b : ℕ) → d ≤ N → a ≤ b → a * d ≤ N * b
       least N d a b h k = omega (arith, mul-le-mul h k)
@@ -59,41 +67,45 @@ module _ (c : ℕ) (ce : End 62 c) (X : ℕ) (xb : HasBits 24 X) where
       most : (N d a b : ℕ) → N ≤ 8 * d → 8 * a ≤ b → N * a ≤ b * d
       most N d a b h k = omega (arith, mul-le-mul-right a h, mul-le-mul-right d k)
 
-  fused-at : let v = product toEven 24 (partsAt toEven 24 62 c) X in HasValue (Ieee.round binary32 false (y .num) (y .den)) false (v .significand * 2 ^ v .binade) (2 ^ 23)
+  fused-at : let v = product K32 (partsAt K32 c) X in HasValue (Ieee.round binary32 false (y .num) (y .den)) false (v .significand * 2 ^ v .binade) (hid binary32)
+  unfolding scaleOf tieRule
   fused-at =
-      let r = rounded toEven 24 (y .num) (y .den) in
+      let r = rounded tieRule (prec binary32) (y .num) (y .den) in
       let x = Ieee.round binary32 false (y .num) (y .den) in
-      let v = valueOf 24 (product toEven 24 (partsAt toEven 24 62 c) X) in
-      revalue x false _ (down (r .exponent)) (v .num) (v .den) (down-pos (r .exponent)) (product-value toEven 24 62 (lit< tt) (lit≤ tt) c ce X (xb .most) (xb .least) .1) (rounded-is-ieee binary32 false (y .num) (y .den) (counts .some) in-range)
+      let v = valueOf (prec binary32) (product K32 (partsAt K32 c) X) in
+      revalue x false _ (down (r .exponent)) (v .num) (v .den) (down-pos (r .exponent)) (product-value K32 fine-32 c ce X (xb .most) (xb .least) .1) (rounded-is-ieee binary32 false (y .num) (y .den) (counts .some) in-range)
 
-  first-count : let u = first toEven 24 (partsAt toEven 24 62 c) X in (0 < u .den) × (u .num * 2 ^ 85 ≡ firstUnits toEven 24 (wholeOf 62 (partsAt toEven 24 62 c)) X * u .den)
+  first-count : let u = first K32 (partsAt K32 c) X in (0 < u .den) × (u .num * 2 ^ t ≡ firstUnits K32 (wholeOf K32 (partsAt K32 c)) X * u .den)
+  unfolding scaleOf tieRule
   first-count =
-      let u = first toEven 24 (partsAt toEven 24 62 c) X in
-      let k = first-counts toEven 24 62 (lit< tt) (lit≤ tt) c ce X (xb .most) in
-      (k .some, k .count ∙ ap (λ (w : Whole). firstUnits toEven 24 w X * u .den) (whole-of-parts toEven 24 62 (lit< tt) (lit≤ tt) c ce))
+      let u = first K32 (partsAt K32 c) X in
+      let k = first-counts K32 fine-32 c ce X (xb .most) in
+      (k .some, k .count ∙ ap (λ (w : Whole). firstUnits K32 w X * u .den) (whole-of-parts K32 fine-32 c ce))
 
--- ---- of a factor that was accepted, with n = 24
-module _ (f : Factor) (s : Sound f) (n : f .precision .bits ≡ 24) (X : ℕ) (xb : HasBits 24 X) where
-  parts-24 : f .parts ≡ partsAt toEven 24 62 (f .lower)
-  unfolding partsOf
-  parts-24 = s .parts ∙ ap (λ (b : ℕ). partsAt toEven b 62 (f .lower)) n
+-- ---- of a factor that was accepted, with the format's precision
+module _ (f : Factor) (s : Sound f) (n : f .precision .bits ≡ prec binary32) (X : ℕ) (xb : HasBits (prec binary32) X) where
+  parts-32 : f .parts ≡ partsAt K32 (f .lower)
+  parts-32 = s .parts ∙ ap (λ (b : ℕ). partsAt (contextAt b) (lowerOf f)) n
+
+  end-32 : End K32 (lowerOf f)
+  end-32 = subst (λ (b : ℕ). End (contextAt b) (lowerOf f)) n (s .lower-end)
 
   -- u1 as document 01 has it is what one binary32 multiplication gives
-  pub first-is : (y : Float) → T (fits binary32 (f .applied .low)) → HasValue y false X (2 ^ 23) → let u1 = first toEven 24 (f .parts) X in HasValue (mul binary32 (f .applied .low) y) (u1 .minus) (u1 .num) (u1 .den)
+  pub first-is : (y : Float) → T (fits binary32 (f .applied .low)) → HasValue y false X (hid binary32) → let u1 = first K32 (f .parts) X in HasValue (mul binary32 (f .applied .low) y) (u1 .minus) (u1 .num) (u1 .den)
   first-is y h v =
-      let u1 = first toEven 24 (f .parts) X in
+      let u1 = first K32 (f .parts) X in
       let w = mul binary32 (f .applied .low) y in
-      let u = firstUnits toEven 24 (wholeOf 62 (f .parts)) X in
-      let k : (0 < u1 .den) × (u1 .num * 2 ^ 85 ≡ u * u1 .den) =
-      subst (λ (p : Parts). (0 < first toEven 24 p X .den) × (first toEven 24 p X .num * 2 ^ 85 ≡ firstUnits toEven 24 (wholeOf 62 p) X * first toEven 24 p X .den)) (sym parts-24) (first-count (f .lower) (s .lower-end) X xb) in
+      let u = firstUnits K32 (wholeOf K32 (f .parts)) X in
+      let k : (0 < u1 .den) × (u1 .num * 2 ^ t ≡ u * u1 .den) =
+      subst (λ (p : Parts). (0 < first K32 p X .den) × (first K32 p X .num * 2 ^ t ≡ firstUnits K32 (wholeOf K32 p) X * first K32 p X .den)) (sym parts-32) (first-count (lowerOf f) end-32 X xb) in
       subst (λ b. HasValue w b (u1 .num) (u1 .den)) (sym (unlike-plus _))
-      (revalue w _ (u * 2 ^ 64) (2 ^ 149) (u1 .num) (u1 .den) (pow-pos 149) (regroup u (u1 .num) (u1 .den) (2 ^ 64) (2 ^ 85) (2 ^ 149) refl (k .1)) (first-float f s n X xb (f .applied .low) y (low-number f s n h) v))
+      (revalue w _ (u * 2 ^ unitAt binary32 (K32 .E)) (2 ^ low binary32) (u1 .num) (u1 .den) (pow-pos (low binary32)) (regroup u (u1 .num) (u1 .den) (2 ^ unitAt binary32 (K32 .E)) (2 ^ t) (2 ^ low binary32) (unit-is binary32 (K32 .E) near-32) (k .1)) (first-float f s n X xb (f .applied .low) y (low-number f s n h) v))
     where
-      regroup : (u N d A B U : ℕ) → U ≡ A * B → N * B ≡ u * d → u * A * d ≡ N * U
-      regroup u N d A B U t e = let x : N * U ≡ N * (A * B) = ap (λ (z : ℕ). N * z) t in let z : N * B * A ≡ u * d * A = ap (λ (z : ℕ). z * A) e in omega (arith, x, z)
+      regroup : (u N d A B U : ℕ) → U ≡ B * A → N * B ≡ u * d → u * A * d ≡ N * U
+      regroup u N d A B U t e = let x : N * U ≡ N * (B * A) = ap (λ (z : ℕ). N * z) t in let z : N * B * A ≡ u * d * A = ap (λ (z : ℕ). z * A) e in omega (arith, x, z)
 
   -- u2 is the exact sum, rounded once
-  pub fused-is : let y = fused toEven 24 (f .parts) X in let v = productBy f X in HasValue (Ieee.round binary32 false (y .num) (y .den)) false (v .significand * 2 ^ v .binade) (2 ^ 23)
+  pub fused-is : let y = fused K32 (f .parts) X in let v = productBy f X in HasValue (Ieee.round binary32 false (y .num) (y .den)) false (v .significand * 2 ^ v .binade) (hid binary32)
   fused-is =
-      subst (λ (b : ℕ). HasValue (Ieee.round binary32 false (fused toEven 24 (f .parts) X .num) (fused toEven 24 (f .parts) X .den)) false (product toEven b (f .parts) X .significand * 2 ^ product toEven b (f .parts) X .binade) (2 ^ 23)) (sym n)
-      (subst (λ (p : Parts). HasValue (Ieee.round binary32 false (fused toEven 24 p X .num) (fused toEven 24 p X .den)) false (product toEven 24 p X .significand * 2 ^ product toEven 24 p X .binade) (2 ^ 23)) (sym parts-24) (fused-at (f .lower) (s .lower-end) X xb))
+      subst (λ (b : ℕ). HasValue (Ieee.round binary32 false (fused K32 (f .parts) X .num) (fused K32 (f .parts) X .den)) false (product (contextAt b) (f .parts) X .significand * 2 ^ product (contextAt b) (f .parts) X .binade) (hid binary32)) (sym n)
+      (subst (λ (p : Parts). HasValue (Ieee.round binary32 false (fused K32 p X .num) (fused K32 p X .den)) false (product K32 p X .significand * 2 ^ product K32 p X .binade) (hid binary32)) (sym parts-32) (fused-at (lowerOf f) end-32 X xb))

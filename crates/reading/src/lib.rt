@@ -1,6 +1,5 @@
 // A binary32 reading times a factor (document 01, "Binary32"): the product with its mark, or a refusal.
 use factor::Factor;
-use factor::Precision;
 use marks::Mark;
 use product::Product;
 ghost use mathlib.Core.Path.{_≡_};
@@ -9,17 +8,14 @@ ghost use Prim.Native.Nat.{_≤_};
 ghost use lib.IntN.{pos, _+ℤ_};
 ghost use lib.Ieee.{binary32, prec, toBits};
 ghost use Rattle.marks.specs.Answers.{accepted, answer};
-ghost use Rattle.rounding.specs.Grid.{toEven};
 ghost use Rattle.rounding.specs.RoundLaws.{HasBits};
 ghost use Rattle.floats.specs.Fields.{Normal, significandOf};
+ghost use Rattle.factor.specs.Context.{contextOf};
 ghost use Rattle.factor.specs.Whole.{wholeOf};
 ghost use Rattle.factor.specs.SetUp.{scaleOut, Sound};
 ghost use Rattle.product.specs.Product.{productBy};
 ghost use Rattle.product.specs.Units.{firstUnits};
 ghost use Rattle.reading.specs.Reading.{unreadable, kindOf, finished, applied, outcomeOf, takenOf};
-
-// u1 is counted in the unit 2 ^ - (SCALE + PRECISION - 1), that is 2 ^ UNIT of binary32's smallest values.
-const UNIT: u32 = floats::MOST_EXPONENT - 1 - Precision::SCALE;
 
 // A product's field, counted from -100 as its scale is: so a normal number's fields are these places.
 const LEAST_PLACE: u32 = 101;
@@ -44,11 +40,13 @@ enum Taken {
 // u1 = RN(Cl * x): one binary32 multiplication on [1, 2).
 fn first_step(f: Factor, x: u32) -> u64
     requires { ⌜ Sound f × (f .precision .bits ≡ prec binary32) × HasBits (prec binary32) x ⌝ }
-    ensures { λ r. ⌜ r ≡ firstUnits toEven 24 (wholeOf 62 (f .parts)) x ⌝ }
+    ensures { λ r. ⌜ r ≡ firstUnits (contextOf f) (wholeOf (contextOf f) (f .parts)) x ⌝ }
 {
     let low = f.applied.low;
+    let p = f.precision;
+    let unit = floats::unit_at(p.scale());
     let y = floats::narrow_float(false, floats::PRECISION, x as u64, floats::PRECISION - 1);
-    floats::units_of(low * y, UNIT)
+    floats::units_of(low * y, unit)
 }
 
 // A scale, counted from the least.

@@ -12,7 +12,7 @@ ghost use Rattle.rounding.specs.Round.{normalised, rounded};
 ghost use lib.IntN.{natAbs};
 ghost use Rattle.rounding.specs.Signed.{signedOf, roundedSigned};
 ghost use Rattle.rounding.specs.Whole.{padded};
-ghost use Rattle.wide.specs.Value.{valueOf};
+ghost use Rattle.wide.specs.Value.{halfWord, valueOf};
 
 // Where r / 2 ^ k lies between 0 and 1.
 pub fn locate(r: u64, k: u32) -> Location
@@ -176,7 +176,7 @@ pub fn magnitude(z: i64) -> u64
 
 // A size with a sign.
 pub fn with_sign(minus: bool, m: u64) -> i64
-    requires { ⌜ m < 2 ^ 63 ⌝ }
+    requires { ⌜ m < halfWord ⌝ }
     ensures { λ r. ⌜ r ≡ signedOf minus m ⌝ }
 {
     if minus {

@@ -13,7 +13,7 @@ use Rattle.rounding.specs.Grid.{Rule, toEven}
 use Rattle.rounding.specs.GridLaws.{nearest-is}
 use Rattle.rounding.specs.Digits.{pow-half, drop-lower, drop-at}
 use Rattle.rounding.specs.Unit.{kept, rn}
-use Rattle.rounding.specs.UnitLaws.{rn-le, rn-ge, kept-ge, rn-in-binade}
+use Rattle.rounding.specs.UnitLaws.{rn-half, rn-le, rn-ge, kept-ge, rn-in-binade}
 
 module _ (rule : Rule) (n : ℕ) (P : 0 < n) where
   -- ---- half way between two neighbours j * 2 ^ k and (j + 1) * 2 ^ k of n bits
@@ -39,10 +39,6 @@ module _ (rule : Rule) (n : ℕ) (P : 0 < n) where
     r-is : r ≡ q * 2 ^ k
     unfolding rn
     r-is = refl
-
-    near : (2 * (r * d) ≤ 2 * N + d * 2 ^ k) × (2 * N ≤ 2 * (r * d) + d * 2 ^ k)
-    unfolding rn kept
-    near = let s = nearest-is rule N (d * 2 ^ k) (mul-pos D (pow-pos k)) in (omega (arith, s .low), omega (arith, s .high))
 
     -- one with a finer step is not above the binade's first
     finer : (j i : ℕ) → j ≤ 2 ^ n → i < k → j * 2 ^ i ≤ 2 ^ (n - 1) * 2 ^ k
@@ -88,12 +84,12 @@ module _ (rule : Rule) (n : ℕ) (P : 0 < n) where
             let u : N < r * d = lt-of-not-le b in
             let l : j * 2 ^ i < r = lt-of-mul-lt-mul-right d (omega arith) in
             let s = mul-le-mul-right d (below j i h l u) in
-            omega (arith, near .0)
+            omega (arith, rn-half rule n P N d D)
         go (no a) (yes b) =
             let u : N < j * 2 ^ i * d = lt-of-not-le a in
             let l : r < j * 2 ^ i = lt-of-mul-lt-mul-right d (omega arith) in
             let s = mul-le-mul-right d (above j i h l) in
-            omega (arith, near .1)
+            omega (arith, rn-half rule n P N d D)
         go (no a) (no b) =
             let u : N < j * 2 ^ i * d = lt-of-not-le a in
             let v : N < r * d = lt-of-not-le b in

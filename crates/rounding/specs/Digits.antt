@@ -1,9 +1,9 @@
 -- How many of a fraction's digits are dropped, by the bounds of a binade: after these bounds the digit count is not needed. Assumes nothing.
 use mathlib.Core.Path.{_≡_, refl, ap, _∙_}
 use Prim.Native.Nat.{ℕ, zero, suc, _+_, _-_, _*_, _/_, _^_, _≤_, _<_}
-use native.Mathlib.Nat.{add-zero, mul-le-mul-right, lt-of-lt-of-le, le-div-iff-mul-le, div-lt-iff-lt-mul, le-antisymm, pow-succ', lt-of-not-le, not-le-of-lt}
+use native.Mathlib.Nat.{add-zero, mul-le-mul-right, mul-lt-mul-of-pos-right, le-of-mul-le-mul-right, lt-of-mul-lt-mul-right, mul-pos, lt-of-lt-of-le, le-div-iff-mul-le, div-lt-iff-lt-mul, le-antisymm, pow-succ', lt-of-not-le, not-le-of-lt}
 use native.Mathlib.Omega.{arith}
-use lib.Pow.{pow-mono}
+use lib.Pow.{pow-add, pow-pos, pow-mono}
 use lib.Ieee.{size}
 use lib.Ieee.Digits.{size-lt, size-le, size-reaches}
 use lib.Ieee.Order.{drop}
@@ -48,3 +48,15 @@ module _ (n N d : ℕ) (D : 0 < d) where
 
   pub drop-at : (k : ℕ) → 0 < n → 2 ^ (n + k) * d ≤ 2 * N → N < 2 ^ (n + k) * d → drop n N d ≡ k
   drop-at k p l u = le-antisymm (drop-le k u) (drop-ge k p l)
+
+-- the same fraction in a unit that is 2 ^ j times as fine
+pub drop-finer : (n N d M e j : ℕ) → 0 < n → 0 < d → 0 < e → N * 2 ^ j * e ≡ M * d → 2 ^ n * d ≤ 2 * N → drop n M e ≡ drop n N d + j
+drop-finer n N d M e j P D Q h fine =
+    let k = drop n N d in
+    let w : 2 ^ (n + (k + j)) ≡ 2 ^ (n + k) * 2 ^ j = ap (λ (z : ℕ). 2 ^ z) (omega arith) ∙ pow-add 2 (n + k) j in
+    let v = ap (λ (z : ℕ). z * (d * e)) w in
+    let lo = mul-le-mul-right (2 ^ j * e) (drop-lower n N d D P fine) in
+    let hi = mul-lt-mul-of-pos-right (drop-upper n N d D) (mul-pos (pow-pos j) Q) in
+    drop-at n M e Q (k + j) P
+    (le-of-mul-le-mul-right {k = d} (omega arith) D)
+    (lt-of-mul-lt-mul-right d (omega arith))

@@ -1,8 +1,9 @@
 -- Signed fractions, their exact sums and products, and RN of them: what document 01 says of factors and products is said with these. Definitions only. Assumes nothing.
 use mathlib.Core.Path.{_≡_}
 use mathlib.Core.Bool.{Bool, true, false, not}
-use Prim.Native.Nat.{ℕ, _+_, _*_, _^_}
+use Prim.Native.Nat.{ℕ, _+_, _*_, _^_, _≤_, _<_}
 use lib.Dec.{ltb, eqb}
+use lib.IntN.{ℤ}
 use lib.Ieee.{up, down, unlike}
 use Rattle.rounding.specs.declared.Rounded.{Rounded}
 use Rattle.rounding.specs.Apart.{apart}
@@ -18,6 +19,10 @@ pub record Fraction : Type 0 where
 -- a / 2 ^ t
 abbrev pub over : (a t : ℕ) → Fraction
 over a t = record { minus = false; num = a; den = 2 ^ t }
+
+-- 2 ^ e
+abbrev pub power : ℤ → Fraction
+power e = record { minus = false; num = up e; den = down e }
 
 abbrev pub negated : Fraction → Fraction
 negated x = record { minus = not (x .minus); num = x .num; den = x .den }
@@ -38,6 +43,10 @@ plus x y = joined (x .minus) (y .minus) (x .num * y .den) (y .num * x .den) (x .
 abbrev pub less : Fraction → Fraction → Fraction
 less x y = plus x (negated y)
 
+-- |x - y|
+abbrev pub distance : Fraction → Fraction → Fraction
+distance x y = let z = less x y in record { minus = false; num = z .num; den = z .den }
+
 -- a rounded size with a sign
 abbrev pub signed : Bool → Rounded → Fraction
 signed s r = record { minus = s; num = r .significand * up (r .exponent); den = down (r .exponent) }
@@ -56,3 +65,16 @@ below x y = ltb (x .num * y .den) (y .num * x .den)
 
 abbrev pub equal : Fraction → Fraction → Bool
 equal x y = eqb (x .num * y .den) (y .num * x .den)
+
+-- the same as statements: x < y, and x ≤ y
+abbrev pub Below : Fraction → Fraction → Type 0
+Below x y = x .num * y .den < y .num * x .den
+
+abbrev pub AtMost : Fraction → Fraction → Type 0
+AtMost x y = x .num * y .den ≤ y .num * x .den
+
+-- x > 0
+pub record Positive (x : Fraction) : Type 0 where
+  pub sign : x .minus ≡ false
+  pub above : 0 < x .num
+  pub some : 0 < x .den

@@ -2,12 +2,13 @@
 use mathlib.Core.Path.{_≡_, refl, sym, ap, ap₂, _∙_}
 use mathlib.Core.Bool.{Bool, true, false, not}
 use Prim.Native.Nat.{ℕ, _+_, _*_, _^_, _≤_, _<_}
-use native.Mathlib.Nat.{mul-assoc, eq-of-mul-eq-mul-right, mul-pos, mul-lt-mul-of-pos-right, mul-le-mul-right}
+use native.Mathlib.Nat.{mul-assoc, eq-of-mul-eq-mul-right, mul-pos, mul-lt-mul-of-pos-right, mul-le-mul-right, le-of-mul-le-mul-right, lt-of-mul-lt-mul-right}
 use native.Mathlib.Decide.{decLt, ℕ-discrete}
 use native.Mathlib.Omega.{arith}
 use lib.Dec.{ltb, eqb}
 use lib.Pow.{pow-pos}
-use lib.Ieee.{unlike}
+use lib.Ieee.{minus, unlike}
+use lib.Ieee.Digits.{minus-val}
 use lib.Ieee.Fits.{down-pos}
 use borrow.Author.Tests.{lt-ltb, le-ltb, eq-eqb, ne-eqb}
 use Rattle.rounding.specs.Apart.{apart, apart-mul}
@@ -15,7 +16,7 @@ use Rattle.rounding.specs.Grid.{Rule}
 use Rattle.rounding.specs.Unit.{rn}
 use Rattle.rounding.specs.Round.{rounded}
 use Rattle.rounding.specs.RoundLaws.{rounded-whole, rounded-value}
-use Rattle.rounding.specs.Fraction.{Fraction, over, negated, times, joined, plus, less, RN, Same, below, equal}
+use Rattle.rounding.specs.Fraction.{Fraction, over, power, negated, times, joined, plus, less, distance, RN, Same, below, equal, Below, AtMost}
 
 -- x is a / T in size, and negative where m
 pub record Counts (T : ℕ) (m : Bool) (a : ℕ) (x : Fraction) : Type 0 where
@@ -26,6 +27,9 @@ pub record Counts (T : ℕ) (m : Bool) (a : ℕ) (x : Fraction) : Type 0 where
 
 pub over-counts : (a t : ℕ) → Counts (2 ^ t) false a (over a t)
 over-counts a t = record { unit = pow-pos t; some = pow-pos t; sign = refl; count = refl }
+
+pub power-counts : (a t : ℕ) → Counts (2 ^ t) false (2 ^ a) (power (minus a t))
+power-counts a t = record { unit = pow-pos t; some = down-pos (minus a t); sign = refl; count = omega (arith, minus-val 1 a t) }
 
 -- in a finer unit
 pub counts-finer : (T c : ℕ) → 0 < c → (m : Bool) (a : ℕ) (x : Fraction) → Counts T m a x → Counts (T * c) m (a * c) x
@@ -158,6 +162,9 @@ plus-counts T a b m k x y c d =
 pub less-counts : (T : ℕ) (a b : ℕ) (x y : Fraction) → Counts T false a x → Counts T false b y → Counts T (ltb a b) (apart a b) (less x y)
 less-counts T a b x y c d = plus-counts T a b false true x (negated y) c (record { unit = d .unit; some = d .some; sign = ap not (d .sign); count = d .count })
 
+pub distance-counts : (T : ℕ) (a b : ℕ) (x y : Fraction) → Counts T false a x → Counts T false b y → Counts T false (apart a b) (distance x y)
+distance-counts T a b x y c d = let z = less-counts T a b x y c d in record { unit = z .unit; some = z .some; sign = refl; count = z .count }
+
 -- ---- order and equality
 pub counts-same : (T : ℕ) (m : Bool) (a : ℕ) (x y : Fraction) → Counts T m a x → Counts T m a y → Same x y
 counts-same T m a x y c d = (
@@ -182,3 +189,14 @@ module _ (T a b : ℕ) (x y : Fraction) (c : Counts T false a x) (d : Counts T f
 
   pub equal-counts : equal x y ≡ eqb a b
   equal-counts = sym (eqb-scale (x .num * y .den) (y .num * x .den) T (c .unit)) ∙ ap₂ eqb left right ∙ eqb-scale a b (x .den * y .den) (mul-pos (c .some) (d .some))
+
+-- the order, also where they are counted in two units
+module _ (T S a b : ℕ) (x y : Fraction) (c : Counts T false a x) (d : Counts S false b y) where
+  across : (x .num * y .den * (T * S) ≡ a * S * (x .den * y .den)) × (y .num * x .den * (T * S) ≡ b * T * (x .den * y .den))
+  across = (omega (arith, ap (λ (z : ℕ). z * (y .den * S)) (c .count)), omega (arith, ap (λ (z : ℕ). z * (x .den * T)) (d .count)))
+
+  pub counts-at-most : a * S ≤ b * T → AtMost x y
+  counts-at-most h = le-of-mul-le-mul-right {k = T * S} (omega (arith, across, mul-le-mul-right (x .den * y .den) h)) (mul-pos (c .unit) (d .unit))
+
+  pub counts-below : a * S < b * T → Below x y
+  counts-below h = lt-of-mul-lt-mul-right (T * S) (omega (arith, across, mul-lt-mul-of-pos-right h (mul-pos (c .some) (d .some))))

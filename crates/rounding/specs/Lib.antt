@@ -11,6 +11,9 @@ pub mod Best
 pub mod Standard
 pub mod Fraction
 pub mod FractionLaws
+pub mod Ulp
+pub mod UlpLaws
+pub mod Examples
 pub mod Ieee
 pub mod Whole
 pub mod Signed

@@ -3,7 +3,7 @@ use mathlib.Core.Path.{_≡_, refl, sym, ap, _∙_, subst}
 use mathlib.Core.Bool.{Bool, true, false, cond}
 use Prim.Native.Nat.{ℕ, zero, suc, _+_, _-_, _*_, _%_, _^_, _≤_, _<_}
 use native.Mathlib.Decide.{decLe}
-use native.Mathlib.Nat.{zero-add, le-of-mul-le-mul-right, lt-of-mul-lt-mul-right, mul-pos, mul-le-mul-left, add-comm, mul-le-mul-right, mul-lt-mul-of-pos-right, le-of-eq, le-of-lt, lt-of-not-le, pow-succ', eq-of-mul-eq-mul-right}
+use native.Mathlib.Nat.{zero-add, mul-pos, mul-le-mul-left, add-comm, mul-le-mul-right, le-of-eq, le-of-lt, lt-of-not-le, pow-succ', eq-of-mul-eq-mul-right}
 use native.Mathlib.Omega.{arith}
 use lib.Dec.{eqb}
 use lib.Pow.{pow-add, pow-pos}
@@ -16,7 +16,7 @@ use Rattle.rounding.specs.declared.Location.{Location}
 use Rattle.rounding.specs.declared.Rounded.{Rounded}
 use Rattle.rounding.specs.Grid.{Rule, location, nearest}
 use Rattle.rounding.specs.GridLaws.{nearest-same, location-same}
-use Rattle.rounding.specs.Digits.{pow-half, drop-lower, drop-upper, drop-at}
+use Rattle.rounding.specs.Digits.{pow-half, drop-finer}
 use Rattle.rounding.specs.Unit.{kept, rn}
 use Rattle.rounding.specs.UnitLaws.{kept-le, kept-ge, rn-scale-whole, rn-whole-small}
 use Rattle.rounding.specs.Round.{normalised, stepped, roundedIn, rounded, Equals}
@@ -66,18 +66,6 @@ zero-minus (suc a) = rw (lt-leb (suc a) 0 (omega arith)) (ap negsuc (omega arith
 
 -- ---- one fraction in two units: N / d of the unit 2 ^ - t is M / e of the unit 2 ^ - s
 module _ (rule : Rule) (n : ℕ) (P : 0 < n) where
-  -- the same fraction in units that are 2 ^ j apart
-  drop-finer : (N d M e j : ℕ) → 0 < d → 0 < e → N * 2 ^ j * e ≡ M * d → 2 ^ n * d ≤ 2 * N → drop n M e ≡ drop n N d + j
-  drop-finer N d M e j D Q h fine =
-      let k = drop n N d in
-      let w : 2 ^ (n + (k + j)) ≡ 2 ^ (n + k) * 2 ^ j = ap (λ (z : ℕ). 2 ^ z) (omega arith) ∙ pow-add 2 (n + k) j in
-      let v = ap (λ (z : ℕ). z * (d * e)) w in
-      let lo = mul-le-mul-right (2 ^ j * e) (drop-lower n N d D P fine) in
-      let hi = mul-lt-mul-of-pos-right (drop-upper n N d D) (mul-pos (pow-pos j) Q) in
-      drop-at n M e Q (k + j) P
-      (le-of-mul-le-mul-right {k = d} (omega arith) D)
-      (lt-of-mul-lt-mul-right d (omega arith))
-
   step-same : (t k N u M v j : ℕ) → 0 < u → 0 < v → N * v ≡ M * u → stepped rule n t k N u ≡ stepped rule n (t + j) (k + j) M v
   unfolding stepped normalised
   step-same t k N u M v j D Q h =
@@ -91,7 +79,7 @@ module _ (rule : Rule) (n : ℕ) (P : 0 < n) where
       let k = drop n N d in
       let c : N * (e * 2 ^ (k + j)) ≡ M * (d * 2 ^ k) = omega (arith, ap (λ (z : ℕ). N * (e * z)) (pow-add 2 k j), ap (λ (z : ℕ). z * 2 ^ k) h) in
       step-same t k N (d * 2 ^ k) M (e * 2 ^ (k + j)) j (mul-pos D (pow-pos k)) (mul-pos Q (pow-pos (k + j))) c
-      ∙ ap (λ (z : ℕ). stepped rule n (t + j) z M (e * 2 ^ z)) (sym (drop-finer N d M e j D Q h fine))
+      ∙ ap (λ (z : ℕ). stepped rule n (t + j) z M (e * 2 ^ z)) (sym (drop-finer n N d M e j P D Q h fine))
 
   -- rounding goes by the fraction alone: in any unit 2 ^ - t in which it is M / e with at least n digits
   pub rounded-at : (N d t M e : ℕ) → 0 < d → 0 < e → N * 2 ^ t * e ≡ M * d → 2 ^ n * e ≤ 2 * M → rounded rule n N d ≡ roundedIn rule n t M e

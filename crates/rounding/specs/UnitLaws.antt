@@ -3,15 +3,16 @@
 use mathlib.Core.Path.{_≡_, refl, sym, ap, _∙_, subst}
 use mathlib.Core.Logic.{_⊎_, inl, inr}
 use Prim.Native.Nat.{ℕ, suc, _+_, _-_, _*_, _^_, _≤_, _<_}
-use native.Mathlib.Nat.{mul-le-mul-right, mul-le-mul-left, le-trans, le-of-eq, le-antisymm, lt-of-not-le, mul-assoc, mul-pos, eq-or-lt-of-le, lt-of-mul-lt-mul-right, mul-lt-mul-of-pos-right, mul-one, pow-succ'}
+use native.Mathlib.Nat.{mul-le-mul-right, le-trans, le-of-eq, le-antisymm, lt-of-not-le, mul-assoc, mul-pos, eq-or-lt-of-le, lt-of-mul-lt-mul-right, mul-lt-mul-of-pos-right, mul-one, pow-succ'}
 use native.Mathlib.Decide.{decLe, decLt}
 use native.Mathlib.Omega.{arith}
 use lib.Pow.{pow-add, pow-pos, pow-mono}
 use lib.Ieee.Order.{drop}
+use Rattle.rounding.specs.Apart.{apart}
 use Rattle.rounding.specs.Grid.{Rule, nearest}
 use Rattle.rounding.specs.GridLaws.{nearest-is, nearest-mono, nearest-same, nearest-exact, nearest-le, nearest-ge, nearest-below, nearest-above}
 use Rattle.rounding.specs.Unit.{kept, rn}
-use Rattle.rounding.specs.Digits.{pow-half, drop-upper, drop-le, drop-some, drop-lower, drop-at}
+use Rattle.rounding.specs.Digits.{pow-half, drop-upper, drop-le, drop-some, drop-lower, drop-at, drop-finer}
 
 step-pos : (d k : ℕ) → 0 < d → 0 < d * 2 ^ k
 step-pos d k D = mul-pos D (pow-pos k)
@@ -104,36 +105,30 @@ module _ (rule : Rule) (n : ℕ) (P : 0 < n) where
   pub rn-ge : (N d q k : ℕ) → 0 < d → q ≤ 2 ^ n → q * 2 ^ k * d ≤ N → q * 2 ^ k ≤ rn rule n N d
   rn-ge N d q k D h l = subst (λ (z : ℕ). z ≤ rn rule n N d) (rn-fixed q k d D h) (rn-mono (q * 2 ^ k * d) d N d D D (mul-le-mul-right d l))
 
-  -- ---- rule to 2 ^ (n + k), that value included, the error is at most half of 2 ^ k
-  err-lt : (N d k : ℕ) → 0 < d → N < 2 ^ (n + k) * d → (2 * (rn rule n N d * d) ≤ 2 * N + d * 2 ^ k) × (2 * N ≤ 2 * (rn rule n N d * d) + d * 2 ^ k)
-  err-lt N d k D h =
-      let j = drop n N d in
-      let q = nearest rule N (d * 2 ^ j) in
-      let r = nearest-is rule N (d * 2 ^ j) (step-pos d j D) in
-      let l : d * 2 ^ j ≤ d * 2 ^ k = mul-le-mul-left d (pow-mono (drop-le n N d D k h)) in
-      let e = ap (λ (z : ℕ). z * d) (rn-in-binade N d j refl) in
-      (omega (arith, r .low), omega (arith, r .high))
+  -- ---- the error is at most half a step
+  pub rn-half : (N d : ℕ) → 0 < d → 2 * apart (rn rule n N d * d) N ≤ 2 ^ drop n N d * d
+  unfolding rn kept
+  rn-half N d D =
+      let k = drop n N d in
+      let r = nearest-is rule N (d * 2 ^ k) (step-pos d k D) in
+      omega (arith, r .low, r .high)
 
+  -- and up to 2 ^ (n + k), that value included, at most half of 2 ^ k
   pub rn-error : (N d k : ℕ) → 0 < d → N ≤ 2 ^ (n + k) * d → (2 * (rn rule n N d * d) ≤ 2 * N + d * 2 ^ k) × (2 * N ≤ 2 * (rn rule n N d * d) + d * 2 ^ k)
   rn-error N d k D h = elim (eq-or-lt-of-le h) [
     | inl e ↦
         let s : N ≡ 2 ^ n * 2 ^ k * d = e ∙ ap (λ (z : ℕ). z * d) (pow-add 2 n k) in
         let f : rn rule n N d * d ≡ N = ap (λ (z : ℕ). rn rule n z d * d) s ∙ ap (λ (z : ℕ). z * d) (rn-fixed (2 ^ n) k d D (le-of-eq refl)) ∙ sym s in
         (omega arith, omega arith)
-    | inr l ↦ err-lt N d k D l
+    | inr l ↦ let s = mul-le-mul-right d (pow-mono (drop-le n N d D k l)) in (omega (arith, rn-half N d D), omega (arith, rn-half N d D))
   ]
 
   -- ---- scaling by a power of two: anywhere for a whole number, and for a fraction whose unit is fine enough
   pub rn-scale : (N d t : ℕ) → 0 < d → 2 ^ n * d ≤ 2 * N → rn rule n (N * 2 ^ t) d ≡ rn rule n N d * 2 ^ t
   rn-scale N d t D h =
       let k = drop n N d in
-      let lo = drop-lower n N d D P h in
-      let hi = drop-upper n N d D in
-      let w : 2 ^ (n + (k + t)) ≡ 2 ^ (n + k) * 2 ^ t = ap (λ (z : ℕ). 2 ^ z) (omega arith) ∙ pow-add 2 (n + k) t in
-      let v = ap (λ (z : ℕ). z * d) w in
-      let a : drop n (N * 2 ^ t) d ≡ k + t = drop-at n (N * 2 ^ t) d D (k + t) P (omega (arith, mul-le-mul-right (2 ^ t) lo)) (omega (arith, mul-lt-mul-of-pos-right hi (pow-pos t))) in
       let e = pow-add 2 k t in
-      rn-in-binade (N * 2 ^ t) d (k + t) a
+      rn-in-binade (N * 2 ^ t) d (k + t) (drop-finer n N d (N * 2 ^ t) d t P D D refl h)
       ∙ ap (λ (z : ℕ). nearest rule (N * 2 ^ t) (d * z) * z) e
       ∙ ap (λ (z : ℕ). z * (2 ^ k * 2 ^ t)) (nearest-same rule (N * 2 ^ t) (d * (2 ^ k * 2 ^ t)) N (d * 2 ^ k) (mul-pos D (mul-pos (pow-pos k) (pow-pos t))) (step-pos d k D) (omega arith))
       ∙ sym (mul-assoc (nearest rule N (d * 2 ^ k)) (2 ^ k) (2 ^ t))

@@ -1,6 +1,7 @@
 // The search by remainders (document 01, "Suspects and rounds"): the least place whose remainder lies in a window.
 ghost use mathlib.Core.Path.{_≡_};
-ghost use Prim.Native.Nat.{_^_, _≤_, _<_};
+ghost use Prim.Native.Nat.{_≤_, _<_};
+ghost use Rattle.wide.specs.Value.{halfWord};
 ghost use Rattle.search.specs.Search.{searchWindow, shift, searchFrom};
 ghost use Rattle.search.specs.Cases.{Ready};
 ghost use Rattle.search.specs.Trace.{wound, unwound, WindsBelow, mirrorBack, roundBack, Below};
@@ -51,7 +52,7 @@ fn mirror_back(t: Trace) -> Trace
 
 // The answer of the search that a round goes on with, read in the search itself.
 fn round_back(t: Trace, first: u64, turns: u64) -> Trace
-    requires { ⌜ Below (2 ^ 63) (roundBack first turns t .found) ⌝ }
+    requires { ⌜ Below halfWord (roundBack first turns t .found) ⌝ }
     ensures { λ r. ⌜ r ≡ roundBack first turns t ⌝ }
 {
     let f = t.found;
@@ -77,7 +78,7 @@ fn round_back(t: Trace, first: u64, turns: u64) -> Trace
 
 // The search with its winding.
 fn first_place(m: u64, step: u64, l: u64, r: u64) -> Trace
-    requires { ⌜ Ready m step l r × (m ≤ 2 ^ 63) ⌝ }
+    requires { ⌜ Ready m step l r × (m ≤ halfWord) ⌝ }
     ensures { λ t. ⌜ t ≡ wound m step (searchWindow m step l r) ⌝ }
 {
     if l == 0 {
@@ -100,7 +101,7 @@ fn first_place(m: u64, step: u64, l: u64, r: u64) -> Trace
 
 // The least place whose remainder lies in the window l to r.
 pub fn find(m: u64, step: u64, l: u64, r: u64) -> Found
-    requires { ⌜ (l ≤ r) × (r < m) × (step < m) × (m ≤ 2 ^ 63) ⌝ }
+    requires { ⌜ (l ≤ r) × (r < m) × (step < m) × (m ≤ halfWord) ⌝ }
     ensures { λ f. ⌜ f ≡ searchWindow m step l r ⌝ }
 {
     let t = first_place(m, step, l, r);
@@ -109,7 +110,7 @@ pub fn find(m: u64, step: u64, l: u64, r: u64) -> Found
 
 // x - base modulo m.
 fn shifted(m: u64, base: u64, x: u64) -> u64
-    requires { ⌜ (x < m) × (base < m) × (m ≤ 2 ^ 63) ⌝ }
+    requires { ⌜ (x < m) × (base < m) × (m ≤ halfWord) ⌝ }
     ensures { λ s. ⌜ s ≡ shift m base x ⌝ }
 {
     if x < base {
@@ -120,7 +121,7 @@ fn shifted(m: u64, base: u64, x: u64) -> u64
 
 // The least place whose remainder, counted from a start with the remainder base, lies in the window l to r.
 pub fn find_from(m: u64, step: u64, base: u64, l: u64, r: u64) -> Found
-    requires { ⌜ (l ≤ r) × (r < m) × (step < m) × (base < m) × (m ≤ 2 ^ 63) ⌝ }
+    requires { ⌜ (l ≤ r) × (r < m) × (step < m) × (base < m) × (m ≤ halfWord) ⌝ }
     ensures { λ f. ⌜ f ≡ searchFrom m step base l r ⌝ }
 {
     let from = shifted(m, base, l);

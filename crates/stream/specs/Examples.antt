@@ -9,7 +9,9 @@ use Rattle.marks.specs.Answers.{answer}
 use Rattle.rounding.specs.Grid.{nearest}
 use Rattle.rounding.specs.Round.{rounded}
 use Rattle.factor.specs.Parts.{partsAt}
-use Rattle.factor.specs.SetUp.{setUp, partsOf, appliedOf}
+use Rattle.factor.specs.Precision.{scaleOf}
+use Rattle.factor.specs.Context.{tieRule}
+use Rattle.factor.specs.SetUp.{setUp, appliedOf}
 use Rattle.product.specs.Product.{product}
 use Rattle.product.specs.Marks.{mark}
 use Rattle.suspects.specs.Suspects.{isSuspect}
@@ -24,7 +26,7 @@ use Rattle.stream.specs.Work.{stepsOf, workOf, loopOutput, program}
 
 -- the bytes of a text; the line below names what has to unfold for the program to compute
 bytes : String → List ℕ
-unfolding answer digitByte digits digitValue valueAfter fieldAt spaced frameOf wordLine reportLine refusalLine setUp partsOf appliedOf partsAt rounded nearest product mark isSuspect row pick span spanOf wordsOf suspectsOf counted wordLines sweptOutput lineOutput pieces linesOutput output tries kept upToFeed judgedLine stepOf endOf stepsOf workOf loopOutput program Ieee.round Ieee.size
+unfolding answer digitByte digits digitValue valueAfter fieldAt spaced frameOf wordLine reportLine refusalLine setUp appliedOf scaleOf tieRule partsAt rounded nearest product mark isSuspect row pick span spanOf wordsOf suspectsOf counted wordLines sweptOutput lineOutput pieces linesOutput output tries kept upToFeed judgedLine stepOf endOf stepsOf workOf loopOutput program Ieee.round Ieee.size
 bytes [] = []ᴸ
 bytes (c ∷ s) = code c ∷ᴸ bytes s
 

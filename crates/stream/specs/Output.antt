@@ -8,7 +8,8 @@ use Rattle.marks.specs.declared.Mark.{Mark}
 use Rattle.marks.specs.declared.Mark.the-variants.{Right, Open, Wrong}
 use Rattle.marks.specs.Answers.{Outcome, refused, accepted, andThen}
 use Rattle.factor.specs.declared.Factor.{Factor}
-use Rattle.factor.specs.Precision.{scaleOf, leastOf}
+use Rattle.factor.specs.Precision.{leastOf}
+use Rattle.factor.specs.Context.{contextOf, lowerOf, upperOf}
 use Rattle.factor.specs.SetUp.{setUp}
 use Rattle.product.specs.Product.{productBy}
 use Rattle.product.specs.Marks.{markBy}
@@ -22,7 +23,7 @@ use Rattle.frame.specs.Report.{wordLine, reportLine, refusalLine}
 -- ---- a factor, swept over all its significands
 -- the suspects of the whole range, ascending
 unfoldable pub suspectsOf : Factor → List ℕ
-suspectsOf f = let n = f .precision .bits in row (isSuspect n (scaleOf n) (f .lower) (f .upper)) (leastOf n) (2 ^ n)
+suspectsOf f = let n = f .precision .bits in row (isSuspect (contextOf f) (lowerOf f) (upperOf f)) (leastOf n) (2 ^ n)
 
 -- the mark of a significand's product
 abbrev pub markOf : Factor → ℕ → Mark

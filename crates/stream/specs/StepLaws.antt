@@ -17,7 +17,7 @@ use Rattle.marks.specs.declared.Mark.{Mark}
 use Rattle.marks.specs.Answers.{Outcome, refused, accepted, andThen}
 use Rattle.factor.specs.declared.Description.{Description}
 use Rattle.factor.specs.declared.Factor.{Factor}
-use Rattle.factor.specs.Precision.{leastOf}
+use Rattle.factor.specs.Precision.{leastOf, mostPrecision}
 use Rattle.factor.specs.SetUp.{setUp, Sound, intact}
 use Rattle.factor.specs.SetUpLaws.{accepted-intact, intact-sound}
 use Rattle.calls.specs.Plain.{row}
@@ -57,9 +57,9 @@ pub record Going (s : SweepState) : Type 0 where
   pub upto : s .next ≤ s .last
   pub going : s .finished ≡ false
 
--- the counts so far, which stay small: there are no more significands than 2 ^ 24
+-- the counts so far, which stay small: there are no more significands than the largest precision has
 pub record Counted (t : Tally) : Type 0 where
-  pub few : t .trials + length (leftOf (t .state)) ≤ 2 ^ 24
+  pub few : t .trials + length (leftOf (t .state)) ≤ 2 ^ mostPrecision
   pub failing : t .wrongs + t .opens ≤ t .trials
 
 abbrev pub GoodTask : ℕ → Task → Type 0
@@ -85,7 +85,7 @@ module _ (f : Factor) (whole : intact f ≡ true) where
 
   least-most : (2 ^ (n - 1) ≤ 2 ^ n - 1) × (2 ^ n - 1 < 2 ^ n)
   least-most =
-      let m : n ≡ suc (n - 1) = omega (arith, sound .fewest) in
+      let m : n ≡ suc (n - 1) = omega (arith, sound .precision) in
       let p : 1 ≤ 2 ^ (n - 1) = pow-pos (n - 1) in
       let d : 2 ^ n ≡ 2 ^ (n - 1) * 2 = ap (λ (k : ℕ). 2 ^ k) m ∙ pow-suc 2 (n - 1) in
       (omega arith, omega arith)
@@ -111,7 +111,7 @@ module _ (f : Factor) (whole : intact f ≡ true) where
   begun-counted =
       let l = least-most in
       let a = ascends-few (2 ^ (n - 1)) (suc (2 ^ n - 1)) (leftOf (begunWith f .state)) (row-ascends (suspect f) (2 ^ (n - 1)) (suc (2 ^ n - 1))) in
-      let b : 2 ^ n ≤ 2 ^ 24 = pow-mono (sound .most) in
+      let b : 2 ^ n ≤ 2 ^ mostPrecision = pow-mono (sound .precision .most) in
       record { few = omega arith; failing = omega arith }
 
   pub begun-left : suspectsOf f ≡ leftOf (begunWith f .state)

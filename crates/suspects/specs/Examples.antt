@@ -8,17 +8,19 @@ use Rattle.search.specs.declared.Place.{Place}
 use Rattle.search.specs.declared.Place.the-variants.{At}
 use Rattle.search.specs.declared.Found.{Found}
 use Rattle.search.specs.Search.{ceilDiv, negMod, test, placeAfter, afterRound, searchWithin, searchWindow, shift, searchFrom}
+use Rattle.factor.specs.Precision.{scaleOf}
+use Rattle.factor.specs.Context.{contextAt}
 use Rattle.suspects.specs.Suspects.{isSuspect}
 use Rattle.suspects.specs.Next.{nextIn, nextFrom, firstHigh}
 
 -- all significands of four bits, and whether each is a suspect of the factor C = c / 2 ^ 62
 abbrev row : ℕ → List Bool
-row c = map (isSuspect 4 62 c c) (8 ∷ 9 ∷ 10 ∷ 11 ∷ 12 ∷ 13 ∷ 14 ∷ 15 ∷ [])
+row c = map (isSuspect (contextAt 4) c c) (8 ∷ 9 ∷ 10 ∷ 11 ∷ 12 ∷ 13 ∷ 14 ∷ 15 ∷ [])
 
 -- the next suspect from a on, in the half of h
 next : (h c a : ℕ) → Found
-unfolding ceilDiv negMod test placeAfter afterRound searchWithin searchWindow shift searchFrom decLe decLt ℕ-discrete nextIn
-next h c a = nextFrom 4 62 c c h a
+unfolding ceilDiv negMod test placeAfter afterRound searchWithin searchWindow shift searchFrom decLe decLt ℕ-discrete nextIn scaleOf
+next h c a = nextFrom (contextAt 4) c c h a
 
 abbrev after : ℕ → Place → Found
 after rounds place = record { place = place; rounds = rounds }
@@ -28,11 +30,11 @@ abbrev P1 : ℕ
 P1 = 3 * 2 ^ 61
 
 P1-row : row P1 ≡ (false ∷ true ∷ false ∷ false ∷ false ∷ false ∷ true ∷ false ∷ [])
-unfolding isSuspect
+unfolding isSuspect scaleOf
 P1-row = refl
 
-P1-first-high : firstHigh 4 62 P1 ≡ 11
-unfolding firstHigh
+P1-first-high : firstHigh (contextAt 4) P1 ≡ 11
+unfolding firstHigh scaleOf
 P1-first-high = refl
 
 P1-low : next (2 ^ 61) P1 8 ≡ after 0 (At 9)
@@ -58,11 +60,11 @@ abbrev P2 : ℕ
 P2 = 0x4BFFFC0000000000
 
 P2-row : row P2 ≡ (true ∷ false ∷ false ∷ false ∷ false ∷ false ∷ false ∷ false ∷ [])
-unfolding isSuspect
+unfolding isSuspect scaleOf
 P2-row = refl
 
-P2-first-high : firstHigh 4 62 P2 ≡ 14
-unfolding firstHigh
+P2-first-high : firstHigh (contextAt 4) P2 ≡ 14
+unfolding firstHigh scaleOf
 P2-first-high = refl
 
 -- the start itself

@@ -1,12 +1,14 @@
--- The search for the next suspect in a half (document 01, "Suspects and rounds"), over the precision n and the scale E of the ends.
+-- The search for the next suspect in a half (document 01, "Suspects and rounds"), over a context.
 -- h is half the distance of two midpoints: 2 ^ (E - 1) in the low half, 2 ^ E in the high half. Definitions only. Assumes nothing.
 use mathlib.Core.Path.{_≡_}
 use mathlib.Core.Bool.{Bool, true, false}
 use Prim.Native.Nat.{ℕ, _+_, _-_, _*_, _%_, _^_, _≤_, _<_}
+use Rattle.wide.specs.Value.{halfWord}
 use Rattle.search.specs.declared.Place.{Place}
 use Rattle.search.specs.declared.Place.the-variants.{At, Nowhere}
 use Rattle.search.specs.declared.Found.{Found}
 use Rattle.search.specs.Search.{ceilDiv, searchFrom}
+use Rattle.factor.specs.Context.{Context}
 use Rattle.suspects.specs.declared.Sought.{Sought}
 use Rattle.suspects.specs.declared.Halves.{Halves}
 use Rattle.suspects.specs.Suspects.{windowW, widening}
@@ -14,10 +16,6 @@ use Rattle.suspects.specs.Suspects.{windowW, widening}
 -- modulus m = 2 * h, step L mod m, and the window of wanted remainders (document 01), which lies near h
 abbrev pub soughtNear : (L h W D : ℕ) → Sought
 soughtNear L h W D = record { modulus = 2 * h; step = L % (2 * h); from = h - W - D + 1; to = h + W - 1 }
-
--- what is sought in the half of h
-abbrev pub soughtIn : (n E L U h : ℕ) → Sought
-soughtIn n E L U h = soughtNear L h (windowW n E) (widening n L U)
 
 -- a place counted from the significand a, as a significand
 abbrev pub movedBy : ℕ → Place → Place
@@ -34,18 +32,25 @@ unfoldable pub nextIn : Sought → ℕ → Found
 unfolding searchFrom
 nextIn s a = foundFrom a (searchFrom (s .modulus) (s .step) (s .step * a % s .modulus) (s .from) (s .to))
 
--- the next suspect from the significand a on, in the half of h
-abbrev pub nextFrom : (n E L U h a : ℕ) → Found
-nextFrom n E L U h a = nextIn (soughtIn n E L U h) a
+module _ (K : Context) where
+  open Context K using (n, E)
 
--- the first high significand: the least X with 2 ^ (E + n) ≤ L * X
-unfoldable pub firstHigh : (n E L : ℕ) → ℕ
-unfolding ceilDiv
-firstHigh n E L = ceilDiv (2 ^ (E + n)) L
+  -- what is sought in the half of h
+  abbrev pub soughtIn : (L U h : ℕ) → Sought
+  soughtIn L U h = soughtNear L h (windowW K) (widening K L U)
 
--- what is sought in each half, and where they meet
-abbrev pub halves : (n E L U : ℕ) → Halves
-halves n E L U = record { low = soughtIn n E L U (2 ^ (E - 1)); high = soughtIn n E L U (2 ^ E); «first_high» = firstHigh n E L }
+  -- the next suspect from the significand a on, in the half of h
+  abbrev pub nextFrom : (L U h a : ℕ) → Found
+  nextFrom L U h a = nextIn (soughtIn L U h) a
+
+  -- the first high significand: the least X with 2 ^ (E + n) ≤ L * X
+  unfoldable pub firstHigh : ℕ → ℕ
+  unfolding ceilDiv
+  firstHigh L = ceilDiv (2 ^ (E + n)) L
+
+  -- what is sought in each half, and where they meet
+  abbrev pub halves : (L U : ℕ) → Halves
+  halves L U = record { low = soughtIn L U (2 ^ (E - 1)); high = soughtIn L U (2 ^ E); «first_high» = firstHigh L }
 
 -- the place is the least suspect from a on, as far as it lies before the end; a place at or past the end says that none lies before the end
 abbrev pub LeastFrom : (ℕ → Bool) → (end a : ℕ) → Place → Type 0
@@ -57,5 +62,5 @@ pub record Askable (s : Sought) : Type 0 where
   pub window : s .from ≤ s .to
   pub below : s .to < s .modulus
   pub step-below : s .step < s .modulus
-  pub most : s .modulus ≤ 2 ^ 63
+  pub most : s .modulus ≤ halfWord
   pub divides : 2 ^ 64 % s .modulus ≡ 0

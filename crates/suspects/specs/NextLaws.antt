@@ -16,7 +16,7 @@ use Rattle.search.specs.Search.{searchFrom, ceilDiv}
 use Rattle.search.specs.Finds.{Wanted, Least, Finds}
 use Rattle.search.specs.Multiples.{ceilDiv-ge, ceilDiv-le}
 use Rattle.search.specs.SearchLaws.{searchFrom-finds}
-use Rattle.rounding.specs.Grid.{Rule}
+use Rattle.factor.specs.Context.{Context, Fine}
 use Rattle.factor.specs.Parts.{partsAt}
 use Rattle.factor.specs.Whole.{End}
 use Rattle.suspects.specs.declared.Sought.{Sought}
@@ -26,12 +26,12 @@ use Rattle.suspects.specs.Next.{soughtNear, movedBy, nextIn, nextFrom, f
 
 -- ---- where the halves meet
 -- X is low exactly if it is below the first high significand.
-pub low-is-below : (n E L X : ℕ) → 0 < L → isLow n E L X ≡ ltb X (firstHigh n E L)
+pub low-is-below : (K : Context) (L X : ℕ) → 0 < L → isLow K L X ≡ ltb X (firstHigh K L)
 unfolding firstHigh
-low-is-below n E L X p = go (decLt X (ceilDiv (2 ^ (E + n)) L))
+low-is-below K L X p = go (decLt X (ceilDiv (2 ^ (K .E + K .n)) L))
   where
     T : ℕ
-    T = 2 ^ (E + n)
+    T = 2 ^ (K .E + K .n)
 
     go : Dec (X < ceilDiv T L) → ltb (L * X) T ≡ ltb X (ceilDiv T L)
     go (yes lt) =
@@ -42,15 +42,17 @@ low-is-below n E L X p = go (decLt X (ceilDiv (2 ^ (E + n)) L))
         let high : T ≤ L * X = omega (arith, ceilDiv-ge T L p, mul-le-mul-right L le) in
         le-ltb (L * X) T high ∙ sym (le-ltb X (ceilDiv T L) le)
 
-module _ (n E L X : ℕ) (p : 0 < L) where
-  half-is : (b : Bool) → ltb X (firstHigh n E L) ≡ b → halfStep n E L X ≡ cond b (2 ^ (E - 1)) (2 ^ E)
-  half-is b e = ap (λ (t : Bool). cond t (2 ^ (E - 1)) (2 ^ E)) (low-is-below n E L X p ∙ e)
+module _ (K : Context) (L X : ℕ) (p : 0 < L) where
+  open Context K using (rule, n, E)
+
+  half-is : (b : Bool) → ltb X (firstHigh K L) ≡ b → halfStep K L X ≡ cond b (2 ^ (E - 1)) (2 ^ E)
+  half-is b e = ap (λ (t : Bool). cond t (2 ^ (E - 1)) (2 ^ E)) (low-is-below K L X p ∙ e)
 
   -- Half the distance of two midpoints is 2 ^ (E - 1) below the first high significand, and 2 ^ E from it on.
-  pub half-low : X < firstHigh n E L → halfStep n E L X ≡ 2 ^ (E - 1)
+  pub half-low : X < firstHigh K L → halfStep K L X ≡ 2 ^ (E - 1)
   half-low h = half-is true (lt-ltb _ _ h)
 
-  pub half-high : firstHigh n E L ≤ X → halfStep n E L X ≡ 2 ^ E
+  pub half-high : firstHigh K L ≤ X → halfStep K L X ≡ 2 ^ E
   half-high h = half-is false (le-ltb _ _ h)
 
 -- ---- remainders
@@ -114,41 +116,44 @@ module _ (L h W D : ℕ) (some : 0 < W) (fits : W + D ≤ h) where
         go Nowhere w = λ Y l u. clear Y l u (w (Y - a))
 
 -- ---- ends with the same parts, at two bits or more
-module _ (rule : Rule) (n E : ℕ) (P : 2 ≤ n) (F : 2 * n ≤ E) (L U : ℕ) (le : End E L) (ue : End E U) (same : partsAt rule n E L ≡ partsAt rule n E U) where
-  low-room : windowW n E + widening n L U ≤ 2 ^ (E - 1)
-  low-room = room rule n E P F L U le ue same
+module _ (K : Context) (ok : Fine K) (two : 2 ≤ K .n) (L U : ℕ) (le : End K L) (ue : End K U) (same : partsAt K L ≡ partsAt K U) where
+  open Context K using (rule, n, E)
+  open Fine ok using (some as P, room as F)
+
+  low-room : windowW K + widening K L U ≤ 2 ^ (E - 1)
+  low-room = room K ok two L U le ue same
 
   low-high : 2 ^ (E - 1) ≤ 2 ^ E
   low-high = pow-mono {i = E - 1} {j = E} (omega arith)
 
-  high-room : windowW n E + widening n L U ≤ 2 ^ E
+  high-room : windowW K + widening K L U ≤ 2 ^ E
   high-room = le-trans low-room low-high
 
   some : 0 < L
   some = le-trans (pow-pos E) (le .from)
 
   -- In the half of h the search finds the least suspect from a on, as far as the half goes.
-  pub finds-in : (h a end : ℕ) → windowW n E + widening n L U ≤ h → ((X : ℕ) → a ≤ X → X < end → halfStep n E L X ≡ h)
-      → LeastFrom (isSuspect n E L U) end a (nextFrom n E L U h a .place)
+  pub finds-in : (h a end : ℕ) → windowW K + widening K L U ≤ h → ((X : ℕ) → a ≤ X → X < end → halfStep K L X ≡ h)
+      → LeastFrom (isSuspect K L U) end a (nextFrom K L U h a .place)
   unfolding isSuspect
   finds-in h a end fits half =
-      near-least L h (windowW n E) (widening n L U) (pow-pos (E - n)) fits (isSuspect n E L U) a end
-      (λ X l u. ap (λ (z : ℕ). inWindow (L * X % (2 * z)) z (windowW n E) (widening n L U)) (half X l u))
+      near-least L h (windowW K) (widening K L U) (pow-pos (E - n)) fits (isSuspect K L U) a end
+      (λ X l u. ap (λ (z : ℕ). inWindow (L * X % (2 * z)) z (windowW K) (widening K L U)) (half X l u))
 
   -- In the low half, as far as the first high significand.
-  pub finds-low : (a end : ℕ) → end ≤ firstHigh n E L → LeastFrom (isSuspect n E L U) end a (nextFrom n E L U (2 ^ (E - 1)) a .place)
-  finds-low a end x = finds-in (2 ^ (E - 1)) a end low-room (λ X l u. half-low n E L X some (omega arith))
+  pub finds-low : (a end : ℕ) → end ≤ firstHigh K L → LeastFrom (isSuspect K L U) end a (nextFrom K L U (2 ^ (E - 1)) a .place)
+  finds-low a end x = finds-in (2 ^ (E - 1)) a end low-room (λ X l u. half-low K L X some (omega arith))
 
   -- In the high half, however far.
-  pub finds-high : (a end : ℕ) → firstHigh n E L ≤ a → LeastFrom (isSuspect n E L U) end a (nextFrom n E L U (2 ^ E) a .place)
-  finds-high a end x = finds-in (2 ^ E) a end high-room (λ X l u. half-high n E L X some (omega arith))
+  pub finds-high : (a end : ℕ) → firstHigh K L ≤ a → LeastFrom (isSuspect K L U) end a (nextFrom K L U (2 ^ E) a .place)
+  finds-high a end x = finds-in (2 ^ E) a end high-room (λ X l u. half-high K L X some (omega arith))
 
-  few-in : (h a : ℕ) → windowW n E + widening n L U ≤ h → h ≤ 2 ^ E → nextFrom n E L U h a .rounds ≤ E
-  few-in h a fits = near-few L h (windowW n E) (widening n L U) (pow-pos (E - n)) fits E a
+  few-in : (h a : ℕ) → windowW K + widening K L U ≤ h → h ≤ 2 ^ E → nextFrom K L U h a .rounds ≤ E
+  few-in h a fits = near-few L h (windowW K) (widening K L U) (pow-pos (E - n)) fits E a
 
   -- A search takes at most E rounds, in the low half and in the high half.
-  pub few-low : (a : ℕ) → nextFrom n E L U (2 ^ (E - 1)) a .rounds ≤ E
+  pub few-low : (a : ℕ) → nextFrom K L U (2 ^ (E - 1)) a .rounds ≤ E
   few-low a = few-in (2 ^ (E - 1)) a low-room low-high
 
-  pub few-high : (a : ℕ) → nextFrom n E L U (2 ^ E) a .rounds ≤ E
+  pub few-high : (a : ℕ) → nextFrom K L U (2 ^ E) a .rounds ≤ E
   few-high a = few-in (2 ^ E) a high-room (le-refl (2 ^ E))

@@ -8,10 +8,10 @@ use native.Mathlib.Decide.{decLe, decLt}
 use native.Mathlib.Omega.{arith}
 use lib.Pow.{pow-add, pow-pos, pow-mono}
 use borrow.Author.Tests.{lt-ltb, le-ltb}
-use Rattle.rounding.specs.Grid.{Rule}
 use Rattle.rounding.specs.Digits.{pow-half}
 use Rattle.rounding.specs.Unit.{rn}
 use Rattle.rounding.specs.UnitLaws.{rn-constant}
+use Rattle.factor.specs.Context.{Context, Fine}
 use Rattle.factor.specs.Parts.{partsAt}
 use Rattle.factor.specs.Whole.{End, Whole, whole}
 use Rattle.factor.specs.PartsLaws.{top-is}
@@ -22,7 +22,10 @@ use Rattle.product.specs.Near.{near-lower}
 use Rattle.suspects.specs.Suspects.{halfStep, midpoint, Suspect}
 
 -- ---- which of RN's midpoints can lie near L * X. The binades meet at 2 ^ (E + n)
-module _ (n E : ℕ) (P : 0 < n) (F : 2 * n ≤ E) (L X : ℕ) (top : L < 2 ^ suc E) (xe : X < 2 ^ n) where
+module _ (K : Context) (ok : Fine K) (L X : ℕ) (top : L < 2 ^ suc (K .E)) (xe : X < 2 ^ K .n) where
+  open Context K using (rule, n, E)
+  open Fine ok using (some as P, room as F)
+
   abbrev W : ℕ
   W = 2 ^ (E - n)
 
@@ -30,7 +33,7 @@ module _ (n E : ℕ) (P : 0 < n) (F : 2 * n ≤ E) (L X : ℕ) (top : L < 2 ^ su
   T = 2 ^ n * 2 ^ E
 
   width : 2 * W ≤ 2 ^ E
-  width = omega (arith, top-is n E F, mul-le-mul-right W (pow-mono {i = 1} {j = n} P))
+  width = omega (arith, top-is K ok, mul-le-mul-right W (pow-mono {i = 1} {j = n} P))
 
   high-end : L * X ≤ 2 * T
   high-end = omega (arith, mul-le-mul (le-of-lt top) (le-of-lt xe), ap (λ (z : ℕ). z * 2 ^ n) (pow-succ' 2 E))
@@ -54,17 +57,17 @@ module _ (n E : ℕ) (P : 0 < n) (F : 2 * n ≤ E) (L X : ℕ) (top : L < 2 ^ su
   at-high : (j : ℕ) → 2 ^ (n - 1) ≤ j → 2 * T + 2 * 2 ^ E ≤ (2 * j + 1) * 2 ^ suc E
   at-high j lo = omega (arith, mul-le-mul-right (2 * 2 ^ E) lo, ap (λ (z : ℕ). z * 2 ^ E) (pow-half n P), ap (λ (z : ℕ). (2 * j + 1) * z) (pow-succ' 2 E))
 
-  half-low : L * X < 2 ^ (E + n) → halfStep n E L X ≡ 2 ^ (E - 1)
+  half-low : L * X < 2 ^ (E + n) → halfStep K L X ≡ 2 ^ (E - 1)
   half-low l = ap (λ (b : Bool). cond b (2 ^ (E - 1)) (2 ^ E)) (lt-ltb (L * X) (2 ^ (E + n)) l)
 
-  half-high : 2 ^ (E + n) ≤ L * X → halfStep n E L X ≡ 2 ^ E
+  half-high : 2 ^ (E + n) ≤ L * X → halfStep K L X ≡ 2 ^ E
   half-high l = ap (λ (b : Bool). cond b (2 ^ (E - 1)) (2 ^ E)) (le-ltb (L * X) (2 ^ (E + n)) l)
 
-  module _ (rule : Rule) (U : ℕ) (spread : (U - L) * 2 ^ n ≤ W) (clear : ¬ Suspect n E L U X) where
+  module _ (U : ℕ) (spread : (U - L) * 2 ^ n ≤ W) (clear : ¬ Suspect K L U X) where
     abbrev D : ℕ
     D = (U - L) * 2 ^ n
 
-    not-at : (h : ℕ) → halfStep n E L X ≡ h → (q : ℕ) → L * X < (2 * q + 1) * h + W → (2 * q + 1) * h < L * X + W + D → ⊥
+    not-at : (h : ℕ) → halfStep K L X ≡ h → (q : ℕ) → L * X < (2 * q + 1) * h + W → (2 * q + 1) * h < L * X + W + D → ⊥
     unfolding Suspect midpoint
     not-at h e q x y = clear (q, rw e x, rw e y)
 
@@ -103,13 +106,16 @@ module _ (n E : ℕ) (P : 0 < n) (F : 2 * n ≤ E) (L X : ℕ) (top : L < 2 ^ su
       alike = rn-constant rule n P a b 1 (omega arith) (omega (arith, one, mul-le-mul-left (2 ^ n) (pow-pos E))) ab none
 
 -- ---- ends with the same parts
-module _ (rule : Rule) (n E : ℕ) (P : 0 < n) (F : 2 * n ≤ E) (L U : ℕ) (le : End E L) (ue : End E U) (lu : L ≤ U) (same : partsAt rule n E L ≡ partsAt rule n E U) where
-  abbrev w : Whole
-  w = whole rule n E L
+module _ (K : Context) (ok : Fine K) (L U : ℕ) (le : End K L) (ue : End K U) (lu : L ≤ U) (same : partsAt K L ≡ partsAt K U) where
+  open Context K using (rule, n, E)
+  open Fine ok using (some as P, room as F)
 
-  module _ (X : ℕ) (x1 : 2 ^ (n - 1) ≤ X) (xe : X < 2 ^ n) (clear : ¬ Suspect n E L U X) where
+  abbrev w : Whole
+  w = whole K L
+
+  module _ (X : ℕ) (x1 : 2 ^ (n - 1) ≤ X) (xe : X < 2 ^ n) (clear : ¬ Suspect K L U X) where
     abbrev y : ℕ
-    y = fusedUnits rule n E w X
+    y = fusedUnits K w X
 
     one : (a : ℕ) → 2 ^ E * X ≤ a → 2 ^ n * 2 ^ E ≤ 2 * a
     one a h = omega (arith, mul-le-mul-left (2 ^ E) x1, ap (λ (z : ℕ). 2 ^ E * z) (pow-half n P))
@@ -118,17 +124,17 @@ module _ (rule : Rule) (n E : ℕ) (P : 0 < n) (F : 2 * n ≤ E) (L U : ℕ) (le
     far = let e : U ≡ L + (U - L) = omega arith in omega (arith, ap (λ (z : ℕ). z * X) e, mul-le-mul-left (U - L) (le-of-lt xe))
 
     abbrev pair : (a b : ℕ) → a ≤ b → 2 ^ E * X ≤ a → L * X < a + 2 ^ (E - n) → b < L * X + 2 ^ (E - n) + (U - L) * 2 ^ n → rn rule n a 1 ≡ rn rule n b 1
-    pair a b ab o = alike n E P F L X (le .to) xe rule U (spread rule n E P F L U le ue same) clear a b ab (one a o)
+    pair a b ab o = alike K ok L X (le .to) xe U (spread K ok L U le ue same) clear a b ab (one a o)
 
     -- RN(L * x) is RN(U * x)
     pub ends-alike : rn rule n (L * X) 1 ≡ rn rule n (U * X) 1
     ends-alike = pair (L * X) (U * X) (mul-le-mul-right X lu) (mul-le-mul-right X (le .from)) (omega (arith, pow-pos (E - n))) (omega (arith, far, pow-pos (E - n)))
 
     -- and the product
-    pub product-alike : rn rule n (L * X) 1 ≡ secondUnits rule n E w X
+    pub product-alike : rn rule n (L * X) 1 ≡ secondUnits K w X
     unfolding secondUnits
     product-alike = go (decLe (L * X) y)
       where
         go : Dec (L * X ≤ y) → rn rule n (L * X) 1 ≡ rn rule n y 1
-        go (yes h) = pair (L * X) y h (mul-le-mul-right X (le .from)) (omega (arith, pow-pos (E - n))) (omega (arith, near-lower rule n E P F L U le ue same X xe .0))
-        go (no h) = sym (pair y (L * X) (omega (arith, lt-of-not-le h)) (fused-least rule n E P F L le X xe) (near-lower rule n E P F L U le ue same X xe .1) (omega (arith, pow-pos (E - n))))
+        go (yes h) = pair (L * X) y h (mul-le-mul-right X (le .from)) (omega (arith, pow-pos (E - n))) (omega (arith, near-lower K ok L U le ue same X xe .0))
+        go (no h) = sym (pair y (L * X) (omega (arith, lt-of-not-le h)) (fused-least K ok L le X xe) (near-lower K ok L U le ue same X xe .1) (omega (arith, pow-pos (E - n))))

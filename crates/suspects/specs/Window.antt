@@ -9,9 +9,9 @@ use lib.Dec.{ltb}
 use lib.Pow.{pow-pos, pow-mono}
 use borrow.Author.Tests.{ltb-true, lt-ltb}
 use Rattle.marks.specs.declared.Mark.the-variants.{Right}
-use Rattle.rounding.specs.Grid.{Rule}
 use Rattle.rounding.specs.Digits.{pow-half}
 use Rattle.rounding.specs.Unit.{rn}
+use Rattle.factor.specs.Context.{Context, Fine}
 use Rattle.factor.specs.Parts.{partsAt}
 use Rattle.factor.specs.Whole.{End, whole}
 use Rattle.factor.specs.PartsLaws.{top-is}
@@ -52,37 +52,38 @@ in-window r h W D = (λ e. of (ltb h (r + W + D)) (ltb r (h + W)) refl refl e, �
 
 -- ---- ends with the same parts, at two bits or more
 -- The window lies between two multiples of the distance of two midpoints, in the low half and so in both.
-pub room :
-    (rule : Rule) (n E : ℕ) → 2 ≤ n → 2 * n ≤ E → (L U : ℕ) → End E L → End E U → partsAt rule n E L ≡ partsAt rule n E U
-    → windowW n E + widening n L U ≤ 2 ^ (E - 1)
-room rule n E P F L U le ue same =
-    omega (arith, spread rule n E (omega arith) F L U le ue same, top-is n E F, mul-le-mul-right (windowW n E) (pow-mono {i = 2} {j = n} P), pow-half E (omega arith))
+pub room : (K : Context) → Fine K → 2 ≤ K .n → (L U : ℕ) → End K L → End K U → partsAt K L ≡ partsAt K U → windowW K + widening K L U ≤ 2 ^ (K .E - 1)
+room K ok two L U le ue same =
+    omega (arith, spread K ok L U le ue same, top-is K ok, mul-le-mul-right (windowW K) (pow-mono {i = 2} {j = K .n} two), pow-half (K .E) (omega arith))
 
-module _ (rule : Rule) (n E : ℕ) (P : 2 ≤ n) (F : 2 * n ≤ E) (L U : ℕ) (le : End E L) (ue : End E U) (lu : L ≤ U) (same : partsAt rule n E L ≡ partsAt rule n E U) (X : ℕ) where
+module _ (K : Context) (ok : Fine K) (two : 2 ≤ K .n) (L U : ℕ) (le : End K L) (ue : End K U) (lu : L ≤ U) (same : partsAt K L ≡ partsAt K U) (X : ℕ) where
+  open Context K using (rule, n, E)
+  open Fine ok using (some as P, room as F)
+
   abbrev W : ℕ
-  W = windowW n E
+  W = windowW K
 
   abbrev D : ℕ
-  D = widening n L U
+  D = widening K L U
 
   abbrev h : ℕ
-  h = halfStep n E L X
+  h = halfStep K L X
 
   half-ge : 2 ^ (E - 1) ≤ h
-  half-ge = go (isLow n E L X)
+  half-ge = go (isLow K L X)
     where
       go : (b : Bool) → 2 ^ (E - 1) ≤ cond b (2 ^ (E - 1)) (2 ^ E)
       go true = le-of-eq refl
       go false = pow-mono {i = E - 1} {j = E} (omega arith)
 
   window-room : W + D ≤ h
-  window-room = le-trans (room rule n E P F L U le ue same) half-ge
+  window-room = le-trans (room K ok two L U le ue same) half-ge
 
   half-pos : 0 < h
   half-pos = le-trans (pow-pos (E - 1)) half-ge
 
   -- the test is the definition
-  pub suspect-iff : isSuspect n E L U X ≡ true ↔ Suspect n E L U X
+  pub suspect-iff : isSuspect K L U X ≡ true ↔ Suspect K L U X
   unfolding isSuspect Suspect midpoint
   suspect-iff = (
     λ e. let w = in-window ((L * X) % (2 * h)) h W D .0 e in multiple-of-window (L * X) h W D half-pos window-room (w .0) (w .1),
@@ -90,16 +91,16 @@ module _ (rule : Rule) (n E : ℕ) (P : 2 ≤ n) (F : 2 * n ≤ E) (L U : ℕ) (
   )
 
   -- every significand that is not right is a suspect
-  pub not-right-suspect : 2 ^ (n - 1) ≤ X → X < 2 ^ n → ¬ (mark rule n E L U X (product rule n (partsAt rule n E L) X) ≡ Right) → Suspect n E L U X
-  not-right-suspect x1 xe m = go (isSuspect n E L U X) refl
+  pub not-right-suspect : 2 ^ (n - 1) ≤ X → X < 2 ^ n → ¬ (mark K L U X (product K (partsAt K L) X) ≡ Right) → Suspect K L U X
+  not-right-suspect x1 xe m = go (isSuspect K L U X) refl
     where
-      v-is : product rule n (partsAt rule n E L) X .significand * 2 ^ (E + product rule n (partsAt rule n E L) X .binade) ≡ secondUnits rule n E (whole rule n E L) X
-      v-is = product-is rule n E (omega arith) F L le X xe x1 .value
+      v-is : product K (partsAt K L) X .significand * 2 ^ (E + product K (partsAt K L) X .binade) ≡ secondUnits K (whole K L) X
+      v-is = product-is K ok L le X xe x1 .value
 
-      go : (b : Bool) → isSuspect n E L U X ≡ b → Suspect n E L U X
+      go : (b : Bool) → isSuspect K L U X ≡ b → Suspect K L U X
       go true e = suspect-iff .0 e
       go false e =
-          let clear : ¬ Suspect n E L U X = λ s. mathlib.Core.Bool.true≢false (sym (suspect-iff .1 s) ∙ e) in
-          let p = product-alike rule n E (omega arith) F L U le ue lu same X x1 xe clear in
-          let q = ends-alike rule n E (omega arith) F L U le ue lu same X x1 xe clear in
-          absurd (m (mark-units rule n E (omega arith) L U X (product rule n (partsAt rule n E L) X) ∙ right-units (rn rule n (L * X) 1) (rn rule n (U * X) 1) _ (p ∙ sym v-is) (sym q ∙ p ∙ sym v-is)))
+          let clear : ¬ Suspect K L U X = λ s. mathlib.Core.Bool.true≢false (sym (suspect-iff .1 s) ∙ e) in
+          let p = product-alike K ok L U le ue lu same X x1 xe clear in
+          let q = ends-alike K ok L U le ue lu same X x1 xe clear in
+          absurd (m (mark-units K P L U X (product K (partsAt K L) X) ∙ right-units (rn rule n (L * X) 1) (rn rule n (U * X) 1) _ (p ∙ sym v-is) (sym q ∙ p ∙ sym v-is)))

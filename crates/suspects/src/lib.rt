@@ -1,11 +1,12 @@
 // Suspects: the significands near a midpoint, among which every failing one is, and the search for the next of them (document 01, "Suspects and rounds").
 use factor::Factor;
-use factor::Precision;
 use search::Found;
 use search::Place;
 ghost use mathlib.Core.Path.{_≡_};
 ghost use Prim.Native.Nat.{_+_, _-_, _*_, _%_, _≤_, _<_, _^_};
+ghost use Rattle.factor.specs.Context.{contextOf, lowerOf, upperOf};
 ghost use Rattle.factor.specs.SetUp.{Sound};
+ghost use Rattle.wide.specs.Value.{halfWord};
 ghost use Rattle.suspects.specs.Next.{soughtNear, soughtIn, nextIn, firstHigh, halves, Askable};
 
 // What is sought in a half: remainders from `from` to `to`, both included, of the multiples of the step modulo the modulus.
@@ -23,13 +24,13 @@ pub struct Halves {
     pub first_high: u64,
 }
 
-// The first high significand: 2 ^ (62 + n) over the lower end, rounded up.
+// The first high significand: 2 ^ (E + n) over the lower end, rounded up.
 pub fn first_high(f: Factor) -> u64
     requires { ⌜ Sound f ⌝ }
-    ensures { λ r. ⌜ r ≡ firstHigh (f .precision .bits) 62 (f .lower) ⌝ }
+    ensures { λ r. ⌜ r ≡ firstHigh (contextOf f) (lowerOf f) ⌝ }
 {
-    let n = f.precision.bits;
-    let divided = wide::divide(wide::wide_power(Precision::SCALE + n), f.lower);
+    let p = f.precision;
+    let divided = wide::divide(wide::wide_power(p.scale() + p.bits), f.lower);
     if divided.remainder == 0 {
         return divided.quotient;
     }
@@ -38,7 +39,7 @@ pub fn first_high(f: Factor) -> u64
 
 // The remainders near half the distance of two midpoints.
 fn sought_near(lower: u64, half: u64, window: u64, widening: u64) -> Sought
-    requires { ⌜ (0 < window) × (window + widening ≤ half) × (half ≤ 2 ^ 62) ⌝ }
+    requires { ⌜ (0 < window) × (window + widening ≤ half) × (2 * half ≤ halfWord) ⌝ }
     ensures { λ r. ⌜ r ≡ soughtNear lower half window widening ⌝ }
 {
     let modulus = 2 * half;
@@ -52,8 +53,8 @@ fn sought_near(lower: u64, half: u64, window: u64, widening: u64) -> Sought
 
 // What is sought in the half whose products drop so many digits: two midpoints are 2 ^ dropped apart.
 fn sought_in(f: Factor, dropped: u32) -> Sought
-    requires { ⌜ Sound f × (62 ≤ dropped) × (dropped ≤ 63) ⌝ }
-    ensures { λ r. ⌜ r ≡ soughtIn (f .precision .bits) 62 (f .lower) (f .upper) (2 ^ (dropped - 1)) ⌝ }
+    requires { ⌜ Sound f × (contextOf f .E ≤ dropped) × (dropped ≤ contextOf f .E + 1) ⌝ }
+    ensures { λ r. ⌜ r ≡ soughtIn (contextOf f) (lowerOf f) (upperOf f) (2 ^ (dropped - 1)) ⌝ }
 {
     let p = f.precision;
     let window = wide::power(p.window());
@@ -64,11 +65,12 @@ fn sought_in(f: Factor, dropped: u32) -> Sought
 // All that a search needs of a factor.
 pub fn prepare(f: Factor) -> Halves
     requires { ⌜ Sound f ⌝ }
-    ensures { λ r. ⌜ r ≡ halves (f .precision .bits) 62 (f .lower) (f .upper) ⌝ }
+    ensures { λ r. ⌜ r ≡ halves (contextOf f) (lowerOf f) (upperOf f) ⌝ }
 {
+    let p = f.precision;
     Halves {
-        low: sought_in(f, Precision::LOW_DROPPED),
-        high: sought_in(f, Precision::HIGH_DROPPED),
+        low: sought_in(f, p.low_dropped()),
+        high: sought_in(f, p.high_dropped()),
         first_high: first_high(f),
     }
 }
@@ -84,7 +86,7 @@ fn remainder(x: u64, y: u64, m: u64) -> u64
 
 // The next suspect from the start on, in the half that is sought in, with the search's rounds.
 pub fn next(s: Sought, start: u64) -> Found
-    requires { ⌜ Askable s × (start ≤ 2 ^ 63) ⌝ }
+    requires { ⌜ Askable s × (start ≤ halfWord) ⌝ }
     ensures { λ r. ⌜ r ≡ nextIn s start ⌝ }
 {
     let base = remainder(s.step, start, s.modulus);

@@ -5,7 +5,8 @@ use Prim.Native.Nat.{ℕ, _-_, _^_}
 use lib.Dec.{ltb}
 use Rattle.search.specs.declared.Found.{Found}
 use Rattle.factor.specs.declared.Factor.{Factor}
-use Rattle.factor.specs.Precision.{scaleOf, roundsOf, significandOut}
+use Rattle.factor.specs.Precision.{roundsOf, significandOut}
+use Rattle.factor.specs.Context.{contextOf, lowerOf, upperOf}
 use Rattle.factor.specs.SetUp.{intact}
 use Rattle.product.specs.Product.{productBy}
 use Rattle.product.specs.Marks.{markBy}
@@ -17,7 +18,7 @@ use Rattle.calls.specs.Engine.{Half, low, high, Engine}
 
 -- whether X is a suspect of a factor
 abbrev pub suspect : Factor → ℕ → Bool
-suspect f X = let n = f .precision .bits in isSuspect n (scaleOf n) (f .lower) (f .upper) X
+suspect f X = isSuspect (contextOf f) (lowerOf f) (upperOf f) X
 
 -- 17: "a significand outside 2^(n−1) to 2^n − 1, or a range's first above its last"
 abbrev pub rangeOut : (n first last : ℕ) → Bool
@@ -29,12 +30,12 @@ stateOut s = outOfRange (rangeOut (s .factor .precision .bits) (s .first) (s .la
 
 -- what is sought in each half, and the first high significand
 abbrev pub halvesOf : Factor → Halves
-halvesOf f = let n = f .precision .bits in halves n (scaleOf n) (f .lower) (f .upper)
+halvesOf f = halves (contextOf f) (lowerOf f) (upperOf f)
 
 -- the search in a half, from a significand on
 abbrev pub findIn : Factor → Half → ℕ → Found
-findIn f low a = let n = f .precision .bits in nextFrom n (scaleOf n) (f .lower) (f .upper) (2 ^ (scaleOf n - 1)) a
-findIn f high a = let n = f .precision .bits in nextFrom n (scaleOf n) (f .lower) (f .upper) (2 ^ scaleOf n) a
+findIn f low a = nextFrom (contextOf f) (lowerOf f) (upperOf f) (2 ^ (contextOf f .E - 1)) a
+findIn f high a = nextFrom (contextOf f) (lowerOf f) (upperOf f) (2 ^ contextOf f .E) a
 
 -- the most rounds of a search
 abbrev pub mostRounds : Factor → ℕ
@@ -48,6 +49,6 @@ engine =
       faults = λ s. (31, not (intact (s .factor))) ∷ (32, stateOut s) ∷ [];
       listing = λ f. wordList;
       mark = λ f X. markBy f X (productBy f X);
-      firstHigh = λ f. firstHigh (f .precision .bits) (scaleOf (f .precision .bits)) (f .lower);
+      firstHigh = λ f. firstHigh (contextOf f) (lowerOf f);
       find = findIn;
     }

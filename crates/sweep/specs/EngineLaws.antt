@@ -3,18 +3,19 @@
 use mathlib.Core.Path.{_≡_, subst}
 use mathlib.Core.Bool.{true, false, not, _||_}
 use mathlib.Core.Logic.{_≢_, _↔_}
-use Prim.Native.Nat.{ℕ, suc, _-_, _*_, _≤_}
+use Prim.Native.Nat.{ℕ, suc, _-_, _≤_}
 use native.Mathlib.Omega.{arith}
 use lib.Dec.{ltb}
 use borrow.Author.Tests.{ltb-false, not-false}
 use Rattle.marks.specs.declared.Mark.the-variants.{Right}
 use Rattle.marks.specs.AnswerLaws.{or-false}
-use Rattle.rounding.specs.Grid.{toEven}
 use Rattle.rounding.specs.RoundLaws.{HasBits}
 use Rattle.factor.specs.declared.Parts.{Parts}
 use Rattle.factor.specs.declared.Factor.{Factor}
 use Rattle.factor.specs.Precision.{significandOut}
-use Rattle.factor.specs.SetUp.{partsOf, intact, described, Sound}
+use Rattle.factor.specs.Context.{Context, Fine, contextOf, lowerOf, upperOf, fine-at}
+use Rattle.factor.specs.Parts.{partsAt}
+use Rattle.factor.specs.SetUp.{intact, Sound}
 use Rattle.factor.specs.SetUpLaws.{intact-sound}
 use Rattle.product.specs.Product.{product, productBy}
 use Rattle.product.specs.Marks.{mark, SaysBy}
@@ -52,33 +53,39 @@ module _ (f : Factor) (s : Sound f) where
   abbrev n : ℕ
   n = f .precision .bits
 
-  two : 2 ≤ n
-  two = omega (arith, s .fewest)
+  abbrev K : Context
+  K = contextOf f
 
-  fine : 2 * n ≤ 62
-  fine = omega (arith, s .most)
+  abbrev L : ℕ
+  L = lowerOf f
+
+  abbrev U : ℕ
+  U = upperOf f
+
+  two : 2 ≤ n
+  two = omega (arith, s .precision)
+
+  fine : Fine K
+  fine = fine-at (s .precision)
 
   -- The test for a suspect is document 01's definition of one.
-  pub suspect-is : (X : ℕ) → suspect f X ≡ true ↔ Suspect n 62 (f .lower) (f .upper) X
-  suspect-is = suspect-iff toEven n 62 two fine (f .lower) (f .upper) (s .lower-end) (s .upper-end) (s .ordered) (s .same)
+  pub suspect-is : (X : ℕ) → suspect f X ≡ true ↔ Suspect K L U X
+  suspect-is = suspect-iff K fine two L U (s .lower-end) (s .upper-end) (s .ordered) (s .same)
 
   -- The mark of a significand in range says what demand 2 has it say of every fraction between the ends.
   pub mark-is : (X : ℕ) → HasBits n X → SaysBy f X (productBy f X) (engine .mark f X)
   mark-is = mark-tells f s
 
-  -- A search takes at most 64 rounds.
-  pub few : (h : Half) (a : ℕ) → findIn f h a .rounds ≤ 64
-  few low a = omega (arith, next.few-low toEven n 62 two fine (f .lower) (f .upper) (s .lower-end) (s .upper-end) (s .same) a)
-  few high a = omega (arith, next.few-high toEven n 62 two fine (f .lower) (f .upper) (s .lower-end) (s .upper-end) (s .same) a)
+  -- A search takes few rounds.
+  pub few : (h : Half) (a : ℕ) → findIn f h a .rounds ≤ mostRounds f
+  few low a = omega (arith, s .precision, next.few-low K fine two L U (s .lower-end) (s .upper-end) (s .same) a)
+  few high a = omega (arith, s .precision, next.few-high K fine two L U (s .lower-end) (s .upper-end) (s .same) a)
 
   not-right : (X : ℕ) → HasBits n X → engine .mark f X ≢ Right → suspect f X ≡ true
-  unfolding partsOf
   not-right X x q =
-      let L = f .lower in
-      let U = f .upper in
-      let z : ¬ (mark toEven n 62 L U X (product toEven n (partsOf (described f) L) X) ≡ Right) = subst (λ (p : Parts). ¬ (mark toEven n 62 L U X (product toEven n p X) ≡ Right)) (s .parts) q in
+      let z : ¬ (mark K L U X (product K (partsAt K L) X) ≡ Right) = subst (λ (p : Parts). ¬ (mark K L U X (product K p X) ≡ Right)) (s .parts) q in
       suspect-is X .1
-      (not-right-suspect toEven n 62 two fine L U (s .lower-end) (s .upper-end) (s .ordered) (s .same) X (x .least) (x .most) z)
+      (not-right-suspect K fine two L U (s .lower-end) (s .upper-end) (s .ordered) (s .same) X (x .least) (x .most) z)
 
 -- The engine is lawful.
 pub lawful : Lawful suspect engine mostRounds
@@ -96,8 +103,8 @@ lawful =
             ordered = r .ordered;
             lists = word-laws;
             suspected = λ X h k q. not-right f s X (record { least = omega (arith, r .first-bits .least); most = omega (arith, r .last-bits .most) }) q;
-            finds-low = λ a h k i. next.finds-low toEven (f .precision .bits) 62 (two f s) (fine f s) (f .lower) (f .upper) (s .lower-end) (s .upper-end) (s .same) a _ (omega arith);
-            finds-high = λ a h k i. next.finds-high toEven (f .precision .bits) 62 (two f s) (fine f s) (f .lower) (f .upper) (s .lower-end) (s .upper-end) (s .same) a (suc last) i;
+            finds-low = λ a h k i. next.finds-low (contextOf f) (fine f s) (two f s) (lowerOf f) (upperOf f) (s .lower-end) (s .upper-end) (s .same) a _ (omega arith);
+            finds-high = λ a h k i. next.finds-high (contextOf f) (fine f s) (two f s) (lowerOf f) (upperOf f) (s .lower-end) (s .upper-end) (s .same) a (suc last) i;
             few = λ a h k. few f s (halfOf (engine .firstHigh f) a) a;
           };
     }

@@ -10,8 +10,10 @@ use Rattle.marks.specs.Answers.{Outcome, refused, accepted, answer}
 use Rattle.rounding.specs.Grid.{nearest}
 use Rattle.rounding.specs.Round.{rounded}
 use Rattle.factor.specs.declared.Factor.{Factor}
+use Rattle.factor.specs.Precision.{scaleOf}
+use Rattle.factor.specs.Context.{tieRule}
 use Rattle.factor.specs.Parts.{partsAt}
-use Rattle.factor.specs.SetUp.{factorOf, setUp, partsOf, appliedOf, intact}
+use Rattle.factor.specs.SetUp.{factorOf, setUp, appliedOf, intact}
 use Rattle.product.specs.Product.{product}
 use Rattle.product.specs.Marks.{mark}
 use Rattle.search.specs.Search.{ceilDiv, negMod, test, placeAfter, afterRound, searchWithin, searchWindow, shift, searchFrom}
@@ -39,11 +41,11 @@ abbrev state : Factor → (next : ℕ) → (finished : Bool) → State Factor
 state f next finished = record { factor = f; first = 8; last = 15; next = next; finished = finished }
 
 called : State Factor → (cap : ℕ) → List ℕ → (free : ℕ) → Reply Factor
-unfolding sweepCall run ahead firstHigh nextIn ceilDiv negMod test placeAfter afterRound searchWithin searchWindow shift searchFrom decLe decLt ℕ-discrete intact answer setUp partsOf appliedOf partsAt rounded nearest product mark Ieee.round Ieee.size Ieee.span Ieee.climb Ieee.toBits
+unfolding sweepCall run ahead firstHigh nextIn ceilDiv negMod test placeAfter afterRound searchWithin searchWindow shift searchFrom decLe decLt ℕ-discrete intact answer setUp appliedOf scaleOf tieRule partsAt rounded nearest product mark Ieee.round Ieee.size Ieee.span Ieee.climb Ieee.toBits
 called s cap list free = sweepCall engine s (callOf cap list free)
 
 begun : Factor → (first last : ℕ) → Outcome (State Factor)
-unfolding answer intact setUp partsOf appliedOf partsAt rounded nearest Ieee.round Ieee.size Ieee.span Ieee.climb Ieee.toBits
+unfolding answer intact setUp appliedOf scaleOf tieRule partsAt rounded nearest Ieee.round Ieee.size Ieee.span Ieee.climb Ieee.toBits
 begun f first last = newState engine f first last
 
 -- what an accepted call answers

@@ -24,7 +24,8 @@ use Rattle.calls.specs.Lists.{entries-are, room-is}
 use Rattle.calls.specs.Loop.{Looping, loop-start, loop-ready, loop-end, loop-rounds, loop-trial}
 use Rattle.sweep.specs.declared.SweepState.{SweepState}
 use Rattle.sweep.specs.declared.Work.{Work}
-use Rattle.sweep.specs.Engine.{halvesOf, engine}
+use Rattle.factor.specs.Precision.{mostPrecision}
+use Rattle.sweep.specs.Engine.{halvesOf, mostRounds, engine}
 use Rattle.sweep.specs.EngineLaws.{sound-of, lawful}
 use Rattle.sweep.specs.Answers.{viewOf, callOf, termsBy}
 use Rattle.sweep.specs.Steps.{mustStop, begunAt, haltedAt, passedAt, withWord, triedAt, stepAt, aheadOf, stepOf, resultIn, Stepping, Taken}
@@ -64,18 +65,18 @@ module _ {s : SweepState} {cap : ℕ} {tail₀ : List ℕ} {w : Work} {tail : Li
   abbrev mark : ℕ → Mark
   mark = engine .mark (s .factor)
 
-  short : s .last < 2 ^ 24
+  short : s .last < 2 ^ mostPrecision
   short = last-short (s .factor) (s .first) (s .last) (loop-ready lawful l .sound)
 
   -- A step may be made.
   pub work-steps : {h : Halves} → h ≡ halvesOf (s .factor) → Stepping s h cap (length tail₀) w
   work-steps are =
-      let m : suc (s .last) - s .next + 2 ≤ 2 ^ 24 + 2 = omega (arith, short) in
+      let m : suc (s .last) - s .next + 2 ≤ 2 ^ mostPrecision + 2 = omega (arith, short) in
       record {
         sound = loop-ready lawful l .sound;
         are = are;
         from = l .from;
-        turns = omega (arith, loop-rounds lawful l, mul-le-mul-left 64 m);
+        turns = omega (arith, loop-rounds lawful l, mul-le-mul-left (mostRounds (s .factor)) m);
         capped = l .capped;
         fits = l .fits;
       }

@@ -21,12 +21,13 @@ use Rattle.suspects.specs.declared.Sought.{Sought}
 use Rattle.suspects.specs.declared.Halves.{Halves}
 use Rattle.suspects.specs.Next.{nextIn, Askable}
 use Rattle.suspects.specs.Asked.{low-askable, high-askable}
+use Rattle.factor.specs.Precision.{mostPrecision}
 use Rattle.calls.specs.Engine.{low, high}
 use Rattle.calls.specs.Call.{within, orElse, highStart, ahead}
 use Rattle.calls.specs.Runs.{ahead-found}
 use Rattle.sweep.specs.declared.SweepState.{SweepState}
 use Rattle.sweep.specs.declared.Work.{Work}
-use Rattle.sweep.specs.Engine.{halvesOf, engine}
+use Rattle.sweep.specs.Engine.{halvesOf, mostRounds, engine}
 use Rattle.sweep.specs.EngineLaws.{sound-of, in-range, few, lawful}
 use Rattle.sweep.specs.Steps.{cutAt, soughtBefore, aheadIn, Searchable, mustStop, haltedAt, triedAt, stepAt, aheadOf, stepOf, Room, Stepping}
 
@@ -51,18 +52,18 @@ module _ {h : Halves} (k : Searchable h) where
   pub high-asks : Askable (h .high)
   high-asks = subst (λ (x : Halves). Askable (x .high)) (sym (k .are)) (high-askable (k .of) (k .sound))
 
-  sought-few : (s : Sought) (a end : ℕ) → nextIn s a .rounds ≤ 64 → soughtBefore s a end .rounds ≤ 64
+  sought-few : (s : Sought) (a end : ℕ) → nextIn s a .rounds ≤ mostRounds (k .of) → soughtBefore s a end .rounds ≤ mostRounds (k .of)
   sought-few s a end h = go (ltb a end)
     where
-      go : (b : Bool) → cond b (cutAt end (nextIn s a)) (record { place = Nowhere; rounds = 0 }) .rounds ≤ 64
+      go : (b : Bool) → cond b (cutAt end (nextIn s a)) (record { place = Nowhere; rounds = 0 }) .rounds ≤ mostRounds (k .of)
       go true = h
       go false = omega arith
 
-  pub low-few : (a end : ℕ) → soughtBefore (h .low) a end .rounds ≤ 64
-  low-few a end = sought-few (h .low) a end (subst (λ (x : Halves). nextIn (x .low) a .rounds ≤ 64) (sym (k .are)) (few (k .of) (k .sound) low a))
+  pub low-few : (a end : ℕ) → soughtBefore (h .low) a end .rounds ≤ mostRounds (k .of)
+  low-few a end = sought-few (h .low) a end (subst (λ (x : Halves). nextIn (x .low) a .rounds ≤ mostRounds (k .of)) (sym (k .are)) (few (k .of) (k .sound) low a))
 
-  pub high-few : (a end : ℕ) → soughtBefore (h .high) a end .rounds ≤ 64
-  high-few a end = sought-few (h .high) a end (subst (λ (x : Halves). nextIn (x .high) a .rounds ≤ 64) (sym (k .are)) (few (k .of) (k .sound) high a))
+  pub high-few : (a end : ℕ) → soughtBefore (h .high) a end .rounds ≤ mostRounds (k .of)
+  high-few a end = sought-few (h .high) a end (subst (λ (x : Halves). nextIn (x .high) a .rounds ≤ mostRounds (k .of)) (sym (k .are)) (few (k .of) (k .sound) high a))
 
 -- the low half's search, as code has it
 module _ (h : Halves) (last a : ℕ) {end : ℕ} (ends : end ≡ min (h .«first_high») (last + 1)) {lower : Found} (is : lower ≡ soughtBefore (h .low) a end) where
@@ -99,11 +100,11 @@ may-go t c p n q = let o = or-false (eqb t c) (eqb p n) q in (eqb-false t c (o .
 
 -- ---- the step
 
--- a range that 17 does not refuse ends below 2 ^ 24
-pub last-short : (f : Factor) (first last : ℕ) → NoneHolds (engine .newFaults f first last) → last < 2 ^ 24
+-- a range that 17 does not refuse ends at a significand of the largest precision at most
+pub last-short : (f : Factor) (first last : ℕ) → NoneHolds (engine .newFaults f first last) → last < 2 ^ mostPrecision
 last-short f first last good =
     let n : ℕ = f .precision .bits in
-    omega (arith, in-range n first last (good .1 .0) .last-bits .most, pow-mono {i = n} {j = 24} (sound-of f (good .0) .most))
+    omega (arith, in-range n first last (good .1 .0) .last-bits .most, pow-mono {i = n} {j = mostPrecision} (sound-of f (good .0) .precision .most))
 
 -- the halves are the factor's, so the search ahead is the engine's
 pub ahead-in : (f : Factor) (last a : ℕ) → aheadIn (halvesOf f) last a ≡ ahead engine f last a
@@ -117,7 +118,7 @@ module _ {s : SweepState} {h : Halves} {cap size : ℕ} {w : Work} (k : Stepping
   pub step-sound : Sound (s .factor)
   step-sound = sound-of (s .factor) (k .sound .0)
 
-  pub step-last : s .last < 2 ^ 24
+  pub step-last : s .last < 2 ^ mostPrecision
   step-last = last-short (s .factor) (s .first) (s .last) (k .sound)
 
   -- the step, from what the search ahead found

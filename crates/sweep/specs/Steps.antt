@@ -14,6 +14,7 @@ use Rattle.factor.specs.SetUp.{Sound}
 use Rattle.suspects.specs.declared.Sought.{Sought}
 use Rattle.suspects.specs.declared.Halves.{Halves}
 use Rattle.suspects.specs.Next.{nextIn}
+use Rattle.factor.specs.Precision.{mostPrecision}
 use Rattle.calls.specs.Engine.{lowEnd}
 use Rattle.calls.specs.Call.{Result, conditions, within, orElse, highStart, ahead}
 use Rattle.sweep.specs.declared.SweepState.{SweepState}
@@ -96,7 +97,7 @@ resultIn w = record { trials = w .trials; rounds = w .rounds; place = w .place }
 pub record Room (w : Work) (X : ℕ) : Type 0 where
   pub tried : w .trials + 1 < 2 ^ 64
   pub placed : w .place + 1 < 2 ^ 64
-  pub found : X < 2 ^ 24
+  pub found : X < 2 ^ mostPrecision
 
 -- a step may be made: a new state over the factor and the range is not refused, the halves are those of the factor, and the counts fit
 pub record Stepping (s : SweepState) (h : Halves) (cap size : ℕ) (w : Work) : Type 0 where

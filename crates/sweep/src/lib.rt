@@ -11,6 +11,7 @@ ghost use Prim.Native.Nat.{_+_, _≤_, _<_, _^_, min, max};
 ghost use lib.ListN.{length};
 ghost use Rattle.search.specs.declared.Place.the-variants.{Nowhere};
 ghost use Rattle.factor.specs.Precision.{Kept};
+ghost use Rattle.wide.specs.Value.{halfWord};
 ghost use Rattle.suspects.specs.Next.{Askable};
 ghost use Rattle.marks.specs.AnswerLaws.{First};
 ghost use Rattle.calls.specs.Call.{newState, conditions, sweepCall};
@@ -173,7 +174,7 @@ fn cut(found: Found, end: u64) -> Found
 
 // The search in a half, from `at` on, where the half's part of the range ends before `end`: passed over if nothing is left of it.
 fn sought_before(s: Sought, at: u64, end: u64) -> Found
-    requires { ⌜ Askable s × (end ≤ 2 ^ 63) ⌝ }
+    requires { ⌜ Askable s × (end ≤ halfWord) ⌝ }
     ensures { λ r. ⌜ r ≡ soughtBefore s at end ⌝ }
 {
     if at < end {
@@ -204,7 +205,7 @@ fn larger(a: u64, b: u64) -> u64
 
 // The first suspect of the range from `at` on, low before high, with the rounds of the searches that lead to it.
 fn ahead(h: Halves, last: u64, at: u64) -> Found
-    requires { ⌜ Searchable h × (last < 2 ^ 63) ⌝ }
+    requires { ⌜ Searchable h × (last < halfWord) ⌝ }
     ensures { λ r. ⌜ r ≡ aheadIn h last at ⌝ }
 {
     let low = h.low;

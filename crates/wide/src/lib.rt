@@ -5,7 +5,7 @@ ghost use mathlib.Core.Bool.{false};
 ghost use Prim.Native.Nat.{_+_, _-_, _*_, _/_, _%_, _<_, _≤_, _^_};
 ghost use lib.Dec.{ltb, eqb};
 ghost use lib.Ieee.{size};
-ghost use Rattle.wide.specs.Value.{valueOf};
+ghost use Rattle.wide.specs.Value.{halfWord, valueOf};
 
 // The base of a digit of 32 bits, of which a word has two.
 const BASE: u64 = 4294967296;
@@ -208,7 +208,7 @@ pub fn digits(u: Wide) -> u32
 // One step of long division, high * 2 ^ 32 + low by d, for a divisor with its highest bit set:
 // the quotient is estimated by the divisor's upper digit and is at most 2 less.
 fn quotient_digit(high: u64, low: u64, d: u64) -> Divided
-    requires { ⌜ (2 ^ 63 ≤ d) × (high < d) × (low < 2 ^ 32) ⌝ }
+    requires { ⌜ (halfWord ≤ d) × (high < d) × (low < 2 ^ 32) ⌝ }
     ensures quotient { λ r. ⌜ r .quotient ≡ (high * 2 ^ 32 + low) / d ⌝ }
     ensures remainder { λ r. ⌜ r .remainder ≡ (high * 2 ^ 32 + low) % d ⌝ }
 {
@@ -238,7 +238,7 @@ fn quotient_digit(high: u64, low: u64, d: u64) -> Divided
 
 // u by d in two steps of long division, for a divisor with its highest bit set.
 fn divide_normal(u: Wide, d: u64) -> Divided
-    requires { ⌜ (2 ^ 63 ≤ d) × (u .hi < d) ⌝ }
+    requires { ⌜ (halfWord ≤ d) × (u .hi < d) ⌝ }
     ensures quotient { λ r. ⌜ r .quotient ≡ valueOf u / d ⌝ }
     ensures remainder { λ r. ⌜ r .remainder ≡ valueOf u % d ⌝ }
 {

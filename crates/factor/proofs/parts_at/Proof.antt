@@ -10,10 +10,11 @@ use mir.Syntax.{w64}
 use mir.Val.{toZ, ofZ}
 use mir.ValLaws.{toZ-ofZ}
 use borrow.Author.Needs.{needs}
+use Rattle.wide.specs.Value.{wordBits, halfWord}
 use Rattle.rounding.specs.Apart.{apart}
-use Rattle.rounding.specs.Grid.{toEven}
 use Rattle.rounding.specs.Signed.{signedOf}
 use Rattle.round.specs.declared.Neighbour.{Neighbour}
+use Rattle.factor.specs.Context.{Context, Fine, tieRule, contextAt, fine-at}
 use Rattle.factor.specs.Whole.{step, whole, partsFrom}
 use Rattle.factor.specs.LowForm.{size-of}
 use Rattle.factor.specs.PartsLaws.{high-most, rest-le, parts-from}
@@ -33,42 +34,41 @@ shl-rest-of : tie.Need-shl-rest-of
 shl-rest-of c = search needs
 
 module _ (a : tie.Start) where
-  abbrev n : ℕ
-  n = a .args .p .bits
+  abbrev K : Context
+  K = contextAt (a .args .p .bits)
+
+  open Context K using (n, E)
+
+  fine : Fine K
+  fine = fine-at (a .pre .0)
 
   -- the high significand
   abbrev h : ℕ
-  h = whole toEven n 62 (a .args .end) .high
-
-  some : 0 < n
-  some = omega (arith, a .pre .0)
-
-  wide-enough : 2 * n ≤ 62
-  wide-enough = omega (arith, a .pre .0)
+  h = whole K (a .args .end) .high
 
   -- Ch in the unit of the ends fits a word
-  fits : h * step n 62 < 2 ^ 64
+  fits : h * step K < 2 ^ 64
   fits =
-      let e : 63 ≡ n + (63 - n) = omega (arith, a .pre .0) in
-      let w : 2 ^ 63 ≡ 2 ^ n * 2 ^ (63 - n) = ap (λ (z : ℕ). 2 ^ z) e ∙ pow-add 2 n (63 - n) in
-      omega (arith, w, mul-le-mul-right (step n 62) (high-most toEven n 62 some wide-enough (a .args .end) (a .pre .1)))
+      let e : wordBits - 1 ≡ n + (E + 1 - n) = omega (arith, a .pre .0) in
+      let w : halfWord ≡ 2 ^ n * step K = ap (λ (z : ℕ). 2 ^ z) e ∙ pow-add 2 n (E + 1 - n) in
+      omega (arith, w, mul-le-mul-right (step K) (high-most K fine (a .args .end) (a .pre .1)))
 
-  left : apart (a .args .end) (h * step n 62) ≤ 2 ^ (62 - n)
-  left = rest-le toEven n 62 some wide-enough (a .args .end) (a .pre .1)
+  left : apart (a .args .end) (h * step K) ≤ 2 ^ (E - n)
+  left = rest-le K fine (a .args .end) (a .pre .1)
 
 high-is : (c : tie.After-nearest-word) → c .nearest-word .result .taken ≡ h (c .before .before)
-unfolding whole
-high-is c = ap (λ (m : Neighbour). m .taken) (c .nearest-word .ensures) ∙ ap (λ (z : ℕ). Rattle.rounding.specs.Grid.nearest toEven (c .before .before .args .end) (2 ^ z)) (c .before .step .ensures)
+unfolding whole tieRule
+high-is c = ap (λ (m : Neighbour). m .taken) (c .nearest-word .ensures) ∙ ap (λ (z : ℕ). Rattle.rounding.specs.Grid.nearest tieRule (c .before .before .args .end) (2 ^ z)) (c .before .step .ensures)
 
-shift-is : (c : tie.After-nearest-word) → c .nearest-word .result .taken * 2 ^ c .before .step .result % 2 ^ 64 ≡ h (c .before .before) * step (n (c .before .before)) 62
+shift-is : (c : tie.After-nearest-word) → c .nearest-word .result .taken * 2 ^ c .before .step .result % 2 ^ 64 ≡ h (c .before .before) * step (K (c .before .before))
 shift-is c =
     let a = c .before .before in
     ap₂ (λ (x y : ℕ). x * 2 ^ y % 2 ^ 64) (high-is c) (c .before .step .ensures) ∙ mod-eq-of-lt (fits a)
 
 rest-of-requires : tie.Need-rest-of-requires
-rest-of-requires c κs = let a = c .before .before in rw (shift-is c) (lt-of-le-of-lt (left a) (lt-of-le-of-lt (pow-mono {i = 62 - n a} {j = 62} (omega arith)) (omega arith)))
+rest-of-requires c κs = let a = c .before .before in rw (shift-is c) (lt-of-le-of-lt (left a) (lt-of-le-of-lt (pow-mono {i = K a .E - K a .n} {j = 60} (omega (arith, a .pre .0))) (omega arith)))
 
-rest-is : (c : tie.After-rest-of) → let a = c .before .before .before in toZ w64 (ofZ w64 (c .rest-of .result)) ≡ signedOf (ltb (a .args .end) (h a * step (n a) 62)) (apart (a .args .end) (h a * step (n a) 62))
+rest-is : (c : tie.After-rest-of) → let a = c .before .before .before in toZ w64 (ofZ w64 (c .rest-of .result)) ≡ signedOf (ltb (a .args .end) (h a * step (K a))) (apart (a .args .end) (h a * step (K a)))
 rest-is c =
     let a = c .before .before .before in
     toZ-ofZ w64 _ (record { sfits = c .rest-of .ok }) ∙ c .rest-of .ensures ∙ ap (λ (z : ℕ). signedOf (ltb (a .args .end) z) (apart (a .args .end) z)) (shift-is (c .before))
@@ -82,8 +82,8 @@ returns c =
     let s = c .before in
     let a = s .before .before .before in
     c .parts-from .ensures
-    ∙ ap₂ (λ (x : ℕ) (z : ℤ). partsFrom toEven (n a) 62 x z) (high-is (s .before)) (rest-is s)
-    ∙ sym (parts-from toEven (n a) 62 (some a) (wide-enough a) (a .args .end) (a .pre .1))
+    ∙ ap₂ (λ (x : ℕ) (z : ℤ). partsFrom (K a) x z) (high-is (s .before)) (rest-is s)
+    ∙ sym (parts-from (K a) (fine a) (a .args .end) (a .pre .1))
 
 pub parts-at-spec : {M : Type 1} → statement M
 parts-at-spec = tie.close (tie.spec step-requires nearest-word-requires cast-rest-of shl-rest-of rest-of-requires parts-from-requires returns)

@@ -1,4 +1,4 @@
--- `factor::rest_of` meets its contract: sign and size apart, as the high part reaches 2 ^ 63. Assumes nothing.
+-- `factor::rest_of` meets its contract: sign and size apart, as the high part may be past what a signed word holds. Assumes nothing.
 use mathlib.Core.Path.{_≡_, sym, ap₂, _∙_}
 use Prim.Native.Nat.{_-_}
 use native.Mathlib.Omega.{arith}

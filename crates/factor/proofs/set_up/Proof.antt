@@ -1,6 +1,6 @@
 -- `factor::set_up` meets its contract: each refusal under its condition, those before it not holding. Assumes nothing.
 use mathlib.Core.Path.{_≡_, sym, ap, ap₂, _∙_, subst}
-use mathlib.Core.Bool.{true, false, not}
+use mathlib.Core.Bool.{true, false, not, _||_}
 use mathlib.Core.List.{[], _∷_}
 use Prim.Native.Nat.{ℕ}
 use lib.Dec.{ltb}
@@ -10,13 +10,13 @@ use borrow.Author.Needs.{needs}
 use borrow.Author.Tests.{lt-ltb, le-ltb, eq-eqb, ne-eqb}
 use Rattle.marks.specs.Answers.{accepted}
 use Rattle.marks.specs.AnswerLaws.{pass, stop, end, refuses, accepts, only-accepted, only-refused, or-false}
-use Rattle.rounding.specs.Grid.{toEven}
 use Rattle.factor.specs.declared.Description.{Description}
 use Rattle.factor.specs.declared.Precision.{Precision}
 use Rattle.factor.specs.Precision.{Kept, precisionOut, precisionSays}
+use Rattle.factor.specs.Context.{Context, contextAt, contextFor, fine-at}
 use Rattle.factor.specs.Whole.{End}
 use Rattle.factor.specs.Parts.{partsAt}
-use Rattle.factor.specs.SetUp.{endOut, scaleOut, sameHigh, sameLow, partsOf, appliedOf, factorOf, setUp}
+use Rattle.factor.specs.SetUp.{endOut, scaleOut, sameHigh, sameLow, appliedOf, factorOf, setUp}
 use Rattle.factor.specs.SetUpLaws.{kept-in, end-in}
 use Rattle.factor.specs.Stored.{Storable, storable, appliedFrom, applied-from}
 use Rattle.factor.proofs.set_up.Statement.{statement}
@@ -34,9 +34,6 @@ enum-told c = search needs
 returns : tie.Need-returns
 unfolding setUp
 returns c = refuses (stop (only-refused 11 _ _ (sym (ap precisionSays (c .enum-told .given .1)) ∙ c .before .before .new .ensures))) _
-
-ends-out-requires : tie.Need-ends-out-requires
-ends-out-requires c κs = search needs
 
 -- ---- past the precision
 abbrev described : tie.After-known-told → Description
@@ -62,9 +59,16 @@ kept c = kept-in (described c .precision) (precision-in c)
 kept-made : (c : tie.After-known-told) → Kept (made c .bits)
 kept-made c = subst Kept (only c .1) (kept c)
 
+ends-out-requires : tie.Need-ends-out-requires
+ends-out-requires c κs = kept-made c
+
+-- the precision that was made is the description's, and so is its context
+ends-are : (c : tie.After-ends-out) → let d = described (c .before) in c .ends-out .result ≡ endOut (contextFor d) (d .lower) || endOut (contextFor d) (d .upper)
+ends-are c = let d = described (c .before) in c .ends-out .ensures ∙ ap (λ (n : ℕ). endOut (contextAt n) (d .lower) || endOut (contextAt n) (d .upper)) (bits-are (c .before))
+
 returns-2 : tie.Need-returns-2
 unfolding setUp
-returns-2 c = refuses (pass (precision-in (c .before .before)) (stop (sym (c .before .ends-out .ensures) ∙ c .if1 .taken))) _
+returns-2 c = refuses (pass (precision-in (c .before .before)) (stop (sym (ends-are (c .before)) ∙ c .if1 .taken))) _
 
 -- ---- past the ends
 module _ (c : tie.Else1) where
@@ -74,20 +78,23 @@ module _ (c : tie.Else1) where
   abbrev d : Description
   d = described first
 
-  ends-in : (c .before .ends-out .result) ≡ false
-  ends-in = c .if1 .left
+  abbrev K : Context
+  K = contextFor d
 
-  lower-in : End 62 (d .lower)
-  lower-in = end-in 62 (d .lower) (or-false (endOut 62 (d .lower)) (endOut 62 (d .upper)) (sym (c .before .ends-out .ensures) ∙ ends-in) .0)
+  ends-in : endOut K (d .lower) || endOut K (d .upper) ≡ false
+  ends-in = sym (ends-are (c .before)) ∙ c .if1 .left
 
-  upper-in : End 62 (d .upper)
-  upper-in = end-in 62 (d .upper) (or-false (endOut 62 (d .lower)) (endOut 62 (d .upper)) (sym (c .before .ends-out .ensures) ∙ ends-in) .1)
+  lower-in : End K (d .lower)
+  lower-in = end-in K (d .lower) (or-false (endOut K (d .lower)) (endOut K (d .upper)) ends-in .0)
+
+  upper-in : End K (d .upper)
+  upper-in = end-in K (d .upper) (or-false (endOut K (d .lower)) (endOut K (d .upper)) ends-in .1)
 
 returns-3 : tie.Need-returns-3
 unfolding setUp
 returns-3 c =
     let s = c .before .before in
-    refuses (pass (precision-in (first s)) (pass (sym (s .before .ends-out .ensures) ∙ ends-in s) (stop (lt-ltb _ _ (c .if2 .taken))))) _
+    refuses (pass (precision-in (first s)) (pass (ends-in s) (stop (lt-ltb _ _ (c .if2 .taken))))) _
 
 scale-out-requires : tie.Need-scale-out-requires
 scale-out-requires c κs = search needs
@@ -104,17 +111,17 @@ unfolding setUp
 returns-4 c =
     let o = c .before .before .before in
     let s = o .before .before in
-    refuses (pass (precision-in (first s)) (pass (sym (s .before .ends-out .ensures) ∙ ends-in s) (pass (le-ltb _ _ (o .if2 .left)) (stop (sym (scale-is (c .before)) ∙ c .if3 .taken))))) _
+    refuses (pass (precision-in (first s)) (pass (ends-in s) (pass (le-ltb _ _ (o .if2 .left)) (stop (sym (scale-is (c .before)) ∙ c .if3 .taken))))) _
 
 -- ---- past the scale: the parts are worked out
 abbrev ends : tie.Else3 → tie.Else1
 ends c = c .before .before .before .before .before
 
 parts-at-requires : tie.Need-parts-at-requires
-parts-at-requires c κs = (kept-made (first (ends c)), lower-in (ends c))
+parts-at-requires c κs = let s = ends c in (kept-made (first s), subst (λ (n : ℕ). End (contextAt n) (d s .lower)) (sym (bits-are (first s))) (lower-in s))
 
 parts-at-requires-2 : tie.Need-parts-at-requires-2
-parts-at-requires-2 c κs = (kept-made (first (ends (c .before))), upper-in (ends (c .before)))
+parts-at-requires-2 c κs = let s = ends (c .before) in (kept-made (first s), subst (λ (n : ℕ). End (contextAt n) (d s .upper)) (sym (bits-are (first s))) (upper-in s))
 
 module _ (c : tie.After-parts-at2) where
   abbrev past : tie.Else3
@@ -123,13 +130,11 @@ module _ (c : tie.After-parts-at2) where
   abbrev e : Description
   e = d (ends past)
 
-  lower-parts : c .before .parts-at .result ≡ partsOf e (e .lower)
-  unfolding partsOf
-  lower-parts = c .before .parts-at .ensures ∙ ap (λ (n : ℕ). partsAt toEven n 62 (e .lower)) (bits-are (first (ends past)))
+  lower-parts : c .before .parts-at .result ≡ partsAt (contextFor e) (e .lower)
+  lower-parts = c .before .parts-at .ensures ∙ ap (λ (n : ℕ). partsAt (contextAt n) (e .lower)) (bits-are (first (ends past)))
 
-  upper-parts : c .parts-at2 .result ≡ partsOf e (e .upper)
-  unfolding partsOf
-  upper-parts = c .parts-at2 .ensures ∙ ap (λ (n : ℕ). partsAt toEven n 62 (e .upper)) (bits-are (first (ends past)))
+  upper-parts : c .parts-at2 .result ≡ partsAt (contextFor e) (e .upper)
+  upper-parts = c .parts-at2 .ensures ∙ ap (λ (n : ℕ). partsAt (contextAt n) (e .upper)) (bits-are (first (ends past)))
 
   in-order : ltb (e .upper) (e .lower) ≡ false
   in-order = le-ltb _ _ (past .before .before .before .if2 .left)
@@ -137,24 +142,21 @@ module _ (c : tie.After-parts-at2) where
   scale-in : scaleOut (e .scale) ≡ false
   scale-in = sym (scale-is (past .before)) ∙ past .if3 .left
 
-  ends-good : (ends past) .before .ends-out .result ≡ false
-  ends-good = ends-in (ends past)
-
 -- Ch is the same or not, Cl is the same or not: the parts that were compared are those of the definition
 returns-5 : tie.Need-returns-5
 unfolding setUp
 returns-5 c =
     let w = c .before .before .before in
-    let other : not (sameHigh (partsOf (e w) (e w .lower)) (partsOf (e w) (e w .upper))) ≡ true = ap not (ap₂ sameHigh (sym (lower-parts w)) (sym (upper-parts w)) ∙ ne-eqb _ _ (c .if4 .taken)) in
-    refuses (pass (precision-in (first (ends (past w)))) (pass (sym (ends (past w) .before .ends-out .ensures) ∙ ends-good w) (pass (in-order w) (pass (scale-in w) (stop other))))) _
+    let other : not (sameHigh (partsAt (contextFor (e w)) (e w .lower)) (partsAt (contextFor (e w)) (e w .upper))) ≡ true = ap not (ap₂ sameHigh (sym (lower-parts w)) (sym (upper-parts w)) ∙ ne-eqb _ _ (c .if4 .taken)) in
+    refuses (pass (precision-in (first (ends (past w)))) (pass (ends-in (ends (past w))) (pass (in-order w) (pass (scale-in w) (stop other))))) _
 
 same-low-requires : tie.Need-same-low-requires
 same-low-requires c κs = search needs
 
-high-same : (c : tie.Else4) → let w = c .before .before .before in not (sameHigh (partsOf (e w) (e w .lower)) (partsOf (e w) (e w .upper))) ≡ false
+high-same : (c : tie.Else4) → let w = c .before .before .before in not (sameHigh (partsAt (contextFor (e w)) (e w .lower)) (partsAt (contextFor (e w)) (e w .upper))) ≡ false
 high-same c = let w = c .before .before .before in ap not (ap₂ sameHigh (sym (lower-parts w)) (sym (upper-parts w)) ∙ eq-eqb _ _ (c .if4 .left))
 
-low-is : (c : tie.After-same-low) → let w = c .before .before .before .before in not (c .same-low .result) ≡ not (sameLow (partsOf (e w) (e w .lower)) (partsOf (e w) (e w .upper)))
+low-is : (c : tie.After-same-low) → let w = c .before .before .before .before in not (c .same-low .result) ≡ not (sameLow (partsAt (contextFor (e w)) (e w .lower)) (partsAt (contextFor (e w)) (e w .upper)))
 low-is c = let w = c .before .before .before .before in ap not (c .same-low .ensures ∙ ap₂ sameLow (lower-parts w) (upper-parts w))
 
 returns-6 : tie.Need-returns-6
@@ -162,15 +164,14 @@ unfolding setUp
 returns-6 c =
     let l = c .before in
     let w = l .before .before .before .before in
-    refuses (pass (precision-in (first (ends (past w)))) (pass (sym (ends (past w) .before .ends-out .ensures) ∙ ends-good w) (pass (in-order w) (pass (scale-in w) (pass (high-same (l .before)) (stop (sym (low-is l) ∙ c .if5 .taken))))))) _
+    refuses (pass (precision-in (first (ends (past w)))) (pass (ends-in (ends (past w))) (pass (in-order w) (pass (scale-in w) (pass (high-same (l .before)) (stop (sym (low-is l) ∙ c .if5 .taken))))))) _
 
 stored-parts-requires : tie.Need-stored-parts-requires
-unfolding partsOf
 stored-parts-requires c κs =
     let w = c .before .before .before .before .before .before in
     let s = ends (past w) in
-    let held = subst (Storable (e w .precision)) (sym (lower-parts w)) (storable (e w .precision) (kept (first s)) (e w .lower) (lower-in s)) in
-    (kept-made (first s), subst (λ (n : ℕ). Storable n (w .before .parts-at .result)) (sym (bits-are (first s))) held)
+    let held = subst (Storable (K s)) (sym (lower-parts w)) (storable (K s) (fine-at (kept (first s))) (e w .lower) (lower-in s)) in
+    (kept-made (first s), subst (λ (n : ℕ). Storable (contextAt n) (w .before .parts-at .result)) (sym (bits-are (first s))) held)
 
 returns-7 : tie.Need-returns-7
 unfolding setUp
@@ -185,7 +186,7 @@ returns-7 c =
     ∙ ap₂ (appliedFrom (e w .precision)) (scale-read s) (lower-parts w)
     ∙ sym (applied-from (e w) (kept (first s)) (lower-in s)) in
     ap accepted (λ i. record { precision = record { bits = bits-are (first s) i }; lower = e w .lower; upper = e w .upper; parts = lower-parts w i; applied = stored i })
-    ∙ accepts (pass (precision-in (first s)) (pass (sym (s .before .ends-out .ensures) ∙ ends-good w) (pass (in-order w) (pass (scale-in w) (pass (high-same (l .before)) (pass (sym (low-is l) ∙ o .if5 .left) end)))))) (factorOf (e w))
+    ∙ accepts (pass (precision-in (first s)) (pass (ends-in s) (pass (in-order w) (pass (scale-in w) (pass (high-same (l .before)) (pass (sym (low-is l) ∙ o .if5 .left) end)))))) (factorOf (e w))
 
 pub set-up-spec : {M : Type 1} → statement M
 set-up-spec =

@@ -2,7 +2,7 @@
 use mathlib.Core.Path.{_≡_, sym, ap, ap₂, _∙_}
 use mathlib.Core.Bool.{Bool, true, false}
 use Prim.Native.Nat.{ℕ, _+_, _-_, _*_, _^_, _≤_, _<_}
-use native.Mathlib.Nat.{le-of-lt, mul-right-comm, mul-le-mul, le-of-mul-le-mul-right}
+use native.Mathlib.Nat.{le-of-lt, mul-right-comm, mul-le-mul, le-of-mul-le-mul-right, lt-of-lt-of-le}
 use native.Mathlib.Omega.{arith}
 use lib.IntN.{ℤ, pos}
 use lib.Pow.{pow-pos, pow-mono}
@@ -10,11 +10,12 @@ use lib.Signed.{ltZ}
 use mir.Syntax.{w64}
 use mir.Val.{toZ, ofZ}
 use borrow.Author.Needs.{needs}
-use Rattle.rounding.specs.Grid.{toEven}
 use Rattle.rounding.specs.Signed.{negative}
 use Rattle.round.proofs.Laws.{negative-is}
 use Rattle.wide.specs.declared.Wide.{Wide}
 use Rattle.wide.specs.Value.{valueOf}
+use Rattle.factor.specs.Context.{contextAt}
+use Rattle.factor.specs.Precision.{Kept, scaleOf}
 use Rattle.factor.specs.Whole.{step, plusOrMinus, wholeOf}
 use Rattle.product.specs.Units.{firstUnits, fusedUnits}
 use Rattle.product.specs.StepLaws.{high-le, first-lt, first-le}
@@ -27,7 +28,7 @@ high-word : (c : tie.After-struct-known) → c .before .args .parts .high * c .b
 high-word c =
     let a = c .before in
     let n = a .args .p .bits in
-    product-word n (a .args .parts .high) (a .args .x) (a .pre .0 .most) (high-le toEven n 62 (a .args .parts) (a .pre .1)) (le-of-lt (a .pre .2 .most))
+    product-word n (a .args .parts .high) (a .args .x) (a .pre .0) (high-le (contextAt n) (a .args .parts) (a .pre .1)) (le-of-lt (a .pre .2 .most))
 
 mul-from-word : tie.Need-mul-from-word
 mul-from-word c = record { fits = omega (arith, high-word c) }
@@ -39,33 +40,33 @@ step-requires : tie.Need-step-requires
 step-requires c κs = search needs
 
 -- and two words hold it shifted
-shifted-room : (m k n : ℕ) → m ≤ 2 ^ 48 → k ≡ 63 - n → (k < 128) × (m < 2 ^ (128 - k))
-shifted-room m k n h e = let t : 2 ^ 49 ≤ 2 ^ (128 - k) = pow-mono {i = 49} {j = 128 - k} (omega arith) in (omega arith, omega arith)
+shifted-room : (m k n : ℕ) → Kept n → m ≤ 2 ^ 48 → k ≡ scaleOf n + 1 - n → (k < 128) × (m < 2 ^ (128 - k))
+shifted-room m k n N h e = let t : 2 ^ 49 ≤ 2 ^ (128 - k) = pow-mono {i = 49} {j = 128 - k} (omega arith) in (omega arith, omega arith)
 
 shifted-left-requires : tie.Need-shifted-left-requires
 shifted-left-requires c κs =
     let w = c .before in
-    rw (w .from-word .ensures) (shifted-room (w .before .before .args .parts .high * w .before .before .args .x) (c .step .result) (w .before .before .args .p .bits) (high-word (w .before)) (c .step .ensures))
+    rw (w .from-word .ensures) (shifted-room (w .before .before .args .parts .high * w .before .before .args .x) (c .step .result) (w .before .before .args .p .bits) (w .before .before .pre .0) (high-word (w .before)) (c .step .ensures))
 
 from-word-requires-2 : tie.Need-from-word-requires-2
 from-word-requires-2 c κs = search needs
 
 -- the two terms
-shifted : (c : tie.After-shifted-left) → let a = c .before .before .before .before in valueOf (c .shifted-left .result) ≡ a .args .parts .high * a .args .x * step (a .args .p .bits) 62
+shifted : (c : tie.After-shifted-left) → let a = c .before .before .before .before in valueOf (c .shifted-left .result) ≡ a .args .parts .high * a .args .x * step (contextAt (a .args .p .bits))
 shifted c = c .shifted-left .ensures ∙ ap₂ (λ (m k : ℕ). m * 2 ^ k) (c .before .before .from-word .ensures) (c .before .step .ensures)
 
-first : (c : tie.After-from-word2) → let a = c .before .before .before .before .before in valueOf (c .from-word2 .result) ≡ firstUnits toEven (a .args .p .bits) (wholeOf 62 (a .args .parts)) (a .args .x)
+first : (c : tie.After-from-word2) → let a = c .before .before .before .before .before in valueOf (c .from-word2 .result) ≡ firstUnits (contextAt (a .args .p .bits)) (wholeOf (contextAt (a .args .p .bits)) (a .args .parts)) (a .args .x)
 first c = c .from-word2 .ensures ∙ c .before .before .before .before .before .pre .3
 
-high : (c : tie.After-shifted-left) → let a = c .before .before .before .before in valueOf (c .shifted-left .result) ≡ a .args .parts .high * step (a .args .p .bits) 62 * a .args .x
-high c = let a = c .before .before .before .before in shifted c ∙ mul-right-comm (a .args .parts .high) (a .args .x) (step (a .args .p .bits) 62)
+high : (c : tie.After-shifted-left) → let a = c .before .before .before .before in valueOf (c .shifted-left .result) ≡ a .args .parts .high * step (contextAt (a .args .p .bits)) * a .args .x
+high c = let a = c .before .before .before .before in shifted c ∙ mul-right-comm (a .args .parts .high) (a .args .x) (step (contextAt (a .args .p .bits)))
 
 difference-requires : tie.Need-difference-requires
 difference-requires c κs =
     let d = c .before .before .before in
     let l = d .before in
     let a = l .before .before .before .before in
-    rw (high l, first d) (first-le toEven (a .args .p .bits) 62 (a .args .parts) (a .pre .1) (a .args .x) (a .pre .2))
+    rw (high l, first d) (first-le (contextAt (a .args .p .bits)) (a .args .parts) (a .pre .1) (a .args .x) (a .pre .2))
 
 -- the low significand as it was read
 low-same : (c : tie.After-struct-known) → toZ w64 (ofZ w64 (c .before .args .parts .low)) ≡ c .before .args .parts .low
@@ -73,7 +74,7 @@ low-same c = search needs
 
 -- whichever sign was tested
 joined : (c : tie.After-from-word2) → let l = c .before in let a = l .before .before .before .before in (b : Bool) → ltZ (toZ w64 (ofZ w64 (a .args .parts .low))) (pos 0) ≡ b
-    → plusOrMinus b (valueOf (l .shifted-left .result)) (valueOf (c .from-word2 .result)) ≡ fusedUnits toEven (a .args .p .bits) 62 (wholeOf 62 (a .args .parts)) (a .args .x)
+    → plusOrMinus b (valueOf (l .shifted-left .result)) (valueOf (c .from-word2 .result)) ≡ fusedUnits (contextAt (a .args .p .bits)) (wholeOf (contextAt (a .args .p .bits)) (a .args .parts)) (a .args .x)
 unfolding fusedUnits
 joined c b e =
     let l = c .before in
@@ -85,15 +86,15 @@ returns : tie.Need-returns
 returns c = c .difference .ensures ∙ joined (c .before .before .before .before) true (c .before .if1 .taken)
 
 -- high words that leave room for a carry
-high-of-shifted : (m n : ℕ) (u : Wide) → m ≤ 2 ^ 48 → valueOf u ≡ m * step n 62 → u .hi ≤ 2 ^ 47
-high-of-shifted m n u h e =
-    let t : step n 62 ≤ 2 ^ 63 = pow-mono {i = 63 - n} {j = 63} (omega arith) in
+high-of-shifted : (m n : ℕ) (u : Wide) → Kept n → m ≤ 2 ^ 48 → valueOf u ≡ m * step (contextAt n) → u .hi ≤ 2 ^ 48
+high-of-shifted m n u N h e =
+    let t : step (contextAt n) ≤ 2 ^ 64 = pow-mono {i = contextAt n .E + 1 - n} {j = 64} (omega arith) in
     le-of-mul-le-mul-right {k = 2 ^ 64} (omega (arith, mul-le-mul h t)) (pow-pos 64)
 
-high-of-word : (v : Wide) → valueOf v < 2 ^ 62 → v .hi ≤ 0
+high-of-word : (v : Wide) → valueOf v < 2 ^ 64 → v .hi ≤ 0
 high-of-word v l = omega arith
 
-carry-room : (a b : ℕ) → a ≤ 2 ^ 47 → b ≤ 0 → a + b + 1 < 2 ^ 64
+carry-room : (a b : ℕ) → a ≤ 2 ^ 48 → b ≤ 0 → a + b + 1 < 2 ^ 64
 carry-room a b h l = omega arith
 
 sum-requires : tie.Need-sum-requires
@@ -102,8 +103,8 @@ sum-requires c κs =
     let l = d .before in
     let a = l .before .before .before .before in
     let n = a .args .p .bits in
-    let word : valueOf (d .from-word2 .result) < 2 ^ 62 = rw (first d) (first-lt toEven n 62 (a .args .parts) (a .pre .1) (a .args .x) (a .pre .2)) in
-    carry-room (l .shifted-left .result .hi) (d .from-word2 .result .hi) (high-of-shifted (a .args .parts .high * a .args .x) n (l .shifted-left .result) (high-word (l .before .before .before)) (shifted l))
+    let word : valueOf (d .from-word2 .result) < 2 ^ 64 = rw (first d) (lt-of-lt-of-le (first-lt (contextAt n) (a .args .parts) (a .pre .1) (a .args .x) (a .pre .2)) (pow-mono {i = scaleOf n} {j = 64} (omega (arith, a .pre .0)))) in
+    carry-room (l .shifted-left .result .hi) (d .from-word2 .result .hi) (high-of-shifted (a .args .parts .high * a .args .x) n (l .shifted-left .result) (a .pre .0) (high-word (l .before .before .before)) (shifted l))
     (high-of-word (d .from-word2 .result) word)
 
 returns-2 : tie.Need-returns-2

@@ -1,13 +1,12 @@
 -- `product::mark_of` meets its contract: the mark by whole numbers of the step of binade 0. Assumes nothing.
 use mathlib.Core.Path.{sym, ap, _∙_}
 use Prim.Native.Nat.{ℕ}
-use native.Mathlib.Nat.{lt-of-lt-of-le}
-use native.Mathlib.Omega.{arith}
-use lib.Pow.{pow-mono}
 use borrow.Author.Needs.{needs}
-use Rattle.rounding.specs.Grid.{toEven}
+use Rattle.factor.specs.Context.{contextOf, lowerOf, upperOf}
 use Rattle.product.specs.Units.{markUnits}
+use Rattle.product.specs.SoundLaws.{sound-fine}
 use Rattle.product.specs.MarkLaws.{mark-steps}
+use Rattle.product.proofs.Laws.{steps-word}
 use Rattle.product.proofs.mark_of.Statement.{statement}
 use Rattle.product.proofs.mark_of.Tie as tie
 
@@ -19,8 +18,8 @@ end-steps-requires-2 c κs = search needs
 
 steps-of-requires : tie.Need-steps-of-requires
 steps-of-requires c κs =
-    let a = c .before .before in
-    (lt-of-lt-of-le (a .pre .2 .most) (pow-mono {i = a .args .f .precision .bits} {j = 63} (omega (arith, a .pre .0 .most))), a .pre .3)
+    let a = c .before .before .before in
+    (a .pre .3, steps-word (a .args .f .precision .bits) (a .args .v .significand) (a .args .v .binade) (a .pre .0 .precision) (a .pre .2 .most) (a .pre .3))
 
 compared-requires : tie.Need-compared-requires
 compared-requires c κs = search needs
@@ -30,11 +29,11 @@ returns c =
     let marked = c .before in
     let upper = marked .before in
     let lower = upper .before in
-    let a = lower .before in
+    let a = lower .before .before in
     let f = a .args .f in
     c .compared .ensures
     ∙ ap (λ (z : ℕ). markUnits (lower .end-steps .result) (upper .end-steps2 .result) z) (marked .steps-of .ensures)
-    ∙ sym (mark-steps toEven (f .precision .bits) 62 (omega (arith, a .pre .0 .fewest)) (f .lower) (f .upper) (a .args .x) (a .args .v) (lower .end-steps .result) (upper .end-steps2 .result) (lower .end-steps .ensures) (upper .end-steps2 .ensures))
+    ∙ sym (mark-steps (contextOf f) (sound-fine f (a .pre .0) .some) (lowerOf f) (upperOf f) (a .args .x) (a .args .v) (lower .end-steps .result) (upper .end-steps2 .result) (lower .end-steps .ensures) (upper .end-steps2 .ensures))
 
 pub mark-of-spec : {M : Type 1} → statement M
 mark-of-spec = tie.close (tie.spec end-steps-requires end-steps-requires-2 steps-of-requires compared-requires returns)

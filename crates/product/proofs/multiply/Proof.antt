@@ -10,7 +10,7 @@ use Rattle.factor.specs.Precision.{significandOut}
 use Rattle.factor.specs.SetUp.{intact, Sound}
 use Rattle.factor.specs.SetUpLaws.{intact-sound}
 use Rattle.product.specs.declared.Product.{Product}
-use Rattle.product.specs.SoundLaws.{sound-precision, sound-product}
+use Rattle.product.specs.SoundLaws.{sound-product}
 use Rattle.product.specs.Answer.{marked, multiplied}
 use Rattle.product.specs.AnswerLaws.{significand-in}
 use Rattle.product.proofs.multiply.Statement.{statement}
@@ -31,7 +31,7 @@ sound : (c : tie.Else1) → Sound (c .before .before .args .f)
 sound c = intact-sound (c .before .before .args .f) (not-false _ (through c))
 
 significand-out-requires : tie.Need-significand-out-requires
-significand-out-requires c κs = sound-precision (c .before .before .before .args .f) (sound (c .before))
+significand-out-requires c κs = sound (c .before) .precision
 
 returns-2 : tie.Need-returns-2
 unfolding multiplied

@@ -1,14 +1,14 @@
 -- `product::product_of` meets its contract: a sound factor's parts are those of its lower end. Assumes nothing.
 use borrow.Author.Needs.{needs}
-use Rattle.product.specs.SoundLaws.{sound-precision, sound-parts}
+use Rattle.product.specs.SoundLaws.{sound-parts}
 use Rattle.product.proofs.product_of.Statement.{statement}
 use Rattle.product.proofs.product_of.Tie as tie
 
 first-units-requires : tie.Need-first-units-requires
 first-units-requires c κs =
-    let a = c .before in
+    let a = c .before .before in
     let f = a .args .f in
-    (sound-precision f (a .pre .0), sound-parts f (a .pre .0), a .pre .1)
+    (a .pre .0 .precision, sound-parts f (a .pre .0), a .pre .1)
 
 second-step-requires : tie.Need-second-step-requires
 second-step-requires c κs = search needs

@@ -1,10 +1,9 @@
 -- `product::second_step` meets its contract: a sound factor's parts are those of its lower end. Assumes nothing.
 use mathlib.Core.Path.{ap, _∙_}
-use native.Mathlib.Omega.{arith}
-use Rattle.rounding.specs.Grid.{toEven}
+use Rattle.factor.specs.Context.{contextOf}
 use Rattle.product.specs.Units.{roundedUnits}
 use Rattle.product.specs.StepLaws.{fused-from, product-rounds}
-use Rattle.product.specs.SoundLaws.{sound-precision, sound-parts}
+use Rattle.product.specs.SoundLaws.{sound-parts}
 use Rattle.product.proofs.second_step.Statement.{statement}
 use Rattle.product.proofs.second_step.Tie as tie
 
@@ -12,22 +11,22 @@ fused-units-requires : tie.Need-fused-units-requires
 fused-units-requires c κs =
     let a = c .before .before in
     let f = a .args .f in
-    (sound-precision f (a .pre .0), sound-parts f (a .pre .0), a .pre .1, a .pre .2)
+    (a .pre .0 .precision, sound-parts f (a .pre .0), a .pre .1, a .pre .2)
 
 rounded-units-requires : tie.Need-rounded-units-requires
 rounded-units-requires c κs =
     let a = c .before .before .before in
     let f = a .args .f in
     let s = a .pre .0 in
-    (omega (arith, s .fewest), omega (arith, s .most), rw (c .fused-units .ensures) (fused-from toEven (f .precision .bits) 62 (f .parts) (sound-parts f s) (a .args .x) (a .pre .1)))
+    (s .precision, rw (c .fused-units .ensures) (fused-from (contextOf f) (f .parts) (sound-parts f s) (a .args .x) (a .pre .1)))
 
 returns : tie.Need-returns
 returns c =
     let a = c .before .before .before .before in
     let f = a .args .f in
     c .rounded-units .ensures
-    ∙ ap (roundedUnits toEven (f .precision .bits) 62) (c .before .fused-units .ensures)
-    ∙ product-rounds toEven (f .precision .bits) 62 (f .parts) (sound-parts f (a .pre .0)) (a .args .x) (a .pre .1)
+    ∙ ap (roundedUnits (contextOf f)) (c .before .fused-units .ensures)
+    ∙ product-rounds (contextOf f) (f .parts) (sound-parts f (a .pre .0)) (a .args .x) (a .pre .1)
 
 pub second-step-spec : {M : Type 1} → statement M
 second-step-spec = tie.close (tie.spec fused-units-requires rounded-units-requires returns)

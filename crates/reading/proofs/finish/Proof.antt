@@ -17,7 +17,7 @@ use Rattle.floats.specs.Pattern.{significand-bits}
 use Rattle.product.specs.Marks.{markBy}
 use Rattle.reading.specs.Reading.{raised, finished}
 use Rattle.reading.specs.Exponents.{place-is, out-low, out-high, out-none}
-use Rattle.reading.specs.ReadingLaws.{number-is}
+use Rattle.reading.specs.ReadingLaws.{number-normalized, number-is}
 use Rattle.reading.proofs.finish.Statement.{statement}
 use Rattle.reading.proofs.finish.Tie as tie
 
@@ -65,8 +65,16 @@ is-minus-requires c κs = search needs
 cast-float-of : tie.Need-cast-float-of
 cast-float-of c = search needs
 
+-- 23 lets the exponent through
+within : (c : tie.Else2) → let p = c .before .before in (101 ≤ count p) × (count p ≤ 2 * emax binary32 + 100)
+within c = (omega (arith, c .before .if1 .left), omega (arith, c .if2 .left))
+
 float-of-requires : tie.Need-float-of-requires
-float-of-requires c κs = search needs
+float-of-requires c κs =
+    let high = c .before .before in
+    let p = high .before .before in
+    let s = a p .args in
+    number-normalized binary32 (signOf binary32 (s .bits)) (s .v) (raised (s .f) (s .bits)) (a p .pre .3) (count p) (place p) (within high .0) (within high .1)
 
 significand-of-requires : tie.Need-significand-of-requires
 significand-of-requires c κs = search needs
@@ -95,17 +103,14 @@ returns-3 c =
     let fl = x .before in
     let minus = fl .before .before in
     let high = minus .before in
-    let low = high .before in
-    let p = low .before in
+    let p = high .before .before in
     let s = a p .args in
-    let above : 101 ≤ count p = omega (arith, low .if1 .left) in
-    let under : count p ≤ 2 * emax binary32 + 100 = omega (arith, high .if2 .left) in
-    let y = number-is binary32 (signOf binary32 (s .bits)) (s .v) (raised (s .f) (s .bits)) (a p .pre .3) (count p) (place p) above under in
+    let y = number-is binary32 (signOf binary32 (s .bits)) (s .v) (raised (s .f) (s .bits)) (a p .pre .3) (count p) (place p) (within high .0) (within high .1) in
     c .answer .ensures
     ∙ ap₂ (λ (k : Mark) (y : Float). accepted (record { mark = k; value = y }))
     (m .mark-of .ensures ∙ ap (λ (x : ℕ). markBy (s .f) x (s .v)) (x .significand-of .ensures))
     (fl .float-of .ensures ∙ ap (λ (b : Bool). floatOf binary32 b (count p - 101) (s .v .significand)) (minus .is-minus .ensures) ∙ y)
-    ∙ accepts (pass (out-none binary32 (exponent p) (count p) (place p) above under) end) _
+    ∙ accepts (pass (out-none binary32 (exponent p) (count p) (place p) (within high .0) (within high .1)) end) _
 
 pub finish-spec : {M : Type 1} → statement M
 finish-spec =

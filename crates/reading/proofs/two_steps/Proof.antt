@@ -3,11 +3,8 @@ use mathlib.Core.Path.{sym, ap, _∙_, subst}
 use Prim.Native.Nat.{ℕ}
 use lib.Ieee.{binary32, prec}
 use borrow.Author.Needs.{needs}
-use Rattle.rounding.specs.Grid.{toEven}
 use Rattle.rounding.specs.RoundLaws.{HasBits}
 use Rattle.floats.specs.Pattern.{significand-bits}
-use Rattle.factor.specs.Whole.{wholeOf}
-use Rattle.product.specs.Units.{firstUnits}
 use Rattle.product.specs.Product.{productBy}
 use Rattle.reading.proofs.two_steps.Statement.{statement}
 use Rattle.reading.proofs.two_steps.Tie as tie
@@ -31,7 +28,7 @@ second-step-requires c κs =
     let a = x .before in (
       a .pre .0,
       subst (λ (n : ℕ). HasBits n (x .significand-of .result)) (sym (a .pre .1)) (in-range x),
-      c .first-step .ensures ∙ ap (λ (n : ℕ). firstUnits toEven n (wholeOf 62 (a .args .f .parts)) (x .significand-of .result)) (sym (a .pre .1)),
+      c .first-step .ensures,
     )
 
 returns : tie.Need-returns

@@ -8,6 +8,7 @@ use mir.Syntax.{w64}
 use mir.Val.{SFits, toZ, ofZ}
 use mir.ValLaws.{toZ-ofZ}
 use borrow.Author.Needs.{needs}
+use Rattle.wide.specs.Value.{halfWord}
 use Rattle.round.proofs.Laws.{neg-is, neg-fits, below-zero, not-below, up-one, size-fits}
 use Rattle.round.proofs.magnitude.Statement.{statement}
 use Rattle.round.proofs.magnitude.Tie as tie
@@ -17,7 +18,7 @@ pub record Below (z : ℤ) : Type 0 where
   pub m : ℕ
   pub is : toZ w64 (ofZ w64 z) ≡ negsuc m
   pub size : natAbs z ≡ m + 1
-  pub small : m < 2 ^ 63
+  pub small : m < halfWord
   pub up-fits : SFits w64 (negℤ (pos m))
 
 known : (c : tie.Then1) → Below (c .before .args .z)
@@ -26,7 +27,7 @@ known c =
     let k = toZ-ofZ w64 z (c .before .fits .z) in
     let b = below-zero z (rw k at (c .if1 .taken)) in
     let f : SFits w64 (negsuc (b .0)) = rw (b .1) at (c .before .fits .z) in
-    let small : b .0 < 2 ^ 63 = f .sfits in
+    let small : b .0 < halfWord = f .sfits in
     record { m = b .0; is = k ∙ b .1; size = ap natAbs (b .1) ∙ sym (add-one (b .0)); small = small; up-fits = neg-fits w64 (pos (b .0)) small }
 
 add-result : tie.Need-add-result

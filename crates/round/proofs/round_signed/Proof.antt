@@ -1,7 +1,7 @@
 -- `round::round_signed` meets its contract: sign and size apart. Assumes nothing.
 use mathlib.Core.Path.{_≡_, ap, _∙_}
 use mathlib.Core.Bool.{Bool}
-use Prim.Native.Nat.{ℕ, zero, suc, _^_, _<_}
+use Prim.Native.Nat.{ℕ, _-_, zero, suc, _^_, _<_}
 use native.Mathlib.Nat.{lt-of-lt-of-le}
 use native.Mathlib.Omega.{arith}
 use lib.IntN.{ℤ, pos, natAbs}
@@ -11,6 +11,7 @@ use mir.Syntax.{w32, w64}
 use mir.Val.{toZ, ofZ}
 use mir.ValLaws.{toZ-ofZ}
 use borrow.Author.Needs.{needs}
+use Rattle.wide.specs.Value.{wordBits, halfWord}
 use Rattle.rounding.specs.Grid.{Rule, ruleOf}
 use Rattle.rounding.specs.Round.{rounded}
 use Rattle.rounding.specs.RoundLaws.{rounded-bits}
@@ -25,11 +26,11 @@ magnitude-requires c κs = search needs
 round-word-requires : tie.Need-round-word-requires
 round-word-requires c κs = search needs
 
--- a significand of n bits, or zero, is below 2 ^ 63
-below : (rule : Rule) (n x : ℕ) → 0 < n → n < 64 → rounded rule n x 1 .significand < 2 ^ 63
+-- a significand of n bits, or zero, is one that a signed word holds
+below : (rule : Rule) (n x : ℕ) → 0 < n → n < 64 → rounded rule n x 1 .significand < halfWord
 unfolding rounded
 below rule n zero P h = omega arith
-below rule n (suc x) P h = lt-of-lt-of-le (rounded-bits rule n P (suc x) 1 (omega arith) (omega arith) .most) (pow-mono {i = n} {j = 63} (omega arith))
+below rule n (suc x) P h = lt-of-lt-of-le (rounded-bits rule n P (suc x) 1 (omega arith) (omega arith) .most) (pow-mono {i = n} {j = wordBits - 1} (omega arith))
 
 with-sign-requires : tie.Need-with-sign-requires
 with-sign-requires c κs =

@@ -11,7 +11,7 @@ use Rattle.rounding.specs.Grid.{ruleOf, location, choose, nearest}
 use Rattle.rounding.specs.Round.{normalised, rounded}
 use Rattle.rounding.specs.Whole.{rounded-many}
 use Rattle.wide.specs.declared.Wide.{Wide}
-use Rattle.wide.specs.Value.{valueOf}
+use Rattle.wide.specs.Value.{wordBits, halfWord, valueOf}
 use Rattle.round.proofs.Laws.{longer, kept-digits}
 use Rattle.round.proofs.round_wide.Statement.{statement}
 use Rattle.round.proofs.round_wide.Tie as tie
@@ -49,7 +49,7 @@ locate-wide-requires c κs =
     (shifted-right-requires d κs, rw (c .low-digits .ensures) (mod-lt (valueOf u) (pow-pos k)))
 
 -- the kept digits are one word, and below 2 ^ n
-one-word : (w : Wide) (b : ℕ) → valueOf w < b → b ≤ 2 ^ 63 → (w .lo ≡ valueOf w) × (w .lo + 1 < 2 ^ 64)
+one-word : (w : Wide) (b : ℕ) → valueOf w < b → b ≤ halfWord → (w .lo ≡ valueOf w) × (w .lo + 1 < 2 ^ 64)
 one-word w b h l = (omega arith, omega arith)
 
 kept-word : (c : tie.After-shifted-right) → (c .shifted-right .result .lo ≡ valueOf (c .shifted-right .result)) × (c .shifted-right .result .lo + 1 < 2 ^ 64)
@@ -57,7 +57,7 @@ kept-word c =
     let d = c .before in
     let a = d .before .before .args in
     let small : valueOf (c .shifted-right .result) < 2 ^ a .n = rw (c .shifted-right .ensures) (kept-digits (valueOf (a .u)) (d .digits .result) (a .n) (d .digits .ensures .0) (sub-k d)) in
-    one-word (c .shifted-right .result) (2 ^ a .n) small (pow-mono {i = a .n} {j = 63} (omega (arith, d .before .before .pre .1)))
+    one-word (c .shifted-right .result) (2 ^ a .n) small (pow-mono {i = a .n} {j = wordBits - 1} (omega (arith, d .before .before .pre .1)))
 
 choose-neighbour-requires : tie.Need-choose-neighbour-requires
 choose-neighbour-requires c κs = kept-word (c .before .before) .1

@@ -9,7 +9,7 @@ use Rattle.stream.proofs.begin.Statement.{statement}
 use Rattle.stream.proofs.begin.Tie as tie
 
 in-limits : (f : Factor) → intact f ≡ true → Kept (f .precision .bits)
-in-limits f e = let s = intact-sound f e in record { least = s .fewest; most = s .most }
+in-limits f e = intact-sound f e .precision
 
 least-requires : tie.Need-least-requires
 least-requires c κs = in-limits _ (c .before .pre)

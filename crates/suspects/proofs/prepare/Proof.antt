@@ -1,10 +1,22 @@
 -- `suspects::prepare` is what a search needs of a factor, field by field. Assumes nothing.
+use mathlib.Core.Path.{_≡_, ap, _∙_}
+use Prim.Native.Nat.{ℕ, _-_, _^_}
+use native.Mathlib.Omega.{arith}
 use borrow.Author.Needs.{needs}
+use Rattle.factor.specs.declared.Factor.{Factor}
+use Rattle.factor.specs.Context.{contextOf, lowerOf, upperOf}
+use Rattle.suspects.specs.Next.{soughtIn}
 use Rattle.suspects.proofs.prepare.Statement.{statement}
 use Rattle.suspects.proofs.prepare.Tie as tie
 
+low-dropped-requires : tie.Need-low-dropped-requires
+low-dropped-requires c κs = search needs
+
 sought-in-requires : tie.Need-sought-in-requires
 sought-in-requires c κs = search needs
+
+high-dropped-requires : tie.Need-high-dropped-requires
+high-dropped-requires c κs = search needs
 
 sought-in-requires-2 : tie.Need-sought-in-requires-2
 sought-in-requires-2 c κs = search needs
@@ -12,13 +24,20 @@ sought-in-requires-2 c κs = search needs
 first-high-requires : tie.Need-first-high-requires
 first-high-requires c κs = search needs
 
+-- half the distance of two midpoints, by the digits that are dropped
+half : (f : Factor) {d : ℕ} (e : ℕ) → d ≡ e → soughtIn (contextOf f) (lowerOf f) (upperOf f) (2 ^ d) ≡ soughtIn (contextOf f) (lowerOf f) (upperOf f) (2 ^ e)
+half f _ e = ap (λ (k : ℕ). soughtIn (contextOf f) (lowerOf f) (upperOf f) (2 ^ k)) e
+
 returns : tie.Need-returns
 returns c =
-    let low = c .before .before .sought-in .ensures in
-    let high = c .before .sought-in2 .ensures in
+    let upper = c .before in
+    let lower = upper .before .before in
+    let f = lower .before .before .before .args .f in
+    let low = lower .sought-in .ensures ∙ half f (contextOf f .E - 1) (omega (arith, lower .before .low-dropped .ensures)) in
+    let high = upper .sought-in2 .ensures ∙ half f (contextOf f .E) (omega (arith, upper .before .high-dropped .ensures)) in
     let first = c .first-high .ensures in
     λ i. record { low = low i; high = high i; «first_high» = first i }
 
 pub prepare-spec : {M : Type 1} → statement M
 prepare-spec =
-    tie.close (tie.spec sought-in-requires sought-in-requires-2 first-high-requires returns)
+    tie.close (tie.spec low-dropped-requires sought-in-requires high-dropped-requires sought-in-requires-2 first-high-requires returns)

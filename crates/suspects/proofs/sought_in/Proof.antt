@@ -1,12 +1,14 @@
 -- `suspects::sought_in` is what is sought in a half: with an accepted factor the window fits. Assumes nothing.
 use mathlib.Core.Path.{_≡_, ap, _∙_}
-use Prim.Native.Nat.{ℕ, _+_, _-_, _*_, _^_, _≤_, _<_}
+use Prim.Native.Nat.{ℕ, suc, _+_, _-_, _*_, _^_, _≤_, _<_}
+use native.Mathlib.Nat.{pow-succ'}
 use native.Mathlib.Omega.{arith}
 use lib.Pow.{pow-pos, pow-mono}
 use borrow.Author.Needs.{needs}
 use Rattle.factor.specs.declared.Factor.{Factor}
-use Rattle.factor.specs.Precision.{Kept}
+use Rattle.factor.specs.Context.{Context, contextOf, lowerOf, upperOf}
 use Rattle.factor.specs.SetUp.{Sound}
+use Rattle.wide.specs.Value.{wordBits, halfWord}
 use Rattle.suspects.specs.Suspects.{windowW, widening}
 use Rattle.suspects.specs.Next.{soughtNear}
 use Rattle.suspects.specs.Asked.{fits}
@@ -15,28 +17,27 @@ use Rattle.suspects.proofs.sought_in.Tie as tie
 
 -- with the powers as the calls ensure them
 module _ (f : Factor) (sound : Sound f) {power : ℕ} (is : power ≡ 2 ^ f .precision .bits) where
-  widened : (f .upper - f .lower) * power ≡ widening (f .precision .bits) (f .lower) (f .upper)
+  open Context (contextOf f) using (n, E)
+
+  widened : (f .upper - f .lower) * power ≡ widening (contextOf f) (lowerOf f) (upperOf f)
   widened = ap (λ (z : ℕ). (f .upper - f .lower) * z) is
 
-  window-fits : {window half d : ℕ} → window ≡ windowW (f .precision .bits) 62 → half ≡ 2 ^ (d - 1) → 62 ≤ d → d ≤ 63
-      → (0 < window) × (window + (f .upper - f .lower) * power ≤ half) × (half ≤ 2 ^ 62)
+  window-fits : {window half d : ℕ} → window ≡ windowW (contextOf f) → half ≡ 2 ^ (d - 1) → E ≤ d → d ≤ E + 1
+      → (0 < window) × (window + (f .upper - f .lower) * power ≤ half) × (2 * half ≤ halfWord)
   window-fits {d = d} w h low high = (
-    omega (arith, pow-pos (62 - f .precision .bits)),
-    omega (arith, fits f sound, widened, pow-mono {i = 61} {j = d - 1} (omega arith)),
-    omega (arith, pow-mono {i = d - 1} {j = 62} (omega arith)),
+    omega (arith, pow-pos (E - n)),
+    omega (arith, fits f sound, widened, pow-mono {i = E - 1} {j = d - 1} (omega arith)),
+    omega (arith, h, pow-succ' 2 (d - 1), pow-mono {i = suc (d - 1)} {j = wordBits - 1} (omega (arith, sound .precision))),
   )
 
-in-limits : (f : Factor) → Sound f → Kept (f .precision .bits)
-in-limits f sound = record { least = sound .fewest; most = sound .most }
-
 window-requires : tie.Need-window-requires
-window-requires c κs = in-limits _ (c .before .pre .0)
+window-requires c κs = search needs
 
 power-requires : tie.Need-power-requires
 power-requires c κs = omega (arith, c .window .ensures)
 
 -- W, as the calls ensure it
-window-is : (c : tie.After-power) → c .power .result ≡ windowW (c .before .before .before .args .f .precision .bits) 62
+window-is : (c : tie.After-power) → c .power .result ≡ windowW (contextOf (c .before .before .before .args .f))
 window-is c = c .power .ensures ∙ ap (λ (k : ℕ). 2 ^ k) (c .before .window .ensures)
 
 sub-widening : tie.Need-sub-widening
@@ -48,7 +49,7 @@ power-requires-2 c κs = search needs
 mul-widening : tie.Need-mul-widening
 mul-widening c =
     let start = c .before .before .before .before .before in
-    omega (arith, fits (start .args .f) (start .pre .0), widened (start .args .f) (start .pre .0) (c .power2 .ensures))
+    omega (arith, rw (start .pre .0 .precision .scale) at (fits (start .args .f) (start .pre .0)), widened (start .args .f) (start .pre .0) (c .power2 .ensures))
 
 sub-power : tie.Need-sub-power
 sub-power c = search needs

@@ -3,6 +3,7 @@ use Prim.Native.Nat.{_+_, _≤_}
 use native.Mathlib.Omega.{arith}
 use borrow.Author.Needs.{needs}
 use Rattle.sweep.specs.StepLaws.{low-asks, high-asks, low-few, high-few, ahead-low, ahead-high}
+use Rattle.sweep.specs.Engine.{mostRounds}
 use Rattle.sweep.proofs.ahead.Statement.{statement}
 use Rattle.sweep.proofs.ahead.Tie as tie
 
@@ -41,8 +42,8 @@ add-t13 c =
     let first = none .before .before in
     let start = first .before .before .before in
     let k = start .pre .0 in
-    let low : first .sought-before .result .rounds ≤ 64 = rw (first .sought-before .ensures) (low-few k (start .args .at) (first .before .smaller .result)) in
-    let high : second .sought-before2 .result .rounds ≤ 64 = rw (second .sought-before2 .ensures) (high-few k (second .before .larger .result) (start .args .last + 1)) in
+    let low : first .sought-before .result .rounds ≤ mostRounds (k .of) = rw (first .sought-before .ensures) (low-few k (start .args .at) (first .before .smaller .result)) in
+    let high : second .sought-before2 .result .rounds ≤ mostRounds (k .of) = rw (second .sought-before2 .ensures) (high-few k (second .before .larger .result) (start .args .last + 1)) in
     omega arith
 
 returns : tie.Need-returns

@@ -4,7 +4,6 @@ use mathlib.Core.Bool.{false, not}
 use borrow.Author.Needs.{needs}
 use Rattle.marks.specs.AnswerLaws.{pass, stop, end, refuses, accepts}
 use Rattle.factor.specs.SetUp.{intact}
-use Rattle.product.specs.SoundLaws.{sound-precision}
 use Rattle.calls.specs.State.{fresh}
 use Rattle.sweep.specs.EngineLaws.{sound-of}
 use Rattle.sweep.proofs.new_state.Statement.{statement}
@@ -21,7 +20,7 @@ let-through : (c : tie.Else1) → not (intact (c .before .before .args .f)) ≡ 
 let-through c = ap not (sym (c .before .is-intact .ensures)) ∙ c .if1 .left
 
 range-out-requires : tie.Need-range-out-requires
-range-out-requires c κs = let f = c .before .before .before .args .f in sound-precision f (sound-of f (let-through (c .before)))
+range-out-requires c κs = let f = c .before .before .before .args .f in sound-of f (let-through (c .before)) .precision
 
 returns-2 : tie.Need-returns-2
 returns-2 c =

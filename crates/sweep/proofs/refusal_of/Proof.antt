@@ -5,7 +5,6 @@ use borrow.Author.Needs.{needs}
 use borrow.Author.Tests.{eq-eqb, ne-eqb, le-leb, lt-leb}
 use Rattle.marks.specs.AnswerLaws.{pass, stop, end}
 use Rattle.factor.specs.SetUp.{intact}
-use Rattle.product.specs.SoundLaws.{sound-precision}
 use Rattle.sweep.specs.Engine.{stateOut}
 use Rattle.sweep.specs.EngineLaws.{sound-of}
 use Rattle.sweep.specs.Answers.{viewOf}
@@ -23,7 +22,7 @@ let-through : (c : tie.Else1) → not (intact (c .before .before .before .args .
 let-through c = ap not (sym (c .before .is-intact .ensures)) ∙ c .if1 .left
 
 state-out-requires : tie.Need-state-out-requires
-state-out-requires c κs = let f = c .before .before .before .args .s .factor in sound-precision f (sound-of f (let-through c))
+state-out-requires c κs = let f = c .before .before .before .args .s .factor in sound-of f (let-through c) .precision
 
 returns-2 : tie.Need-returns-2
 returns-2 c = pass (let-through (c .before .before)) (stop (sym (c .before .state-out .ensures) ∙ c .if2 .taken))

@@ -3,6 +3,7 @@ use Prim.Native.Nat.{ℕ, _+_, _*_, _/_, _%_, _^_, _≤_, _<_}
 use native.Mathlib.Nat.{lt-trans, lt-of-le-of-lt, le-add-right}
 use native.Mathlib.Omega.{arith}
 use borrow.Author.Needs.{needs}
+use Rattle.wide.specs.Value.{halfWord}
 use Rattle.wide.specs.Division.{Estimate}
 use Rattle.wide.specs.DivisionLaws.{estimated, taken-fits, estimate-right, at-least-one, one-too-large, at-least-two, twice-enough, two-too-large}
 use Rattle.wide.proofs.Base.{B}
@@ -10,7 +11,7 @@ use Rattle.wide.proofs.quotient_digit.Statement.{statement}
 use Rattle.wide.proofs.quotient_digit.Tie as tie
 
 -- a divisor with its highest digit set has an upper part of at least half the base
-half : (d : ℕ) → 2 ^ 63 ≤ d → B ≤ 2 * (d / B)
+half : (d : ℕ) → halfWord ≤ d → B ≤ 2 * (d / B)
 half d top = omega arith
 
 module _ (c : tie.Start) where

@@ -1,0 +1,20 @@
+-- The unit in the last place of a fraction to n bits, as source documents 000 and 003 have it: ulp(v) = 2 ^ (e - n + 1) where 2 ^ e ≤ v < 2 ^ (e + 1). Definitions only. Assumes nothing.
+use Prim.Native.Nat.{ℕ, _+_, _-_, _*_, _^_}
+use lib.IntN.{ℤ, pos, _-ℤ_}
+use lib.Ieee.{size, minus}
+use lib.Ieee.Order.{drop}
+use Rattle.rounding.specs.Fraction.{Fraction, over, power, times, Below, AtMost}
+
+-- 2 ^ e ≤ v < 2 ^ (e + 1)
+pub record InBinade (e : ℤ) (v : Fraction) : Type 0 where
+  pub from : AtMost (power e) v
+  pub to : Below v (times (over 2 0) (power e))
+
+-- The e with 2 ^ e ≤ v < 2 ^ (e + 1), of a positive v: in the unit 2 ^ - t, in which v is at least 1, e + t digits follow its leading one.
+unfoldable pub binadeOf : Fraction → ℤ
+binadeOf v = let t = 1 + size (v .den) in minus (drop 1 (v .num * 2 ^ t) (v .den)) t
+
+-- ulp(v) = 2 ^ (e - n + 1) for that e, with n > 0
+unfoldable pub ulp : (n : ℕ) → Fraction → Fraction
+unfolding binadeOf
+ulp n v = power (binadeOf v -ℤ pos (n - 1))
