@@ -7,9 +7,10 @@ use lib.Dec.{eqb, ltb, leb}
 use lib.IntN.{ℤ, pos, negsuc}
 use lib.Signed.{ltZ}
 use lib.Ieee
-use lib.Ieee.{Float, binary32, toBits}
+use lib.Ieee.{Float, Format, binary32, toBits}
 use Rattle.marks.specs.Answers.{Outcome, refused, accepted, answer}
 use Rattle.rounding.specs.Fraction.{Fraction}
+use Rattle.floats.specs.Fields.{sameFloat}
 use Rattle.factor.specs.declared.Description.{Description}
 use Rattle.factor.specs.declared.Parts.{Parts}
 use Rattle.factor.specs.declared.Applied.{Applied}
@@ -45,14 +46,14 @@ abbrev pub sameLow : Parts → Parts → Bool
 sameLow p q = sameZ (p .low) (q .low) && eqb (p .places) (q .places)
 
 -- ---- the factor that is set up
--- the binary32 number of a fraction's value (which is exact for the parts: `stored-high` and `stored-low`)
-abbrev pub float32 : Fraction → Float
-float32 x = Ieee.round binary32 (x .minus) (x .num) (x .den)
+-- the float of a fraction's value (which is exact for the parts: `stored-high` and `stored-low`)
+abbrev pub floatIn : Format → Fraction → Float
+floatIn f x = Ieee.round f (x .minus) (x .num) (x .den)
 
 -- what a handheld applies: the parts at the lower end, which are those of the upper end too
 unfoldable pub appliedOf : Description → Applied
 unfolding Ieee.round
-appliedOf d = record { high = float32 (highPart (contextFor d) (d .lower)); low = float32 (lowPart (contextFor d) (d .lower)); scale = d .scale }
+appliedOf d = record { high = floatIn binary32 (highPart (contextFor d) (d .lower)); low = floatIn binary32 (lowPart (contextFor d) (d .lower)); scale = d .scale }
 
 -- the factor: precision, both ends, the parts, and what a handheld applies
 abbrev pub factorOf : Description → Factor
@@ -81,12 +82,8 @@ outcomeOf (Accepted f) = accepted f
 outcomeOf (Refused k) = refused k
 
 -- ---- the check behind 31
--- floats are compared bit for bit
-abbrev pub sameFloat : Float → Float → Bool
-sameFloat x y = eqb (toBits binary32 x) (toBits binary32 y)
-
 abbrev pub sameApplied : Applied → Applied → Bool
-sameApplied a b = sameFloat (a .high) (b .high) && (sameFloat (a .low) (b .low) && sameZ (a .scale) (b .scale))
+sameApplied a b = sameFloat binary32 (a .high) (b .high) && (sameFloat binary32 (a .low) (b .low) && sameZ (a .scale) (b .scale))
 
 -- the stored parts of two factors with the same precision and ends
 abbrev pub sameFactor : Factor → Factor → Bool

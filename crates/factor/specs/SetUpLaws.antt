@@ -8,6 +8,7 @@ use lib.Ieee.{binary32, toBits}
 use borrow.Author.Tests.{ltb-false, leb-false, eqb-true, eq-eqb, not-false}
 use Rattle.marks.specs.Answers.{NoneHolds, Outcome, refused, accepted}
 use Rattle.marks.specs.AnswerLaws.{only-accepted, or-false, and-true}
+use Rattle.floats.specs.Fields.{sameFloat}
 use Rattle.factor.specs.declared.Description.{Description}
 use Rattle.factor.specs.declared.Parts.{Parts}
 use Rattle.factor.specs.declared.Factor.{Factor}
@@ -15,7 +16,7 @@ use Rattle.factor.specs.Precision.{leastPrecision, mostPrecision, Kept, 
 use Rattle.factor.specs.Context.{Context, contextFor}
 use Rattle.factor.specs.Parts.{partsAt}
 use Rattle.factor.specs.Whole.{End}
-use Rattle.factor.specs.SetUp.{endOut, sameHigh, sameZ, sameLow, appliedOf, factorOf, conditions, setUp, sameFloat, sameFactor, given, described, intact, Sound}
+use Rattle.factor.specs.SetUp.{endOut, sameHigh, sameZ, sameLow, appliedOf, factorOf, conditions, setUp, sameFactor, given, described, intact, Sound}
 
 -- ---- tests
 pub sameZ-true : (x y : ℤ) → sameZ x y ≡ true → x ≡ y
@@ -88,8 +89,8 @@ module _ (f : Factor) (e : intact f ≡ true) where
       let s = setUp-sound (described f) g (intact-accepted .0) .1 in
       let h = and-true (sameHigh (f .parts) (g .parts)) _ (intact-accepted .1) in
       let l = and-true (sameLow (f .parts) (g .parts)) _ (h .1) in
-      let x = and-true (sameFloat (f .applied .high) (g .applied .high)) _ (l .1) in
-      let y = and-true (sameFloat (f .applied .low) (g .applied .low)) _ (x .1) in
+      let x = and-true (sameFloat binary32 (f .applied .high) (g .applied .high)) _ (l .1) in
+      let y = and-true (sameFloat binary32 (f .applied .low) (g .applied .low)) _ (x .1) in
       record {
         precision = s .precision;
         lower-end = s .lower-end;

@@ -1,41 +1,49 @@
--- The parts as binary32 numbers: those that are stored have exactly the values Ch and Cl. Assumes nothing.
-use mathlib.Core.Path.{_≡_, sym, ap, _∙_, subst}
+-- The parts as floats: those that are stored have exactly the values Ch and Cl. Over a format and a context. Assumes nothing.
+use mathlib.Core.Path.{_≡_, refl, sym, ap, _∙_, subst}
 use mathlib.Core.Bool.{Bool, false, not}
 use Prim.Native.Nat.{ℕ, suc, _+_, _-_, _*_, _^_, _≤_, _<_}
-use native.Mathlib.Nat.{mul-le-mul-right, mul-le-mul, le-of-lt, lt-of-not-le, lt-of-le-of-lt, eq-of-mul-eq-mul-right}
+use native.Mathlib.Nat.{le-of-lt, lt-of-not-le, eq-of-mul-eq-mul-right}
 use native.Mathlib.Decide.{decLe}
 use native.Mathlib.Omega.{arith}
-use lib.Dec.{T, lit<}
+use lib.Dec.{T}
 use lib.IntN.{ℤ, pos, natAbs}
-use lib.Pow.{pow-add, pow-pos, pow-mono}
+use lib.Pow.{pow-pos}
 use lib.Ieee
-use lib.Ieee.{binary32, isNan}
+use lib.Ieee.{Float, Format, binary32, prec, emax, isNan}
 use lib.Ieee.Exact.{HasValue}
 use lib.Ieee.Scale.{round-same}
 use Rattle.marks.specs.Answers.{accepted}
 use Rattle.rounding.specs.Apart.{apart}
-use Rattle.rounding.specs.Ieee.{round-itself}
+use Rattle.rounding.specs.Fraction.{Fraction}
+use Rattle.rounding.specs.Ieee.{revalue}
 use Rattle.rounding.specs.RoundLaws.{HasBits}
 use Rattle.rounding.specs.Signed.{negative, signedOf}
+use Rattle.floats.specs.Numbers.{value-number}
+use Rattle.floats.specs.Narrow.{stored-exactly}
 use Rattle.factor.specs.declared.Parts.{Parts}
 use Rattle.factor.specs.declared.Applied.{Applied}
+use Rattle.factor.specs.declared.Factor.{Factor}
+use Rattle.factor.specs.declared.Description.{Description}
 use Rattle.factor.specs.Precision.{Kept}
-use Rattle.factor.specs.Context.{Context, Fine, contextFor, fine-at}
+use Rattle.factor.specs.Context.{Context, Fine, contextAt, contextFor, fine-at}
 use Rattle.factor.specs.Parts.{highPart, lowPart, partsAt}
 use Rattle.factor.specs.Whole.{End, whole, step}
 use Rattle.factor.specs.LowForm.{Tells}
 use Rattle.factor.specs.PartsLaws.{bottom-is, high-counts, high-is, high-least, high-most, low-counts, low-kept, low-tells, whole-of-parts}
-use Rattle.factor.specs.declared.Factor.{Factor}
-use Rattle.factor.specs.declared.Description.{Description}
-use Rattle.factor.specs.SetUp.{float32, appliedOf, setUp}
+use Rattle.factor.specs.SetUp.{floatIn, appliedOf, setUp}
 use Rattle.factor.specs.SetUpLaws.{setUp-sound}
-use Rattle.rounding.specs.Binary32.{value-number}
 
--- ---- what is stored, from the parts that are kept
+-- ---- the floats of the parts that are kept, and what is stored
+abbrev pub highFrom : Format → (n : ℕ) → Parts → Float
+highFrom f n p = Ieee.round f false (p .high) (2 ^ (n - 1))
+
+abbrev pub lowFrom : Format → Parts → Float
+lowFrom f p = Ieee.round f (negative (p .low)) (natAbs (p .low)) (2 ^ p .places)
+
 abbrev pub appliedFrom : (n : ℕ) → ℤ → Parts → Applied
-appliedFrom n k p = record { high = Ieee.round binary32 false (p .high) (2 ^ (n - 1)); low = Ieee.round binary32 (negative (p .low)) (natAbs (p .low)) (2 ^ p .places); scale = k }
+appliedFrom n k p = record { high = highFrom binary32 n p; low = lowFrom binary32 p; scale = k }
 
--- parts that a binary32 number holds: the low significand zero, or of n bits
+-- parts that floats hold: the low significand zero, or of n bits
 pub record LowStorable (K : Context) (low : ℤ) (places : ℕ) : Type 0 where
   pub none : natAbs low ≡ 0 → (low ≡ pos 0) × (places ≡ 0)
   pub some : 0 < natAbs low → HasBits (K .n) (natAbs low)
@@ -97,104 +105,77 @@ module _ (K : Context) (ok : Fine K) (c : ℕ) (ce : End K c) where
             low = record { none = λ e. absurd (omega (arith, b .0 .least, pow-pos (n - 1))); some = λ _. b .0; deep = λ _. omega (arith, b .1); shallow = b .2 };
           }
 
--- ---- a number of at most n bits is a binary32 number: m * 2 ^ (24 - n) has 24 bits at most
-module _ (n : ℕ) (N : n ≤ 24) where
-  pub widened-most : (m : ℕ) → m ≤ 2 ^ n → m * 2 ^ (24 - n) ≤ 2 ^ 24
-  widened-most m h =
-      let e : 24 ≡ n + (24 - n) = omega arith in
-      let w : 2 ^ 24 ≡ 2 ^ n * 2 ^ (24 - n) = ap (λ (z : ℕ). 2 ^ z) e ∙ pow-add 2 n (24 - n) in
-      omega (arith, mul-le-mul-right (2 ^ (24 - n)) h, w)
+-- ---- in a format that has the digits, and exponents for the scale
+pub record Held (f : Format) (K : Context) : Type 0 where
+  pub short : K .n ≤ prec f
+  pub near : K .E < emax f
 
-  pub widened-least : (m : ℕ) → 0 < n → 2 ^ (n - 1) ≤ m → 2 ^ 23 ≤ m * 2 ^ (24 - n)
-  widened-least m p h =
-      let e : 23 ≡ (n - 1) + (24 - n) = omega arith in
-      let w : 2 ^ 23 ≡ 2 ^ (n - 1) * 2 ^ (24 - n) = ap (λ (z : ℕ). 2 ^ z) e ∙ pow-add 2 (n - 1) (24 - n) in
-      omega (arith, mul-le-mul-right (2 ^ (24 - n)) h, w)
+pub kept-held : {n : ℕ} → Kept n → Held binary32 (contextAt n)
+kept-held N = record { short = N .most; near = omega (arith, N .scale) }
 
-  -- m / 2 ^ q in units of 2 ^ - 149
-  pub in-units : (m q : ℕ) → q ≤ 125 + n → m * 2 ^ 149 ≡ m * 2 ^ (24 - n) * 2 ^ (125 + n - q) * 2 ^ q
-  in-units m q h =
-      let e : 149 ≡ (24 - n) + ((125 + n - q) + q) = omega arith in
-      let w : 2 ^ 149 ≡ 2 ^ (24 - n) * (2 ^ (125 + n - q) * 2 ^ q) = ap (λ (z : ℕ). 2 ^ z) e ∙ pow-add 2 (24 - n) ((125 + n - q) + q) ∙ ap (λ (z : ℕ). 2 ^ (24 - n) * z) (pow-add 2 (125 + n - q) q) in
-      ap (λ (z : ℕ). m * z) w ∙ regroup m (2 ^ (24 - n)) (2 ^ (125 + n - q)) (2 ^ q)
-    where
-      regroup : (a b c d : ℕ) → a * (b * (c * d)) ≡ a * b * c * d
-      regroup a b c d = omega arith
-
-  -- so it is stored exactly
-  pub stored-exactly : (s : Bool) (a c m q : ℕ) → 0 < c → m ≤ 2 ^ n → n ≤ suc q → q ≤ 125 + n → a * 2 ^ q ≡ m * c → HasValue (Ieee.round binary32 s a c) s a c
-  stored-exactly s a c m q C small lo hi e =
-      round-itself binary32 s a c (m * 2 ^ (24 - n)) (125 + n - q) C (widened-most m small)
-      (eq-of-mul-eq-mul-right (2 ^ q) (pow-pos q) (a * 2 ^ 149) (m * 2 ^ (24 - n) * 2 ^ (125 + n - q) * c) (regroup a c m (2 ^ q) (2 ^ 149) (m * 2 ^ (24 - n) * 2 ^ (125 + n - q)) e (in-units m q hi)))
-      (lt-of-le-of-lt (mul-le-mul (widened-most m small) (pow-mono {i = 125 + n - q} {j = 126} (omega arith))) (lit< tt))
-    where
-      regroup : (a c m Q T M : ℕ) → a * Q ≡ m * c → m * T ≡ M * Q → a * T * Q ≡ M * c * Q
-      regroup a c m Q T M x y = omega (arith, ap (λ (z : ℕ). z * T) x, ap (λ (z : ℕ). z * c) y)
-
-  -- and it is the float that is put together from its bits
-  pub in-floats : (s : Bool) (m q : ℕ) → q ≤ 125 + n → Ieee.round binary32 s (m * 2 ^ (24 - n) * 2 ^ (125 + n - q)) (2 ^ 149) ≡ Ieee.round binary32 s m (2 ^ q)
-  in-floats s m q h = round-same binary32 s (m * 2 ^ (24 - n) * 2 ^ (125 + n - q)) (2 ^ 149) m (2 ^ q) (pow-pos 149) (pow-pos q) (sym (in-units m q h))
-
--- ---- what is stored of a description
-module _ (d : Description) (N : Kept (d .precision)) (ce : End (contextFor d) (d .lower)) where
-  abbrev K : Context
-  K = contextFor d
-
+module _ (f : Format) (K : Context) (ok : Fine K) (held : Held f K) where
   open Context K using (n)
 
-  abbrev c : ℕ
-  c = d .lower
+  -- the floats have the values of the kept parts
+  module _ (p : Parts) (st : Storable K p) where
+    high-held : HasValue (highFrom f n p) false (p .high) (2 ^ (n - 1))
+    high-held = stored-exactly f n (ok .some) (held .short) false (p .high) (2 ^ (n - 1)) (p .high) (n - 1) (pow-pos (n - 1)) (st .most) (omega arith) (omega (arith, held .near)) refl
 
-  ok : Fine K
-  ok = fine-at N
+    pub low-held : HasValue (lowFrom f p) (negative (p .low)) (natAbs (p .low)) (2 ^ p .places)
+    low-held = go (decLe (natAbs (p .low)) 0)
+      where
+        go : Dec (natAbs (p .low) ≤ 0) → HasValue (lowFrom f p) (negative (p .low)) (natAbs (p .low)) (2 ^ p .places)
+        go (yes y) =
+            let none : natAbs (p .low) ≡ 0 = omega arith in
+            stored-exactly f n (ok .some) (held .short) (negative (p .low)) (natAbs (p .low)) (2 ^ p .places) 0 n (pow-pos (p .places)) (omega arith) (omega arith) (omega (arith, ok .some, ok .room, held .near)) (omega (arith, ap (λ (m : ℕ). m * 2 ^ n) none))
+        go (no y) =
+            let some = lt-of-not-le y in
+            stored-exactly f n (ok .some) (held .short) (negative (p .low)) (natAbs (p .low)) (2 ^ p .places) (natAbs (p .low)) (p .places) (pow-pos (p .places)) (le-of-lt (st .low .some some .most)) (st .low .deep some) (omega (arith, st .low .shallow, held .near)) refl
 
-  -- the floats are those of the kept parts
-  pub applied-from : appliedOf d ≡ appliedFrom n (d .scale) (partsAt K c)
-  unfolding appliedOf
-  applied-from =
-      let p = partsAt K c in
-      let h = highPart K c in
-      let l = lowPart K c in
-      let hc = high-counts K ok c ce in
-      let lc = low-counts K ok c ce in
-      let high : float32 h ≡ Ieee.round binary32 false (p .high) (2 ^ (n - 1)) =
-      ap (λ (b : Bool). Ieee.round binary32 b (h .num) (h .den)) (hc .sign) ∙ round-same binary32 false (h .num) (h .den) (p .high) (2 ^ (n - 1)) (hc .some) (pow-pos (n - 1)) (high-over K ok c ce) in
-      let low : float32 l ≡ Ieee.round binary32 (negative (p .low)) (natAbs (p .low)) (2 ^ p .places) =
-      ap (λ (b : Bool). Ieee.round binary32 b (l .num) (l .den)) (low-sign K ok c ce) ∙ round-same binary32 (negative (p .low)) (l .num) (l .den) (natAbs (p .low)) (2 ^ p .places) (lc .some) (pow-pos (p .places)) (low-over K ok c ce) in
-      λ i. record { high = high i; low = low i; scale = d .scale }
+  -- and are those of Ch and Cl, with exactly their values
+  module _ (c : ℕ) (ce : End K c) where
+    abbrev h : Fraction
+    h = highPart K c
 
-  -- and have exactly the values Ch and Cl
-  pub stored-high : HasValue (appliedOf d .high) false (highPart K c .num) (highPart K c .den)
-  unfolding appliedOf
-  stored-high =
-      let x = highPart K c in
-      let t = high-counts K ok c ce in
-      subst (λ (b : Bool). HasValue (Ieee.round binary32 b (x .num) (x .den)) false (x .num) (x .den)) (sym (t .sign))
-      (stored-exactly n (N .most) false (x .num) (x .den) (partsAt K c .high) (n - 1) (t .some) (storable K ok c ce .most) (omega arith) (omega arith) (high-over K ok c ce))
+    abbrev l : Fraction
+    l = lowPart K c
 
-  pub stored-low : HasValue (appliedOf d .low) (lowPart K c .minus) (lowPart K c .num) (lowPart K c .den)
-  unfolding appliedOf
-  stored-low = go (decLe (natAbs (partsAt K c .low)) 0)
-    where
-      s : LowStorable K (partsAt K c .low) (partsAt K c .places)
-      s = storable K ok c ce .low
+    pub high-from : floatIn f h ≡ highFrom f n (partsAt K c)
+    high-from =
+        let k = high-counts K ok c ce in
+        ap (λ (b : Bool). Ieee.round f b (h .num) (h .den)) (k .sign) ∙ round-same f false (h .num) (h .den) (partsAt K c .high) (2 ^ (n - 1)) (k .some) (pow-pos (n - 1)) (high-over K ok c ce)
 
-      go : Dec (natAbs (partsAt K c .low) ≤ 0) → HasValue (float32 (lowPart K c)) (lowPart K c .minus) (lowPart K c .num) (lowPart K c .den)
-      go (yes y) =
-          let z = s .none (omega arith) in
-          let none : lowPart K c .num ≡ 0 = omega (arith, low-over K ok c ce, ap (λ (q : ℕ). lowPart K c .num * 2 ^ q) (z .1), ap (λ (m : ℤ). natAbs m * lowPart K c .den) (z .0)) in
-          stored-exactly n (N .most) (lowPart K c .minus) (lowPart K c .num) (lowPart K c .den) 0 n (low-counts K ok c ce .some) (omega arith) (omega arith) (omega arith) (omega (arith, ap (λ (m : ℕ). m * 2 ^ n) none))
-      go (no y) =
-          let m : 0 < natAbs (partsAt K c .low) = lt-of-not-le y in
-          stored-exactly n (N .most) (lowPart K c .minus) (lowPart K c .num) (lowPart K c .den) (natAbs (partsAt K c .low)) (partsAt K c .places) (low-counts K ok c ce .some) (le-of-lt (s .some m .most)) (s .deep m) (omega (arith, s .shallow)) (low-over K ok c ce)
+    pub low-from : floatIn f l ≡ lowFrom f (partsAt K c)
+    low-from =
+        let p = partsAt K c in
+        ap (λ (b : Bool). Ieee.round f b (l .num) (l .den)) (low-sign K ok c ce)
+        ∙ round-same f (negative (p .low)) (l .num) (l .den) (natAbs (p .low)) (2 ^ p .places) (low-counts K ok c ce .some) (pow-pos (p .places)) (low-over K ok c ce)
 
--- so what set-up stores are numbers
+    pub stored-high : HasValue (floatIn f h) false (h .num) (h .den)
+    stored-high =
+        let p = partsAt K c in
+        subst (λ (x : Float). HasValue x false (h .num) (h .den)) (sym high-from)
+        (revalue (highFrom f n p) false (p .high) (2 ^ (n - 1)) (h .num) (h .den) (pow-pos (n - 1)) (sym (high-over K ok c ce)) (high-held p (storable K ok c ce)))
+
+    pub stored-low : HasValue (floatIn f l) (l .minus) (l .num) (l .den)
+    stored-low =
+        let p = partsAt K c in
+        subst (λ (b : Bool). HasValue (floatIn f l) b (l .num) (l .den)) (sym (low-sign K ok c ce))
+        (subst (λ (x : Float). HasValue x (negative (p .low)) (l .num) (l .den)) (sym low-from)
+        (revalue (lowFrom f p) (negative (p .low)) (natAbs (p .low)) (2 ^ p .places) (l .num) (l .den) (pow-pos (p .places)) (sym (low-over K ok c ce)) (low-held p (storable K ok c ce))))
+
+-- ---- what set-up stores
+pub applied-from : (d : Description) → Kept (d .precision) → End (contextFor d) (d .lower) → appliedOf d ≡ appliedFrom (d .precision) (d .scale) (partsAt (contextFor d) (d .lower))
+unfolding appliedOf
+applied-from d N ce = λ i. record { high = high-from binary32 (contextFor d) (fine-at N) (kept-held N) (d .lower) ce i; low = low-from binary32 (contextFor d) (fine-at N) (kept-held N) (d .lower) ce i; scale = d .scale }
+
+-- are numbers
 pub accepted-numbers : (d : Description) (f : Factor) → setUp d ≡ accepted f → T (not (isNan (f .applied .high))) × T (not (isNan (f .applied .low)))
+unfolding appliedOf
 accepted-numbers d f e =
     let t = setUp-sound d f e in
-    let h = highPart (contextFor d) (d .lower) in
-    let l = lowPart (contextFor d) (d .lower) in
+    let N = t .1 .precision in
     subst (λ (g : Factor). T (not (isNan (g .applied .high))) × T (not (isNan (g .applied .low)))) (t .0) (
-      value-number (appliedOf d .high) false (h .num) (h .den) (stored-high d (t .1 .precision) (t .1 .lower-end)),
-      value-number (appliedOf d .low) (l .minus) (l .num) (l .den) (stored-low d (t .1 .precision) (t .1 .lower-end)),
+      value-number _ _ _ _ (stored-high binary32 (contextFor d) (fine-at N) (kept-held N) (d .lower) (t .1 .lower-end)),
+      value-number _ _ _ _ (stored-low binary32 (contextFor d) (fine-at N) (kept-held N) (d .lower) (t .1 .lower-end)),
     )

@@ -2,7 +2,7 @@
 
 use rounding::TieRule;
 ghost use mathlib.Core.Path.{_≡_};
-ghost use Prim.Native.Nat.{suc, _+_, _-_, _*_, _<_, _≤_, _^_};
+ghost use Prim.Native.Nat.{suc, _+_, _-_, _<_, _≤_, _^_};
 ghost use mathlib.Core.Bool.{false, not, _||_};
 ghost use lib.Dec.{T, ltb};
 ghost use lib.Ieee;
@@ -15,7 +15,7 @@ ghost use Rattle.factor.specs.Precision.{Kept, scaleOf, roundsOf, precis
 ghost use Rattle.factor.specs.Context.{contextAt};
 ghost use Rattle.factor.specs.Whole.{End, partsFrom};
 ghost use Rattle.factor.specs.Parts.{partsAt};
-ghost use Rattle.factor.specs.SetUp.{endOut, scaleOut, sameLow, sameFloat, sameApplied, sameFactor, setUp, outcomeOf, intact};
+ghost use Rattle.factor.specs.SetUp.{endOut, scaleOut, sameLow, sameApplied, sameFactor, setUp, outcomeOf, intact};
 ghost use Rattle.factor.specs.Stored.{LowStorable, Storable, appliedFrom};
 
 // A factor as an office describes it: precision, scale and both ends, none of them judged yet.
@@ -218,26 +218,6 @@ pub fn parts_at(p: Precision, end: u64) -> Parts
     parts_from(p, high, rest_of(end, high << k))
 }
 
-// m * 2 ^ field / 2 ^ 149 with a sign, as a binary32 number: m has 24 bits, or is 2 ^ 24, and the field of an infinity is not reached.
-pub fn float_of(minus: bool, field: u32, m: u32) -> f32
-    requires { ⌜ (2 ^ 23 ≤ m) × (m ≤ 2 ^ 24) × (field * 8388608 + m < 2139095040) ⌝ }
-    ensures { λ r. ⌜ r ≡ Ieee.round binary32 minus (m * 2 ^ field) (2 ^ 149) ⌝ }
-{
-    if minus {
-        return f32::from_bits(2147483648 + (field * 8388608 + m));
-    }
-    f32::from_bits(field * 8388608 + m)
-}
-
-// The high part as a binary32 number.
-fn high_float(n: u32, high: u64) -> f32
-    requires { ⌜ Kept n × (leastOf n ≤ high) × (high ≤ 2 ^ n) ⌝ }
-    ensures { λ r. ⌜ r ≡ Ieee.round binary32 false high (2 ^ (n - 1)) ⌝ }
-{
-    let up = Precision::MOST - n;
-    float_of(false, 126, (high << up) as u32)
-}
-
 // The low part as a binary32 number; a zero low part is plus zero.
 fn low_float(n: u32, low: i64, places: u32) -> f32
     requires { ⌜ Kept n × LowStorable (contextAt n) low places ⌝ }
@@ -247,8 +227,7 @@ fn low_float(n: u32, low: i64, places: u32) -> f32
     if size == 0 {
         return f32::from_bits(0);
     }
-    let up = Precision::MOST - n;
-    float_of(low < 0, 125 + n - places, (size << up) as u32)
+    floats::narrow_float(low < 0, n, size, places)
 }
 
 // What a handheld applies, from the parts.
@@ -257,7 +236,7 @@ fn stored_parts(p: Precision, parts: Parts, scale: i32) -> Applied
     ensures { λ r. ⌜ r ≡ appliedFrom (p .bits) scale parts ⌝ }
 {
     let n = p.bits;
-    let high = high_float(n, parts.high);
+    let high = floats::narrow_float(false, n, parts.high, n - 1);
     let low = low_float(n, parts.low, parts.places);
     Applied { high, low, scale }
 }
@@ -338,24 +317,13 @@ pub fn set_up(d: Description) -> SetUp
     })
 }
 
-// Whether two floats are the same bit for bit, the second being a number.
-fn same_float(x: f32, y: f32) -> bool
-    requires { ⌜ T (not (isNan y)) ⌝ }
-    ensures { λ r. ⌜ r ≡ sameFloat x y ⌝ }
-{
-    if x != x {
-        return false;
-    }
-    f32::to_bits(x) == f32::to_bits(y)
-}
-
 // Whether what is stored is the same bit for bit, the second being numbers.
 fn same_applied(a: Applied, b: Applied) -> bool
     requires { ⌜ T (not (isNan (b .high))) × T (not (isNan (b .low))) ⌝ }
     ensures { λ r. ⌜ r ≡ sameApplied a b ⌝ }
 {
-    if same_float(a.high, b.high) {
-        if same_float(a.low, b.low) {
+    if floats::same_float(a.high, b.high) {
+        if floats::same_float(a.low, b.low) {
             return a.scale == b.scale;
         }
     }

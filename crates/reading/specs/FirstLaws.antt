@@ -1,6 +1,6 @@
 -- u1 as one binary32 multiplication: on [1, 2) the product of the stored low part and x is RN(Cl * x), and its bits tell it in whole numbers. Assumes nothing.
 use mathlib.Core.Path.{_≡_, sym, ap, _∙_, subst}
-use mathlib.Core.Bool.{Bool, false}
+use mathlib.Core.Bool.{false}
 use Prim.Native.Nat.{ℕ, _*_, _^_, _<_}
 use native.Mathlib.Omega.{arith}
 use lib.Dec.{T, lit<, lit≤}
@@ -11,18 +11,15 @@ use lib.Ieee.Exact.{HasValue}
 use lib.Ieee.Fits.{round-fits, mul-fits}
 use Rattle.rounding.specs.RoundLaws.{HasBits}
 use Rattle.rounding.specs.Signed.{negative}
-use Rattle.rounding.specs.Ieee.{revalue}
 use Rattle.floats.specs.Fields.{unitAt}
 use Rattle.floats.specs.Times.{product-value, product-least, Told, told}
 use Rattle.factor.specs.declared.Factor.{Factor}
-use Rattle.factor.specs.declared.Parts.{Parts}
 use Rattle.factor.specs.Precision.{scaleOf, kept}
 use Rattle.factor.specs.Context.{Context, Fine, tieRule, contextAt, contextOf, lowerOf, fine-at}
-use Rattle.factor.specs.Parts.{lowPart, partsAt}
+use Rattle.factor.specs.Parts.{lowPart}
 use Rattle.factor.specs.Whole.{Whole, wholeOf}
-use Rattle.factor.specs.PartsLaws.{low-counts}
 use Rattle.factor.specs.SetUp.{Sound, appliedOf, described}
-use Rattle.factor.specs.Stored.{stored-low, low-over, low-sign}
+use Rattle.factor.specs.Stored.{Storable, storable, lowFrom, low-from, low-held, kept-held}
 use Rattle.product.specs.Units.{firstUnits, PartsAtEnd}
 use Rattle.product.specs.SoundLaws.{sound-fine, sound-parts}
 use Rattle.product.specs.StepLaws.{low-value, first-lt}
@@ -57,15 +54,16 @@ module _ (f : Factor) (s : Sound f) (n : f .precision .bits ≡ prec binary32) w
   low-number h =
       let K = contextOf f in
       let ok = sound-fine f s in
+      let held = kept-held (s .precision) in
       let L = lowerOf f in
-      let x = lowPart K L in
       let stored = appliedOf (described f) .low in
-      let same : f .applied .low ≡ stored = sym (ofBits-toBits binary32 (f .applied .low) h) ∙ ap (ofBits binary32) (s .low-stored) ∙ ofBits-toBits binary32 stored (round-fits binary32 (x .minus) (x .num) (x .den)) in
-      let p = partsAt K L in
-      let v : HasValue stored (negative (p .low)) (natAbs (p .low)) (2 ^ p .places) =
-      subst (λ (z : Bool). HasValue stored z (natAbs (p .low)) (2 ^ p .places)) (low-sign K ok L (s .lower-end))
-      (revalue stored (x .minus) (x .num) (x .den) (natAbs (p .low)) (2 ^ p .places) (low-counts K ok L (s .lower-end) .some) (low-over K ok L (s .lower-end)) (stored-low (described f) (s .precision) (s .lower-end))) in
-      subst (λ (z : Float). HasValue z (negative (f .parts .low)) m (2 ^ q)) (sym same) (subst (λ (z : Parts). HasValue stored (negative (z .low)) (natAbs (z .low)) (2 ^ z .places)) (sym (s .parts)) v)
+      let is : f .applied .low ≡ lowFrom binary32 (f .parts) =
+      sym (ofBits-toBits binary32 (f .applied .low) h)
+      ∙ ap (ofBits binary32) (s .low-stored)
+      ∙ ofBits-toBits binary32 stored (round-fits binary32 (lowPart K L .minus) (lowPart K L .num) (lowPart K L .den))
+      ∙ low-from binary32 K ok held L (s .lower-end)
+      ∙ ap (lowFrom binary32) (sym (s .parts)) in
+      subst (λ (z : Float). HasValue z (negative (f .parts .low)) m (2 ^ q)) (sym is) (low-held binary32 K ok held (f .parts) (subst (Storable K) (sym (s .parts)) (storable K ok L (s .lower-end))))
 
   -- ---- one binary32 multiplication of the stored low part and x is u1
   module _ (X : ℕ) (xb : HasBits (prec binary32) X) (x y : Float) (low-is : HasValue x (negative (f .parts .low)) m (2 ^ q)) (x-is : HasValue y false X (hid binary32)) where

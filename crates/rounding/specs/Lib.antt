@@ -17,4 +17,3 @@ pub mod Examples
 pub mod Ieee
 pub mod Whole
 pub mod Signed
-pub mod Binary32

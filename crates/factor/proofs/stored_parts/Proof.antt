@@ -12,8 +12,11 @@ use borrow.Author.Needs.{needs}
 use Rattle.factor.proofs.stored_parts.Statement.{statement}
 use Rattle.factor.proofs.stored_parts.Tie as tie
 
-high-float-requires : tie.Need-high-float-requires
-high-float-requires c κs = search needs
+sub-narrow-float : tie.Need-sub-narrow-float
+sub-narrow-float c = search needs
+
+narrow-float-requires : tie.Need-narrow-float-requires
+narrow-float-requires c κs = search needs
 
 low-float-requires : tie.Need-low-float-requires
 low-float-requires c κs = search needs
@@ -26,7 +29,7 @@ returns c =
     let e : toZ w64 (ofZ w64 (a .args .parts .low)) ≡ a .args .parts .low = search needs in
     let l : c .low-float .result ≡ Ieee.round binary32 (negative (a .args .parts .low)) (natAbs (a .args .parts .low)) (2 ^ a .args .parts .places) =
     c .low-float .ensures ∙ ap (λ (z : ℤ). Ieee.round binary32 (negative z) (natAbs z) (2 ^ a .args .parts .places)) e in
-    λ i. record { high = made .high-float .ensures i; low = l i; scale = s i }
+    λ i. record { high = made .narrow-float .ensures i; low = l i; scale = s i }
 
 pub stored-parts-spec : {M : Type 1} → statement M
-stored-parts-spec = tie.close (tie.spec high-float-requires low-float-requires returns)
+stored-parts-spec = tie.close (tie.spec sub-narrow-float narrow-float-requires low-float-requires returns)
