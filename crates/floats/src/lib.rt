@@ -5,6 +5,7 @@ ghost use Prim.Native.Nat.{_<_, _^_};
 ghost use lib.Dec.{T};
 ghost use lib.Ieee;
 ghost use lib.Ieee.{binary32, emax, isNan, ofBits, toBits};
+ghost use Rattle.wide.specs.Value.{wordBits};
 ghost use Rattle.floats.specs.Fields.{signOf, fieldOf, digitsOf, significandOf, sameFloat, floatOf, Normalized, Narrow, unitAt, InUnits, unitsOf};
 
 // How many digits a significand has, the leading one counted.
@@ -116,7 +117,7 @@ pub fn unit_at(scale: u32) -> u32
 
 // The size of a number that is whole in units of 2 ^ d of the smallest values, counted in them.
 pub fn units_of(x: f32, d: u32) -> u64
-    requires { ⌜ T (not (isNan x)) × InUnits binary32 64 d (toBits binary32 x) ⌝ }
+    requires { ⌜ T (not (isNan x)) × InUnits binary32 wordBits d (toBits binary32 x) ⌝ }
     ensures { λ r. ⌜ r ≡ unitsOf binary32 d (toBits binary32 x) ⌝ }
 {
     let bits = f32::to_bits(x);

@@ -11,6 +11,7 @@ use lib.Ieee.Exact.{HasValue}
 use lib.Ieee.Fits.{round-fits, mul-fits}
 use Rattle.rounding.specs.RoundLaws.{HasBits}
 use Rattle.rounding.specs.Signed.{negative}
+use Rattle.wide.specs.Value.{wordBits}
 use Rattle.floats.specs.Fields.{unitAt}
 use Rattle.floats.specs.Times.{product-value, product-least, Told, told}
 use Rattle.factor.specs.declared.Factor.{Factor}
@@ -75,10 +76,10 @@ module _ (f : Factor) (s : Sound f) (n : f .precision .bits ≡ prec binary32) w
     first-float = product-value binary32 (K32 .E) near-32 m q (w .low) X (low-value K32 (f .parts) at) (first-lt K32 (f .parts) at X xb) x y (negative (f .parts .low)) low-is x-is
 
     -- and its bits tell it
-    pub first-told : Told binary32 64 (unitAt binary32 (K32 .E)) (toBits binary32 (mul binary32 x y)) u
+    pub first-told : Told binary32 wordBits (unitAt binary32 (K32 .E)) (toBits binary32 (mul binary32 x y)) u
     unfolding firstUnits tieRule scaleOf
     first-told =
         let is : ofBits binary32 (toBits binary32 (mul binary32 x y)) ≡ mul binary32 x y = ofBits-toBits binary32 (mul binary32 x y) (mul-fits binary32 x y) in
         let v = subst (λ (z : Float). HasValue z (negative (f .parts .low)) (u * 2 ^ unitAt binary32 (K32 .E)) (2 ^ low binary32)) (sym is) first-float in
-        let small : u < 2 ^ 64 = omega (arith, first-lt K32 (f .parts) at X xb) in
-        told binary32 64 (unitAt binary32 (K32 .E)) (lit≤ tt) (toBits binary32 (mul binary32 x y)) u (negative (f .parts .low)) v small (product-least binary32 (K32 .E) near-32 m q (w .low) X (low-value K32 (f .parts) at) (xb .least))
+        let small : u < 2 ^ wordBits = omega (arith, first-lt K32 (f .parts) at X xb) in
+        told binary32 wordBits (unitAt binary32 (K32 .E)) (lit≤ tt) (toBits binary32 (mul binary32 x y)) u (negative (f .parts .low)) v small (product-least binary32 (K32 .E) near-32 m q (w .low) X (low-value K32 (f .parts) at) (xb .least))

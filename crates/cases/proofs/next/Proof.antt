@@ -7,17 +7,11 @@ use borrow.Author.Needs.{needs}
 use Rattle.cases.proofs.next.Statement.{statement}
 use Rattle.cases.proofs.next.Tie as tie
 
-prepare-requires : tie.Need-prepare-requires
-prepare-requires c κs = search needs
-
 next-requires : tie.Need-next-requires
 next-requires c κs =
     let p = c .before .before .before in
     let a = p .before in
     (subst (λ (h : Halves). Askable (h .high)) (sym (p .prepare .ensures)) (high-askable (a .args .f) (a .pre .0)), a .pre .1)
-
-returns : tie.Need-returns
-returns c = search needs
 
 next-requires-2 : tie.Need-next-requires-2
 next-requires-2 c κs =
@@ -25,8 +19,5 @@ next-requires-2 c κs =
     let a = p .before in
     (subst (λ (h : Halves). Askable (h .low)) (sym (p .prepare .ensures)) (low-askable (a .args .f) (a .pre .0)), a .pre .1)
 
-returns-2 : tie.Need-returns-2
-returns-2 c = search needs
-
 pub next-spec : {M : Type 1} → statement M
-next-spec = tie.close (tie.spec prepare-requires next-requires returns next-requires-2 returns-2)
+next-spec = tie.close (tie.spec (λ c κs. search needs) next-requires (λ c. search needs) next-requires-2 (λ c. search needs))

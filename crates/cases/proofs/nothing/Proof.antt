@@ -7,8 +7,5 @@ use Rattle.cases.proofs.nothing.Tie as tie
 float-from-bits-zero : tie.Need-float-from-bits-zero
 float-from-bits-zero c = zero-number
 
-returns : tie.Need-returns
-returns c = search needs
-
 pub nothing-spec : {M : Type 1} → statement M
-nothing-spec = tie.close (tie.spec float-from-bits-zero returns)
+nothing-spec = tie.close (tie.spec float-from-bits-zero (λ c. search needs))

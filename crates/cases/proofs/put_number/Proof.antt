@@ -8,15 +8,6 @@ use borrow.Author.Needs.{needs}
 use Rattle.cases.proofs.put_number.Statement.{statement}
 use Rattle.cases.proofs.put_number.Tie as tie
 
-slice-aggregate-put-digits : tie.Need-slice-aggregate-put-digits
-slice-aggregate-put-digits c = search needs
-
-put-digits-requires : tie.Need-put-digits-requires
-put-digits-requires c κs = search needs
-
-array-share-prefix-text : tie.Need-array-share-prefix-text
-array-share-prefix-text c = search needs
-
 slice-aggregate-write-all : tie.Need-slice-aggregate-write-all
 slice-aggregate-write-all c =
     let d = c .before .before in
@@ -24,19 +15,13 @@ slice-aggregate-write-all c =
     let e : length (d .put-digits .last .0) ≡ 16 = length-kept _ _ _ _ _ (d .put-digits .ensures) in
     sym (length-take-le (a .args .width) (d .put-digits .last .0) (omega (arith, a .pre .0, e)))
 
-write-all-requires : tie.Need-write-all-requires
-write-all-requires c κs = search needs
-
-returns : tie.Need-returns
-returns c = search needs
-
 pub put-number-spec : {M : Type 1} → statement M
 put-number-spec =
     tie.close
     (tie.spec
-    slice-aggregate-put-digits
-    put-digits-requires
-    array-share-prefix-text
+    (λ c. search needs)
+    (λ c κs. search needs)
+    (λ c. search needs)
     slice-aggregate-write-all
-    write-all-requires
-    returns)
+    (λ c κs. search needs)
+    (λ c. search needs))

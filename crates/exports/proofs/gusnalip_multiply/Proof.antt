@@ -21,12 +21,6 @@ returns-2 c =
     let a = c .before .before .before .before .args in
     gives _ _ (a .out .now) (is-short (short-second 9 (a .factor .now) 2 (a .out .now) (c .if2 .taken)) tooShort _)
 
-factor-from-requires : tie.Need-factor-from-requires
-factor-from-requires c κs = search needs
-
-multiply-requires : tie.Need-multiply-requires
-multiply-requires c κs = search needs
-
 -- what the engine answers, and so what is answered
 abbrev says : ProductAnswer → Answer
 says r = markedAnswer productWords (outcomeOf r)
@@ -40,30 +34,6 @@ answer c =
     is-long (long-enough 9 (a .factor .now) 2 (a .out .now) (long .if1 .left) (room .if2 .left)) tooShort _
     ∙ ap (markedAnswer productWords) (sym (c .multiply .ensures ∙ ap (λ (f : Factor). multiplied f (a .x)) (c .before .factor-from .ensures)))
 
-enum-known-v : tie.Need-enum-known-v
-enum-known-v c = search needs
-
-put-product-requires : tie.Need-put-product-requires
-put-product-requires c κs = search needs
-
-enum-known-v-2 : tie.Need-enum-known-v-2
-enum-known-v-2 c = search needs
-
-put-product-requires-2 : tie.Need-put-product-requires-2
-put-product-requires-2 c κs = search needs
-
-enum-known-v-3 : tie.Need-enum-known-v-3
-enum-known-v-3 c = search needs
-
-put-product-requires-3 : tie.Need-put-product-requires-3
-put-product-requires-3 c κs = search needs
-
-enum-known-k : tie.Need-enum-known-k
-enum-known-k c = search needs
-
-same-length : tie.Need-same-length
-same-length c = search needs
-
 returns-3 : tie.Need-returns-3
 returns-3 c =
     let put = c .before .before in
@@ -72,9 +42,6 @@ returns-3 c =
     let both = gives _ _ (s .before .before .before .before .before .before .args .out .now) (answer s ∙ ap says (told .v .given .1)) in
     (both .0, put .put-product .ensures ∙ both .1)
 
-same-length-2 : tie.Need-same-length-2
-same-length-2 c = search needs
-
 returns-4 : tie.Need-returns-4
 returns-4 c =
     let put = c .before .before in
@@ -82,9 +49,6 @@ returns-4 c =
     let s = told .before .before in
     let both = gives _ _ (s .before .before .before .before .before .before .args .out .now) (answer s ∙ ap says (told .v2 .given .1)) in
     (both .0, put .put-product2 .ensures ∙ both .1)
-
-same-length-3 : tie.Need-same-length-3
-same-length-3 c = search needs
 
 returns-5 : tie.Need-returns-5
 returns-5 c =
@@ -106,19 +70,19 @@ gusnalip-multiply-spec =
     (tie.spec
     returns
     returns-2
-    factor-from-requires
-    multiply-requires
-    enum-known-v
-    put-product-requires
-    enum-known-v-2
-    put-product-requires-2
-    enum-known-v-3
-    put-product-requires-3
-    enum-known-k
-    same-length
+    (λ c κs. search needs)
+    (λ c κs. search needs)
+    (λ c. search needs)
+    (λ c κs. search needs)
+    (λ c. search needs)
+    (λ c κs. search needs)
+    (λ c. search needs)
+    (λ c κs. search needs)
+    (λ c. search needs)
+    (λ c. search needs)
     returns-3
-    same-length-2
+    (λ c. search needs)
     returns-4
-    same-length-3
+    (λ c. search needs)
     returns-5
     returns-6)

@@ -23,12 +23,6 @@ returns-2 c =
     let a = c .before .before .before .before .args in
     gives _ _ (a .out .now) (is-short (short-second 9 (a .factor .now) 13 (a .out .now) (c .if2 .taken)) tooShort _)
 
-factor-from-requires : tie.Need-factor-from-requires
-factor-from-requires c κs = search needs
-
-new-state-requires : tie.Need-new-state-requires
-new-state-requires c κs = search needs
-
 -- what the engine answers, and so what is answered
 abbrev newAnswer : NewSweep → Answer
 newAnswer r = newSweepAnswer (newOf r)
@@ -41,18 +35,6 @@ answer c =
     let a = long .before .before .before .args in
     is-long (long-enough 9 (a .factor .now) 13 (a .out .now) (long .if1 .left) (room .if2 .left)) tooShort _
     ∙ ap newSweepAnswer (sym (c .new-state .ensures ∙ ap (λ (f : Factor). newState engine f (a .first) (a .last)) (c .before .factor-from .ensures)))
-
-enum-known-s : tie.Need-enum-known-s
-enum-known-s c = search needs
-
-put-state-requires : tie.Need-put-state-requires
-put-state-requires c κs = search needs
-
-enum-known-k : tie.Need-enum-known-k
-enum-known-k c = search needs
-
-same-length : tie.Need-same-length
-same-length c = search needs
 
 returns-3 : tie.Need-returns-3
 returns-3 c =
@@ -74,11 +56,11 @@ gusnalip-new-sweep-spec =
     (tie.spec
     returns
     returns-2
-    factor-from-requires
-    new-state-requires
-    enum-known-s
-    put-state-requires
-    enum-known-k
-    same-length
+    (λ c κs. search needs)
+    (λ c κs. search needs)
+    (λ c. search needs)
+    (λ c κs. search needs)
+    (λ c. search needs)
+    (λ c. search needs)
     returns-3
     returns-4)

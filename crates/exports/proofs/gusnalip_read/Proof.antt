@@ -20,15 +20,6 @@ returns-2 c =
     let a = c .before .before .before .before .args in
     gives _ _ (a .out .now) (is-short (short-second 9 (a .factor .now) 1 (a .out .now) (c .if2 .taken)) tooShort _)
 
-factor-from-requires : tie.Need-factor-from-requires
-factor-from-requires c κs = search needs
-
-float-from-requires : tie.Need-float-from-requires
-float-from-requires c κs = search needs
-
-read-requires : tie.Need-read-requires
-read-requires c κs = search needs
-
 -- what the engine answers, and so what is answered
 abbrev says : ReadingAnswer → Answer
 says r = markedAnswer readingWords (outcomeOf r)
@@ -42,39 +33,6 @@ answer c =
     is-long (long-enough 9 (a .factor .now) 1 (a .out .now) (long .if1 .left) (room .if2 .left)) tooShort _
     ∙ ap (markedAnswer readingWords) (sym (c .read .ensures ∙ ap₂ applied (c .before .before .factor-from .ensures) (c .before .float-from .ensures)))
 
-enum-known-y : tie.Need-enum-known-y
-enum-known-y c = search needs
-
-bits-of-requires : tie.Need-bits-of-requires
-bits-of-requires c κs = search needs
-
-slice-write-out : tie.Need-slice-write-out
-slice-write-out c = search needs
-
-enum-known-y-2 : tie.Need-enum-known-y-2
-enum-known-y-2 c = search needs
-
-bits-of-requires-2 : tie.Need-bits-of-requires-2
-bits-of-requires-2 c κs = search needs
-
-slice-write-out-2 : tie.Need-slice-write-out-2
-slice-write-out-2 c = search needs
-
-enum-known-y-3 : tie.Need-enum-known-y-3
-enum-known-y-3 c = search needs
-
-bits-of-requires-3 : tie.Need-bits-of-requires-3
-bits-of-requires-3 c κs = search needs
-
-slice-write-out-3 : tie.Need-slice-write-out-3
-slice-write-out-3 c = search needs
-
-enum-known-k : tie.Need-enum-known-k
-enum-known-k c = search needs
-
-same-length : tie.Need-same-length
-same-length c = search needs
-
 returns-3 : tie.Need-returns-3
 returns-3 c =
     let told = c .before .before in
@@ -82,18 +40,12 @@ returns-3 c =
     let both = gives _ _ (s .before .before .before .before .before .before .before .args .out .now) (answer s ∙ ap says (told .y .given .1)) in
     rw (c .bits-of .ensures) both
 
-same-length-2 : tie.Need-same-length-2
-same-length-2 c = search needs
-
 returns-4 : tie.Need-returns-4
 returns-4 c =
     let told = c .before .before in
     let s = told .before .before in
     let both = gives _ _ (s .before .before .before .before .before .before .before .args .out .now) (answer s ∙ ap says (told .y2 .given .1)) in
     rw (c .bits-of2 .ensures) both
-
-same-length-3 : tie.Need-same-length-3
-same-length-3 c = search needs
 
 returns-5 : tie.Need-returns-5
 returns-5 c =
@@ -114,23 +66,23 @@ gusnalip-read-spec =
     (tie.spec
     returns
     returns-2
-    factor-from-requires
-    float-from-requires
-    read-requires
-    enum-known-y
-    bits-of-requires
-    slice-write-out
-    enum-known-y-2
-    bits-of-requires-2
-    slice-write-out-2
-    enum-known-y-3
-    bits-of-requires-3
-    slice-write-out-3
-    enum-known-k
-    same-length
+    (λ c κs. search needs)
+    (λ c κs. search needs)
+    (λ c κs. search needs)
+    (λ c. search needs)
+    (λ c κs. search needs)
+    (λ c. search needs)
+    (λ c. search needs)
+    (λ c κs. search needs)
+    (λ c. search needs)
+    (λ c. search needs)
+    (λ c κs. search needs)
+    (λ c. search needs)
+    (λ c. search needs)
+    (λ c. search needs)
     returns-3
-    same-length-2
+    (λ c. search needs)
     returns-4
-    same-length-3
+    (λ c. search needs)
     returns-5
     returns-6)

@@ -17,9 +17,6 @@ returns : tie.Need-returns
 unfolding setUpTo
 returns c = gives _ _ (c .before .before .args .out .now) (is-short (lt-ltb _ 9 (c .if1 .taken)) tooShort _)
 
-set-up-requires : tie.Need-set-up-requires
-set-up-requires c κs = search needs
-
 -- what is described
 abbrev asked : tie.After-set-up → Description
 asked c = let a = c .before .before .before .args in record { precision = a .precision; scale = a .scale; lower = a .lower; upper = a .upper }
@@ -36,18 +33,6 @@ answer c =
     is-long (le-ltb _ 9 (c .before .if1 .left)) tooShort _
     ∙ ap setUpAnswer (sym (c .set-up .ensures ∙ ap (λ (k : ℤ). setUp (record { precision = a .precision; scale = k; lower = a .lower; upper = a .upper })) same))
 
-enum-known-f : tie.Need-enum-known-f
-enum-known-f c = search needs
-
-put-factor-requires : tie.Need-put-factor-requires
-put-factor-requires c κs = search needs
-
-enum-known-k : tie.Need-enum-known-k
-enum-known-k c = search needs
-
-same-length : tie.Need-same-length
-same-length c = search needs
-
 returns-2 : tie.Need-returns-2
 returns-2 c =
     let put = c .before .before in
@@ -63,4 +48,4 @@ returns-3 c =
     gives _ _ (s .before .before .before .args .out .now) (answer s ∙ ap says (told .k .given .1))
 
 pub gusnalip-set-up-spec : {M : Type 1} → statement M
-gusnalip-set-up-spec = tie.close (tie.spec returns set-up-requires enum-known-f put-factor-requires enum-known-k same-length returns-2 returns-3)
+gusnalip-set-up-spec = tie.close (tie.spec returns (λ c κs. search needs) (λ c. search needs) (λ c κs. search needs) (λ c. search needs) (λ c. search needs) returns-2 returns-3)

@@ -30,12 +30,6 @@ returns-2 c =
     gives-sweep _ _ (a .state .now) (a .counts .now)
     (is-short (short-second 13 (a .state .now) 3 (a .counts .now) (c .if2 .taken)) (tooShortFor (a .list .now)) _)
 
-state-from-requires : tie.Need-state-from-requires
-state-from-requires c κs = search needs
-
-sweep-call-requires : tie.Need-sweep-call-requires
-sweep-call-requires c κs = search needs
-
 -- the answer of a call and the list it left, as words
 abbrev told : List ℕ → SweepAnswer → SweepWords
 told list r = replyWords (replyOf r list)
@@ -51,32 +45,8 @@ answer c =
     is-long (long-enough 13 (a .state .now) 3 (a .counts .now) (long .if1 .left) (room .if2 .left)) (tooShortFor (a .list .now)) _
     ∙ ap replyWords (sym (c .sweep-call .ensures ∙ ap (λ (s : State Factor). sweepCall engine s (callOf (a .cap) (a .list .now) (a .free))) (c .before .before .state-from .ensures)))
 
-enum-known-r : tie.Need-enum-known-r
-enum-known-r c = search needs
-
-put-state-requires : tie.Need-put-state-requires
-put-state-requires c κs = search needs
-
-slice-write-counts : tie.Need-slice-write-counts
-slice-write-counts c = search needs
-
 slice-write-counts-2 : tie.Need-slice-write-counts-2
 slice-write-counts-2 c = simp length-set (omega arith)
-
-slice-write-counts-3 : tie.Need-slice-write-counts-3
-slice-write-counts-3 c = search needs
-
-enum-known-r-2 : tie.Need-enum-known-r-2
-enum-known-r-2 c = search needs
-
-same-length : tie.Need-same-length
-same-length c = search needs
-
-same-length-2 : tie.Need-same-length-2
-same-length-2 c = search needs
-
-same-length-3 : tie.Need-same-length-3
-same-length-3 c = search needs
 
 returns-3 : tie.Need-returns-3
 returns-3 c =
@@ -86,12 +56,6 @@ returns-3 c =
     let a = s .before .before .before .before .before .before .before .before .before .args in
     let all = gives-sweep _ _ (a .state .now) (a .counts .now) (answer s ∙ ap (told (s .sweep-call .last .1 .1 .0)) (r .r .given .1)) in
     (all .0, (put .put-state .ensures ∙ all .1 .0, all .1 .1))
-
-same-length-4 : tie.Need-same-length-4
-same-length-4 c = search needs
-
-same-length-5 : tie.Need-same-length-5
-same-length-5 c = search needs
 
 returns-4 : tie.Need-returns-4
 returns-4 c =
@@ -106,18 +70,18 @@ gusnalip-sweep-spec =
     (tie.spec
     returns
     returns-2
-    state-from-requires
-    sweep-call-requires
-    enum-known-r
-    put-state-requires
-    slice-write-counts
+    (λ c κs. search needs)
+    (λ c κs. search needs)
+    (λ c. search needs)
+    (λ c κs. search needs)
+    (λ c. search needs)
     slice-write-counts-2
-    slice-write-counts-3
-    enum-known-r-2
-    same-length
-    same-length-2
-    same-length-3
+    (λ c. search needs)
+    (λ c. search needs)
+    (λ c. search needs)
+    (λ c. search needs)
+    (λ c. search needs)
     returns-3
-    same-length-4
-    same-length-5
+    (λ c. search needs)
+    (λ c. search needs)
     returns-4)

@@ -9,12 +9,6 @@ use borrow.Author.Needs.{needs}
 use Rattle.exports.proofs.put_factor.Statement.{statement}
 use Rattle.exports.proofs.put_factor.Tie as tie
 
-cast-out : tie.Need-cast-out
-cast-out c = search needs
-
-slice-write-out : tie.Need-slice-write-out
-slice-write-out c = search needs
-
 slice-write-out-2 : tie.Need-slice-write-out-2
 slice-write-out-2 c = simp length-set (omega arith)
 
@@ -24,38 +18,17 @@ slice-write-out-3 c = simp length-set (omega arith)
 slice-write-out-4 : tie.Need-slice-write-out-4
 slice-write-out-4 c = simp length-set (omega arith)
 
-unsigned-word-requires : tie.Need-unsigned-word-requires
-unsigned-word-requires c κs = search needs
-
 slice-write-out-5 : tie.Need-slice-write-out-5
 slice-write-out-5 c = simp length-set (omega arith)
-
-cast-out-2 : tie.Need-cast-out-2
-cast-out-2 c = search needs
 
 slice-write-out-6 : tie.Need-slice-write-out-6
 slice-write-out-6 c = simp length-set (omega arith)
 
-bits-of-requires : tie.Need-bits-of-requires
-bits-of-requires c κs = search needs
-
-cast-out-3 : tie.Need-cast-out-3
-cast-out-3 c = search needs
-
 slice-write-out-7 : tie.Need-slice-write-out-7
 slice-write-out-7 c = simp length-set (omega arith)
 
-bits-of-requires-2 : tie.Need-bits-of-requires-2
-bits-of-requires-2 c κs = search needs
-
-cast-out-4 : tie.Need-cast-out-4
-cast-out-4 c = search needs
-
 slice-write-out-8 : tie.Need-slice-write-out-8
 slice-write-out-8 c = simp length-set (omega arith)
-
-unsigned-half-requires : tie.Need-unsigned-half-requires
-unsigned-half-requires c κs = search needs
 
 slice-write-out-9 : tie.Need-slice-write-out-9
 slice-write-out-9 c = simp length-set (omega arith)
@@ -83,22 +56,22 @@ pub put-factor-spec : {M : Type 1} → statement M
 put-factor-spec =
     tie.close
     (tie.spec
-    cast-out
-    slice-write-out
+    (λ c. search needs)
+    (λ c. search needs)
     slice-write-out-2
     slice-write-out-3
     slice-write-out-4
-    unsigned-word-requires
+    (λ c κs. search needs)
     slice-write-out-5
-    cast-out-2
+    (λ c. search needs)
     slice-write-out-6
-    bits-of-requires
-    cast-out-3
+    (λ c κs. search needs)
+    (λ c. search needs)
     slice-write-out-7
-    bits-of-requires-2
-    cast-out-4
+    (λ c κs. search needs)
+    (λ c. search needs)
     slice-write-out-8
-    unsigned-half-requires
+    (λ c κs. search needs)
     slice-write-out-9
     same-length
     returns)

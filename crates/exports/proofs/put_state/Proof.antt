@@ -9,26 +9,14 @@ use borrow.Author.Needs.{needs}
 use Rattle.exports.proofs.put_state.Statement.{statement}
 use Rattle.exports.proofs.put_state.Tie as tie
 
-put-factor-requires : tie.Need-put-factor-requires
-put-factor-requires c κs = search needs
-
-slice-write-out : tie.Need-slice-write-out
-slice-write-out c = search needs
-
 slice-write-out-2 : tie.Need-slice-write-out-2
 slice-write-out-2 c = simp length-set (omega arith)
 
 slice-write-out-3 : tie.Need-slice-write-out-3
 slice-write-out-3 c = simp length-set (omega arith)
 
-cast-out : tie.Need-cast-out
-cast-out c = search needs
-
 slice-write-out-4 : tie.Need-slice-write-out-4
 slice-write-out-4 c = simp length-set (omega arith)
-
-same-length : tie.Need-same-length
-same-length c = search needs
 
 mark-is : (b : Bool) → boolByte b ≡ cond b 1 0
 mark-is true = refl
@@ -44,11 +32,11 @@ pub put-state-spec : {M : Type 1} → statement M
 put-state-spec =
     tie.close
     (tie.spec
-    put-factor-requires
-    slice-write-out
+    (λ c κs. search needs)
+    (λ c. search needs)
     slice-write-out-2
     slice-write-out-3
-    cast-out
+    (λ c. search needs)
     slice-write-out-4
-    same-length
+    (λ c. search needs)
     returns)

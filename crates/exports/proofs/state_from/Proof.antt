@@ -4,21 +4,6 @@ use borrow.Author.Needs.{needs}
 use Rattle.exports.proofs.state_from.Statement.{statement}
 use Rattle.exports.proofs.state_from.Tie as tie
 
-factor-from-requires : tie.Need-factor-from-requires
-factor-from-requires c κs = search needs
-
-shared-slice-read-t4 : tie.Need-shared-slice-read-t4
-shared-slice-read-t4 c = search needs
-
-shared-slice-read-t6 : tie.Need-shared-slice-read-t6
-shared-slice-read-t6 c = search needs
-
-shared-slice-read-t8 : tie.Need-shared-slice-read-t8
-shared-slice-read-t8 c = search needs
-
-shared-slice-read-t10 : tie.Need-shared-slice-read-t10
-shared-slice-read-t10 c = search needs
-
 returns : tie.Need-returns
 unfolding stateFrom
 returns c = rw (c .before .before .before .before .factor-from .ensures)
@@ -27,9 +12,9 @@ pub state-from-spec : {M : Type 1} → statement M
 state-from-spec =
     tie.close
     (tie.spec
-    factor-from-requires
-    shared-slice-read-t4
-    shared-slice-read-t6
-    shared-slice-read-t8
-    shared-slice-read-t10
+    (λ c κs. search needs)
+    (λ c. search needs)
+    (λ c. search needs)
+    (λ c. search needs)
+    (λ c. search needs)
     returns)

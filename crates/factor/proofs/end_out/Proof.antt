@@ -7,14 +7,8 @@ use borrow.Author.Tests.{lt-ltb, le-ltb}
 use Rattle.factor.proofs.end_out.Statement.{statement}
 use Rattle.factor.proofs.end_out.Tie as tie
 
-least-end-requires : tie.Need-least-end-requires
-least-end-requires c κs = search needs
-
 returns : tie.Need-returns
 returns c = simp (lt-ltb _ _ (subst (λ (z : ℕ). c .before .before .args .end < z) (c .before .least-end .ensures) (c .if1 .taken)))
-
-past-end-requires : tie.Need-past-end-requires
-past-end-requires c κs = search needs
 
 returns-2 : tie.Need-returns-2
 returns-2 c =
@@ -23,4 +17,4 @@ returns-2 c =
     ap (λ (z : ℕ). leb z (a .end)) (c .past-end .ensures) ∙ simp (le-ltb _ _ (subst (λ (z : ℕ). z ≤ a .end) (e .before .least-end .ensures) (e .if1 .left)))
 
 pub end-out-spec : {M : Type 1} → statement M
-end-out-spec = tie.close (tie.spec least-end-requires returns past-end-requires returns-2)
+end-out-spec = tie.close (tie.spec (λ c κs. search needs) returns (λ c κs. search needs) returns-2)

@@ -9,12 +9,6 @@ use Rattle.factor.specs.Stored.{accepted-numbers}
 use Rattle.factor.proofs.is_intact.Statement.{statement}
 use Rattle.factor.proofs.is_intact.Tie as tie
 
-set-up-requires : tie.Need-set-up-requires
-set-up-requires c κs = search needs
-
-enum-known-g : tie.Need-enum-known-g
-enum-known-g c = search needs
-
 -- what the factor's own figures set up
 set-up-is : (c : tie.After-set-up) → let f = c .before .before .args .f in outcomeOf (c .set-up .result) ≡ setUp (described f)
 set-up-is c =
@@ -46,4 +40,4 @@ returns-2 c =
     ap (given f) (sym (ap outcomeOf (c .enum-told .given .1)) ∙ set-up-is s)
 
 pub is-intact-spec : {M : Type 1} → statement M
-is-intact-spec = tie.close (tie.spec set-up-requires enum-known-g same-factor-requires enum-told returns returns-2)
+is-intact-spec = tie.close (tie.spec (λ c κs. search needs) (λ c. search needs) same-factor-requires enum-told returns returns-2)

@@ -16,9 +16,6 @@ use Rattle.round.proofs.Laws.{negative-is}
 use Rattle.factor.proofs.low_float.Statement.{statement}
 use Rattle.factor.proofs.low_float.Tie as tie
 
-magnitude-requires : tie.Need-magnitude-requires
-magnitude-requires c κs = search needs
-
 size-is : (c : tie.After-magnitude) → c .magnitude .result ≡ natAbs (c .before .args .low)
 size-is c = c .magnitude .ensures ∙ ap natAbs (toZ-ofZ w64 (c .before .args .low) (c .before .fits .low))
 
@@ -58,4 +55,4 @@ returns-2 c =
     c .narrow-float .ensures ∙ ap₂ (λ (b : Bool) (z : ℕ). Ieee.round binary32 b z (2 ^ a .args .places)) (ap (λ (z : ℤ). ltZ z (pos 0)) same ∙ negative-is (a .args .low)) (size-is (s .before))
 
 pub low-float-spec : {M : Type 1} → statement M
-low-float-spec = tie.close (tie.spec magnitude-requires float-from-bits-result returns narrow-float-requires returns-2)
+low-float-spec = tie.close (tie.spec (λ c κs. search needs) float-from-bits-result returns narrow-float-requires returns-2)

@@ -21,18 +21,6 @@ use Rattle.factor.specs.PartsLaws.{high-most, rest-le, parts-from}
 use Rattle.factor.proofs.parts_at.Statement.{statement}
 use Rattle.factor.proofs.parts_at.Tie as tie
 
-step-requires : tie.Need-step-requires
-step-requires c κs = search needs
-
-nearest-word-requires : tie.Need-nearest-word-requires
-nearest-word-requires c κs = search needs
-
-cast-rest-of : tie.Need-cast-rest-of
-cast-rest-of c = search needs
-
-shl-rest-of : tie.Need-shl-rest-of
-shl-rest-of c = search needs
-
 module _ (a : tie.Start) where
   abbrev K : Context
   K = contextAt (a .args .p .bits)
@@ -86,4 +74,4 @@ returns c =
     ∙ sym (parts-from (K a) (fine a) (a .args .end) (a .pre .1))
 
 pub parts-at-spec : {M : Type 1} → statement M
-parts-at-spec = tie.close (tie.spec step-requires nearest-word-requires cast-rest-of shl-rest-of rest-of-requires parts-from-requires returns)
+parts-at-spec = tie.close (tie.spec (λ c κs. search needs) (λ c κs. search needs) (λ c. search needs) (λ c. search needs) rest-of-requires parts-from-requires returns)

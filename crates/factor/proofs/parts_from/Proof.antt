@@ -15,12 +15,6 @@ use Rattle.factor.proofs.Laws.{parts-none, Placed, parts-some}
 use Rattle.factor.proofs.parts_from.Statement.{statement}
 use Rattle.factor.proofs.parts_from.Tie as tie
 
-round-signed-requires : tie.Need-round-signed-requires
-round-signed-requires c κs = search needs
-
-magnitude-requires : tie.Need-magnitude-requires
-magnitude-requires c κs = search needs
-
 abbrev K : tie.Start → Context
 K a = contextAt (a .args .p .bits)
 
@@ -58,12 +52,6 @@ known c =
   where
     some : (m : ℕ) → (m ≡ 0 → ⊥) → 0 < m
     some m h = omega (arith, h)
-
-scale-requires : tie.Need-scale-requires
-scale-requires c κs = search needs
-
-cast-t11 : tie.Need-cast-t11
-cast-t11 c = search needs
 
 -- the scale less the exponent, as it is worked out
 module _ (c : tie.After-struct-told2) where
@@ -103,4 +91,4 @@ returns-2 c =
     λ i. record { high = a c .args .high; low = (low ∙ known (scaled c .before) .significand) i; places = q i }
 
 pub parts-from-spec : {M : Type 1} → statement M
-parts-from-spec = tie.close (tie.spec round-signed-requires magnitude-requires returns scale-requires cast-t11 sub-t12 cast-t13 returns-2)
+parts-from-spec = tie.close (tie.spec (λ c κs. search needs) (λ c κs. search needs) returns (λ c κs. search needs) (λ c. search needs) sub-t12 cast-t13 returns-2)

@@ -11,20 +11,11 @@ use Rattle.rounding.specs.Signed.{signedOf}
 use Rattle.factor.proofs.rest_of.Statement.{statement}
 use Rattle.factor.proofs.rest_of.Tie as tie
 
-sub-with-sign : tie.Need-sub-with-sign
-sub-with-sign c = search needs
-
-with-sign-requires : tie.Need-with-sign-requires
-with-sign-requires c κs = search needs
-
 returns : tie.Need-returns
 returns c =
     let a = c .before .before .args in
     let size : a .whole - a .end ≡ apart (a .end) (a .whole) = omega (arith, c .before .if1 .taken) in
     toZ-ofZ w64 _ (record { sfits = c .with-sign .ok }) ∙ c .with-sign .ensures ∙ ap₂ signedOf (sym (lt-ltb (a .end) (a .whole) (c .before .if1 .taken))) size
-
-with-sign-requires-2 : tie.Need-with-sign-requires-2
-with-sign-requires-2 c κs = search needs
 
 returns-2 : tie.Need-returns-2
 returns-2 c =
@@ -33,4 +24,4 @@ returns-2 c =
     toZ-ofZ w64 _ (record { sfits = c .with-sign2 .ok }) ∙ c .with-sign2 .ensures ∙ ap₂ signedOf (sym (le-ltb (a .end) (a .whole) (c .before .if1 .left))) size
 
 pub rest-of-spec : {M : Type 1} → statement M
-rest-of-spec = tie.close (tie.spec sub-with-sign with-sign-requires returns with-sign-requires-2 returns-2)
+rest-of-spec = tie.close (tie.spec (λ c. search needs) (λ c κs. search needs) returns (λ c κs. search needs) returns-2)

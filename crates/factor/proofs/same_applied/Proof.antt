@@ -11,12 +11,6 @@ use Rattle.factor.proofs.Same.{same-bits}
 use Rattle.factor.proofs.same_applied.Statement.{statement}
 use Rattle.factor.proofs.same_applied.Tie as tie
 
-same-float-requires : tie.Need-same-float-requires
-same-float-requires c κs = search needs
-
-same-float-requires-2 : tie.Need-same-float-requires-2
-same-float-requires-2 c κs = search needs
-
 returns : tie.Need-returns
 returns c =
     let low = c .before .before .before .before in
@@ -44,4 +38,4 @@ returns-3 c =
     sym (ap (λ (s : Bool). s && (sameFloat binary32 (x .a .low) (x .b .low) && sameZ (x .a .scale) (x .b .scale))) h)
 
 pub same-applied-spec : {M : Type 1} → statement M
-same-applied-spec = tie.close (tie.spec same-float-requires same-float-requires-2 returns returns-2 returns-3)
+same-applied-spec = tie.close (tie.spec (λ c κs. search needs) (λ c κs. search needs) returns returns-2 returns-3)

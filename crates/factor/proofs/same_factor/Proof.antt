@@ -7,12 +7,6 @@ use Rattle.factor.specs.SetUp.{sameHigh, sameLow, sameApplied}
 use Rattle.factor.proofs.same_factor.Statement.{statement}
 use Rattle.factor.proofs.same_factor.Tie as tie
 
-same-low-requires : tie.Need-same-low-requires
-same-low-requires c κs = search needs
-
-same-applied-requires : tie.Need-same-applied-requires
-same-applied-requires c κs = search needs
-
 -- the high parts are the same
 high-same : (c : tie.Then1) → let x = c .before .before .before .before .before .args in sameHigh (x .f .parts) (x .g .parts) ≡ true
 high-same c = let x = c .before .before .before .before .before .args in eq-eqb (x .f .parts .high) (x .g .parts .high) (c .if1 .taken)
@@ -36,4 +30,4 @@ returns-3 c =
     sym (ap (λ (s : Bool). s && (sameLow (x .f .parts) (x .g .parts) && sameApplied (x .f .applied) (x .g .applied))) (ne-eqb (x .f .parts .high) (x .g .parts .high) (c .if1 .left)))
 
 pub same-factor-spec : {M : Type 1} → statement M
-same-factor-spec = tie.close (tie.spec same-low-requires same-applied-requires returns returns-2 returns-3)
+same-factor-spec = tie.close (tie.spec (λ c κs. search needs) (λ c κs. search needs) returns returns-2 returns-3)

@@ -22,12 +22,6 @@ use Rattle.factor.specs.Stored.{Storable, storable, appliedFrom, applied
 use Rattle.factor.proofs.set_up.Statement.{statement}
 use Rattle.factor.proofs.set_up.Tie as tie
 
-new-requires : tie.Need-new-requires
-new-requires c κs = search needs
-
-enum-known-precision : tie.Need-enum-known-precision
-enum-known-precision c = search needs
-
 enum-told : tie.Need-enum-told
 enum-told c = search needs
 
@@ -96,9 +90,6 @@ returns-3 c =
     let s = c .before .before in
     refuses (pass (precision-in (first s)) (pass (ends-in s) (stop (lt-ltb _ _ (c .if2 .taken))))) _
 
-scale-out-requires : tie.Need-scale-out-requires
-scale-out-requires c κs = search needs
-
 -- the scale as it is read
 scale-read : (c : tie.Else1) → toZ w32 (ofZ w32 (d c .scale)) ≡ d c .scale
 scale-read c = search needs
@@ -150,9 +141,6 @@ returns-5 c =
     let other : not (sameHigh (partsAt (contextFor (e w)) (e w .lower)) (partsAt (contextFor (e w)) (e w .upper))) ≡ true = ap not (ap₂ sameHigh (sym (lower-parts w)) (sym (upper-parts w)) ∙ ne-eqb _ _ (c .if4 .taken)) in
     refuses (pass (precision-in (first (ends (past w)))) (pass (ends-in (ends (past w))) (pass (in-order w) (pass (scale-in w) (stop other))))) _
 
-same-low-requires : tie.Need-same-low-requires
-same-low-requires c κs = search needs
-
 high-same : (c : tie.Else4) → let w = c .before .before .before in not (sameHigh (partsAt (contextFor (e w)) (e w .lower)) (partsAt (contextFor (e w)) (e w .upper))) ≡ false
 high-same c = let w = c .before .before .before in ap not (ap₂ sameHigh (sym (lower-parts w)) (sym (upper-parts w)) ∙ eq-eqb _ _ (c .if4 .left))
 
@@ -192,19 +180,19 @@ pub set-up-spec : {M : Type 1} → statement M
 set-up-spec =
     tie.close
     (tie.spec
-    new-requires
-    enum-known-precision
+    (λ c κs. search needs)
+    (λ c. search needs)
     enum-told
     returns
     ends-out-requires
     returns-2
     returns-3
-    scale-out-requires
+    (λ c κs. search needs)
     returns-4
     parts-at-requires
     parts-at-requires-2
     returns-5
-    same-low-requires
+    (λ c κs. search needs)
     returns-6
     stored-parts-requires
     returns-7)

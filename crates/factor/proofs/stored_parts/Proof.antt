@@ -12,15 +12,6 @@ use borrow.Author.Needs.{needs}
 use Rattle.factor.proofs.stored_parts.Statement.{statement}
 use Rattle.factor.proofs.stored_parts.Tie as tie
 
-sub-narrow-float : tie.Need-sub-narrow-float
-sub-narrow-float c = search needs
-
-narrow-float-requires : tie.Need-narrow-float-requires
-narrow-float-requires c κs = search needs
-
-low-float-requires : tie.Need-low-float-requires
-low-float-requires c κs = search needs
-
 returns : tie.Need-returns
 returns c =
     let made = c .before .before in
@@ -32,4 +23,4 @@ returns c =
     λ i. record { high = made .narrow-float .ensures i; low = l i; scale = s i }
 
 pub stored-parts-spec : {M : Type 1} → statement M
-stored-parts-spec = tie.close (tie.spec sub-narrow-float narrow-float-requires low-float-requires returns)
+stored-parts-spec = tie.close (tie.spec (λ c. search needs) (λ c κs. search needs) (λ c κs. search needs) returns)

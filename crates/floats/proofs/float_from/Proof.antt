@@ -21,8 +21,5 @@ returns c = zero-by-zero ∙ sym (nan-pattern binary32 _ (c .if1 .taken))
 float-from-bits-result : tie.Need-float-from-bits-result
 float-from-bits-result c = number-pattern binary32 _ (c .if1 .left)
 
-returns-2 : tie.Need-returns-2
-returns-2 c = search needs
-
 pub float-from-spec : {M : Type 1} → statement M
-float-from-spec = tie.close (tie.spec float-from-bits-zero returns float-from-bits-result returns-2)
+float-from-spec = tie.close (tie.spec float-from-bits-zero returns float-from-bits-result (λ c. search needs))

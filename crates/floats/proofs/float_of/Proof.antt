@@ -8,15 +8,6 @@ use Rattle.floats.specs.Pattern.{pattern-number, pattern-is}
 use Rattle.floats.proofs.float_of.Statement.{statement}
 use Rattle.floats.proofs.float_of.Tie as tie
 
-mul-result : tie.Need-mul-result
-mul-result c = search needs
-
-add-result : tie.Need-add-result
-add-result c = search needs
-
-add-result-2 : tie.Need-add-result-2
-add-result-2 c = search needs
-
 float-from-bits-result : tie.Need-float-from-bits-result
 float-from-bits-result c = let a = c .before in pattern-number binary32 true (a .args .exponent) (a .args .m) (a .pre)
 
@@ -24,12 +15,6 @@ returns : tie.Need-returns
 returns c =
     let a = c .before in
     pattern-is binary32 true (a .args .exponent) (a .args .m) (a .pre) ∙ ap (λ (s : Bool). floatOf binary32 s (a .args .exponent) (a .args .m)) (sym (c .if1 .taken))
-
-mul-result-2 : tie.Need-mul-result-2
-mul-result-2 c = search needs
-
-add-result-3 : tie.Need-add-result-3
-add-result-3 c = search needs
 
 float-from-bits-result-2 : tie.Need-float-from-bits-result-2
 float-from-bits-result-2 c = let a = c .before in pattern-number binary32 false (a .args .exponent) (a .args .m) (a .pre)
@@ -43,12 +28,12 @@ pub float-of-spec : {M : Type 1} → statement M
 float-of-spec =
     tie.close
     (tie.spec
-    mul-result
-    add-result
-    add-result-2
+    (λ c. search needs)
+    (λ c. search needs)
+    (λ c. search needs)
     float-from-bits-result
     returns
-    mul-result-2
-    add-result-3
+    (λ c. search needs)
+    (λ c. search needs)
     float-from-bits-result-2
     returns-2)

@@ -18,11 +18,5 @@ returns c =
 float-to-bits-result : tie.Need-float-to-bits-result
 float-to-bits-result c = no-nan (c .before .args .x) (c .if1 .left)
 
-float-to-bits-result-2 : tie.Need-float-to-bits-result-2
-float-to-bits-result-2 c = search needs
-
-returns-2 : tie.Need-returns-2
-returns-2 c = search needs
-
 pub same-float-spec : {M : Type 1} → statement M
-same-float-spec = tie.close (tie.spec returns float-to-bits-result float-to-bits-result-2 returns-2)
+same-float-spec = tie.close (tie.spec returns float-to-bits-result (λ c. search needs) (λ c. search needs))

@@ -11,9 +11,6 @@ returns c =
     let b = c .before .args .b in
     sym (no-value b (between-under 48 57 b (omega arith)) (between-under 65 70 b (omega arith)))
 
-cast-t4 : tie.Need-cast-t4
-cast-t4 c = search needs
-
 returns-2 : tie.Need-returns-2
 returns-2 c = sym (low-value (c .before .before .args .b) (omega arith) (omega arith))
 
@@ -21,12 +18,6 @@ returns-3 : tie.Need-returns-3
 returns-3 c =
     let b = c .before .before .before .args .b in
     sym (no-value b (between-over 48 57 b (omega arith)) (between-under 65 70 b (omega arith)))
-
-cast-t6 : tie.Need-cast-t6
-cast-t6 c = search needs
-
-add-t7 : tie.Need-add-t7
-add-t7 c = search needs
 
 returns-4 : tie.Need-returns-4
 returns-4 c = sym (high-value (c .before .before .before .before .args .b) (omega arith) (omega arith))
@@ -38,4 +29,4 @@ returns-5 c =
 
 pub digit-value-spec : {M : Type 1} → statement M
 digit-value-spec =
-    tie.close (tie.spec returns cast-t4 returns-2 returns-3 cast-t6 add-t7 returns-4 returns-5)
+    tie.close (tie.spec returns (λ c. search needs) returns-2 returns-3 (λ c. search needs) (λ c. search needs) returns-4 returns-5)

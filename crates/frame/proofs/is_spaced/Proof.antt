@@ -29,34 +29,16 @@ module _ (e : ℕ) (line : List ℕ) where
   unfolding spaced
   third-left h f s = rw (eq-eqb (length line) (7 + 2 * e) h, eq-eqb (getD line 2 0) blank f, eq-eqb (getD line 5 0) blank s)
 
-mul-if1 : tie.Need-mul-if1
-mul-if1 c = search needs
-
-add-if1 : tie.Need-add-if1
-add-if1 c = search needs
-
 returns : tie.Need-returns
 returns c = other-length _ _ (c .if1 .taken)
 
-shared-slice-read-if2 : tie.Need-shared-slice-read-if2
-shared-slice-read-if2 c = search needs
-
 returns-2 : tie.Need-returns-2
 returns-2 c = first-not _ _ (c .before .before .if1 .left) (c .if2 .taken)
-
-shared-slice-read-if3 : tie.Need-shared-slice-read-if3
-shared-slice-read-if3 c = search needs
 
 returns-3 : tie.Need-returns-3
 returns-3 c =
     let second = c .before .before in
     second-not _ _ (second .before .before .if1 .left) (second .if2 .left) (c .if3 .taken)
-
-add-result : tie.Need-add-result
-add-result c = search needs
-
-shared-slice-read-result : tie.Need-shared-slice-read-result
-shared-slice-read-result c = search needs
 
 returns-4 : tie.Need-returns-4
 returns-4 c =
@@ -68,13 +50,13 @@ pub is-spaced-spec : {M : Type 1} → statement M
 is-spaced-spec =
     tie.close
     (tie.spec
-    mul-if1
-    add-if1
+    (λ c. search needs)
+    (λ c. search needs)
     returns
-    shared-slice-read-if2
+    (λ c. search needs)
     returns-2
-    shared-slice-read-if3
+    (λ c. search needs)
     returns-3
-    add-result
-    shared-slice-read-result
+    (λ c. search needs)
+    (λ c. search needs)
     returns-4)

@@ -68,40 +68,16 @@ abbrev μ-loop : tie.MeasureT-loop
 loop-holds : tie.Need-loop-holds Inv-loop μ-loop
 loop-holds c = begin _ _ _ _ _
 
-add-place : tie.Need-add-place Inv-loop μ-loop
-add-place c = search needs
-
-sub-place : tie.Need-sub-place Inv-loop μ-loop
-sub-place c = search needs
-
-add-place-2 : tie.Need-add-place-2 Inv-loop μ-loop
-add-place-2 c = search needs
-
-rem-digit-byte : tie.Need-rem-digit-byte Inv-loop μ-loop
-rem-digit-byte c = search needs
-
 digit-byte-requires : tie.Need-digit-byte-requires Inv-loop μ-loop
 digit-byte-requires c κs = let pre = c .before .before .before .pre in digit-small _ _ (pre .1) (pre .2)
 
 slice-write-buf : tie.Need-slice-write-buf Inv-loop μ-loop
 slice-write-buf c = let at-loop = c .before .before in omega (arith, same _ _ _ _ _ _ _ _ (at-loop .loop .inv))
 
-div-rest : tie.Need-div-rest Inv-loop μ-loop
-div-rest c = search needs
-
-add-done : tie.Need-add-done Inv-loop μ-loop
-add-done c = search needs
-
-loop-less : tie.Need-loop-less Inv-loop μ-loop
-loop-less c = search needs
-
 loop-again : tie.Need-loop-again Inv-loop μ-loop
 loop-again c =
     let at-loop = c .before .before in
     rw (c .digit-byte .ensures) (one-more _ _ _ _ _ _ _ _ (at-loop .loop .inv) (c .before .loop-test .taken))
-
-add-result : tie.Need-add-result Inv-loop μ-loop
-add-result c = search needs
 
 same-length : tie.Need-same-length Inv-loop μ-loop
 same-length c = same _ _ _ _ _ _ _ _ (c .before .loop .inv)
@@ -116,16 +92,16 @@ put-digits-spec =
     Inv-loop
     μ-loop
     loop-holds
-    add-place
-    sub-place
-    add-place-2
-    rem-digit-byte
+    (λ c. search needs)
+    (λ c. search needs)
+    (λ c. search needs)
+    (λ c. search needs)
     digit-byte-requires
     slice-write-buf
-    div-rest
-    add-done
-    loop-less
+    (λ c. search needs)
+    (λ c. search needs)
+    (λ c. search needs)
     loop-again
-    add-result
+    (λ c. search needs)
     same-length
     returns)

@@ -6,9 +6,6 @@ use Rattle.frame.specs.WrittenLaws.{written-then, written-byte}
 use Rattle.frame.proofs.put_field.Statement.{statement}
 use Rattle.frame.proofs.put_field.Tie as tie
 
-put-digits-requires : tie.Need-put-digits-requires
-put-digits-requires c κs = search needs
-
 slice-write-buf : tie.Need-slice-write-buf
 slice-write-buf c =
     let a = c .before .before .before .before .before .args in
@@ -19,12 +16,9 @@ add-result c =
     let a = c .before .before .before .before .before .args in
     omega (arith, length-digits (a .base) (a .width) (a .v))
 
-same-length : tie.Need-same-length
-same-length c = search needs
-
 returns : tie.Need-returns
 returns c = written-then (c .before .before .put-digits .ensures) (written-byte _ _ _)
 
 pub put-field-spec : {M : Type 1} → statement M
 put-field-spec =
-    tie.close (tie.spec put-digits-requires slice-write-buf add-result same-length returns)
+    tie.close (tie.spec (λ c κs. search needs) slice-write-buf add-result (λ c. search needs) returns)

@@ -8,9 +8,6 @@ use Rattle.frame.specs.WrittenLaws.{written-field, field-room}
 use Rattle.frame.proofs.put_refusal.Statement.{statement}
 use Rattle.frame.proofs.put_refusal.Tie as tie
 
-put-field-requires : tie.Need-put-field-requires
-put-field-requires c κs = search needs
-
 -- the room that each field leaves
 room : (c : tie.After-put-field) → c .put-field .result + 6 ≤ length (c .put-field .last .0)
 room c = field-room _ _ _ _ (c .put-field .ensures) _ (omega arith)
@@ -24,9 +21,6 @@ room-2 c = field-room _ _ _ _ (c .put-field2 .ensures) _ (omega (arith, room (c 
 put-field-requires-3 : tie.Need-put-field-requires-3
 put-field-requires-3 c κs = omega (arith, room-2 (c .before .before .before))
 
-same-length : tie.Need-same-length
-same-length c = search needs
-
 returns : tie.Need-returns
 unfolding refusalLine
 returns c =
@@ -39,8 +33,8 @@ pub put-refusal-spec : {M : Type 1} → statement M
 put-refusal-spec =
     tie.close
     (tie.spec
-    put-field-requires
+    (λ c κs. search needs)
     put-field-requires-2
     put-field-requires-3
-    same-length
+    (λ c. search needs)
     returns)

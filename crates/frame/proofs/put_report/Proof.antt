@@ -8,12 +8,6 @@ use Rattle.frame.specs.WrittenLaws.{written-field, field-room}
 use Rattle.frame.proofs.put_report.Statement.{statement}
 use Rattle.frame.proofs.put_report.Tie as tie
 
-put-field-requires : tie.Need-put-field-requires
-put-field-requires c κs = search needs
-
-verdict-requires : tie.Need-verdict-requires
-verdict-requires c κs = search needs
-
 -- the room that each field leaves
 room : (c : tie.After-put-field) → c .put-field .result + (6 + 3 * c .before .before .before .args .width) ≤ length (c .put-field .last .0)
 room c = field-room _ _ _ _ (c .put-field .ensures) _ (omega arith)
@@ -48,9 +42,6 @@ room-4 c = field-room _ _ _ _ (c .put-field4 .ensures) _ (omega (arith, room-3 (
 put-field-requires-5 : tie.Need-put-field-requires-5
 put-field-requires-5 c κs = omega (arith, room-4 (c .before .before .before))
 
-same-length : tie.Need-same-length
-same-length c = search needs
-
 returns : tie.Need-returns
 unfolding reportLine
 returns c =
@@ -68,11 +59,11 @@ pub put-report-spec : {M : Type 1} → statement M
 put-report-spec =
     tie.close
     (tie.spec
-    put-field-requires
-    verdict-requires
+    (λ c κs. search needs)
+    (λ c κs. search needs)
     put-field-requires-2
     put-field-requires-3
     put-field-requires-4
     put-field-requires-5
-    same-length
+    (λ c. search needs)
     returns)

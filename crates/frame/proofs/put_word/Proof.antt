@@ -4,15 +4,9 @@ use Rattle.frame.specs.Report.{wordLine}
 use Rattle.frame.proofs.put_word.Statement.{statement}
 use Rattle.frame.proofs.put_word.Tie as tie
 
-put-field-requires : tie.Need-put-field-requires
-put-field-requires c κs = search needs
-
-same-length : tie.Need-same-length
-same-length c = search needs
-
 returns : tie.Need-returns
 unfolding wordLine
 returns c = c .before .before .put-field .ensures
 
 pub put-word-spec : {M : Type 1} → statement M
-put-word-spec = tie.close (tie.spec put-field-requires same-length returns)
+put-word-spec = tie.close (tie.spec (λ c κs. search needs) (λ c. search needs) returns)

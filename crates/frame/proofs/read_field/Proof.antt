@@ -70,26 +70,11 @@ abbrev μ-loop : tie.MeasureT-loop
 returns : tie.Need-returns Inv-loop μ-loop
 returns c = sym (field-outside _ _ _ (omega arith))
 
-sub-if2 : tie.Need-sub-if2 Inv-loop μ-loop
-sub-if2 c = search needs
-
 returns-2 : tie.Need-returns-2 Inv-loop μ-loop
 returns-2 c = sym (field-outside _ _ _ (omega arith))
 
 loop-holds : tie.Need-loop-holds Inv-loop μ-loop
 loop-holds c = begin _ _ _ (omega arith)
-
-add-digit-value : tie.Need-add-digit-value Inv-loop μ-loop
-add-digit-value c = search needs
-
-shared-slice-read-digit-value : tie.Need-shared-slice-read-digit-value Inv-loop μ-loop
-shared-slice-read-digit-value c = search needs
-
-digit-value-requires : tie.Need-digit-value-requires Inv-loop μ-loop
-digit-value-requires c κs = search needs
-
-enum-known-digit : tie.Need-enum-known-digit Inv-loop μ-loop
-enum-known-digit c = search needs
 
 enum-told : tie.Need-enum-told Inv-loop μ-loop
 enum-told c = search needs
@@ -112,12 +97,6 @@ mul-value c = omega (arith, fits _ _ _ (omega arith) _ _ (loop-again c) (omega a
 add-value : tie.Need-add-value Inv-loop μ-loop
 add-value c = omega (arith, fits _ _ _ (omega arith) _ _ (loop-again c) (omega arith))
 
-add-i : tie.Need-add-i Inv-loop μ-loop
-add-i c = search needs
-
-loop-less : tie.Need-loop-less Inv-loop μ-loop
-loop-less c = search needs
-
 returns-4 : tie.Need-returns-4 Inv-loop μ-loop
 returns-4 c = all-read _ _ _ (omega arith) _ _ (c .before .loop .inv) (c .loop-test .left)
 
@@ -128,18 +107,18 @@ read-field-spec =
     Inv-loop
     μ-loop
     returns
-    sub-if2
+    (λ c. search needs)
     returns-2
     loop-holds
-    add-digit-value
-    shared-slice-read-digit-value
-    digit-value-requires
-    enum-known-digit
+    (λ c. search needs)
+    (λ c. search needs)
+    (λ c κs. search needs)
+    (λ c. search needs)
     enum-told
     returns-3
     mul-value
     add-value
-    add-i
-    loop-less
+    (λ c. search needs)
+    (λ c. search needs)
     loop-again
     returns-4)

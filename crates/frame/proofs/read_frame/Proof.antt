@@ -18,9 +18,6 @@ use Rattle.frame.specs.Frame.{endDigits, spaced, precisionField, scaleFi
 use Rattle.frame.proofs.read_frame.Statement.{statement}
 use Rattle.frame.proofs.read_frame.Tie as tie
 
-is-spaced-requires : tie.Need-is-spaced-requires
-is-spaced-requires c κs = search needs
-
 returns : tie.Need-returns
 unfolding frameOf
 returns c = refuses (stop (ap not (sym (c .before .is-spaced .ensures)) ∙ c .if1 .taken)) _
@@ -31,12 +28,6 @@ line c = c .before .before .before .args .line .now
 
 spaced-out : (c : tie.Else1) → not (spaced endDigits (line c)) ≡ false
 spaced-out c = ap not (sym (c .before .is-spaced .ensures)) ∙ c .if1 .left
-
-read-field-requires : tie.Need-read-field-requires
-read-field-requires c κs = search needs
-
-enum-known-precision : tie.Need-enum-known-precision
-enum-known-precision c = search needs
 
 enum-told : tie.Need-enum-told
 enum-told c = search needs
@@ -54,15 +45,6 @@ first c = c .before .before .before .before
 precision-is : (c : tie.After-known-told) → precisionField (line (first c)) ≡ Value (c .before .precision .given .0 .0)
 precision-is c = sym (c .before .before .before .read-field .ensures) ∙ c .before .precision .given .1
 
-read-field-requires-2 : tie.Need-read-field-requires-2
-read-field-requires-2 c κs = search needs
-
-enum-known-scale : tie.Need-enum-known-scale
-enum-known-scale c = search needs
-
-enum-told-2 : tie.Need-enum-told-2
-enum-told-2 c = search needs
-
 returns-3 : tie.Need-returns-3
 unfolding frameOf
 returns-3 c =
@@ -76,15 +58,6 @@ second c = c .before .before .before .before
 
 scale-is : (c : tie.After-known-told2) → scaleField (line (first (second c))) ≡ Value (c .before .scale .given .0 .0)
 scale-is c = sym (c .before .before .before .read-field2 .ensures) ∙ c .before .scale .given .1
-
-read-field-requires-3 : tie.Need-read-field-requires-3
-read-field-requires-3 c κs = search needs
-
-enum-known-lower : tie.Need-enum-known-lower
-enum-known-lower c = search needs
-
-enum-told-3 : tie.Need-enum-told-3
-enum-told-3 c = search needs
 
 returns-4 : tie.Need-returns-4
 unfolding frameOf
@@ -100,18 +73,6 @@ third c = c .before .before .before .before
 
 lower-is : (c : tie.After-known-told3) → lowerField (line (first (second (third c)))) ≡ Value (c .before .lower .given .0 .0)
 lower-is c = sym (c .before .before .before .read-field3 .ensures) ∙ c .before .lower .given .1
-
-add-read-field : tie.Need-add-read-field
-add-read-field c = search needs
-
-read-field-requires-4 : tie.Need-read-field-requires-4
-read-field-requires-4 c κs = search needs
-
-enum-known-upper : tie.Need-enum-known-upper
-enum-known-upper c = search needs
-
-enum-told-4 : tie.Need-enum-told-4
-enum-told-4 c = search needs
 
 returns-5 : tie.Need-returns-5
 unfolding frameOf
@@ -149,24 +110,24 @@ pub read-frame-spec : {M : Type 1} → statement M
 read-frame-spec =
     tie.close
     (tie.spec
-    is-spaced-requires
+    (λ c κs. search needs)
     returns
-    read-field-requires
-    enum-known-precision
+    (λ c κs. search needs)
+    (λ c. search needs)
     enum-told
     returns-2
-    read-field-requires-2
-    enum-known-scale
-    enum-told-2
+    (λ c κs. search needs)
+    (λ c. search needs)
+    (λ c. search needs)
     returns-3
-    read-field-requires-3
-    enum-known-lower
-    enum-told-3
+    (λ c κs. search needs)
+    (λ c. search needs)
+    (λ c. search needs)
     returns-4
-    add-read-field
-    read-field-requires-4
-    enum-known-upper
-    enum-told-4
+    (λ c. search needs)
+    (λ c κs. search needs)
+    (λ c. search needs)
+    (λ c. search needs)
     returns-5
     cast-t13
     signed-byte-requires

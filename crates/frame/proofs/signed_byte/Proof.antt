@@ -17,14 +17,8 @@ as-is b h = toZ-pos w32 (omega arith)
 fits : (b : ℕ) → b < 256 → SFits w32 (pos b -ℤ pos 256)
 fits b h = rw (lt-ltb b 256 h) (record { sfits = omega arith })
 
-cast-result : tie.Need-cast-result
-cast-result c = search needs
-
 returns : tie.Need-returns
 returns c = simp (lt-ltb _ _ (c .if1 .taken)) (as-is _ (c .before .pre))
-
-cast-result-2 : tie.Need-cast-result-2
-cast-result-2 c = search needs
 
 sub-result : tie.Need-sub-result
 sub-result c = rw (as-is _ (c .before .pre)) (fits _ (c .before .pre))
@@ -33,4 +27,4 @@ returns-2 : tie.Need-returns-2
 returns-2 c = toZ-ofZ (sub-result c) ∙ rw (as-is _ (c .before .pre), le-ltb _ _ (c .if1 .left))
 
 pub signed-byte-spec : {M : Type 1} → statement M
-signed-byte-spec = tie.close (tie.spec cast-result returns cast-result-2 sub-result returns-2)
+signed-byte-spec = tie.close (tie.spec (λ c. search needs) returns (λ c. search needs) sub-result returns-2)

@@ -30,48 +30,6 @@ ready c =
 within : (c : tie.After-work Inv-loop μ-loop) → c .work .result .moved .used ≤ length (c .work .last .1 .1 .1 .0)
 within c = omega (arith, c .work .ensures .within, c .work .kept .1 .1 .1 .0)
 
-large-buffer-requires : tie.Need-large-buffer-requires Inv-loop μ-loop
-large-buffer-requires c κs = search needs
-
-slice-aggregate-input : tie.Need-slice-aggregate-input Inv-loop μ-loop
-slice-aggregate-input c = search needs
-
-large-buffer-requires-2 : tie.Need-large-buffer-requires-2 Inv-loop μ-loop
-large-buffer-requires-2 c κs = search needs
-
-slice-aggregate-out : tie.Need-slice-aggregate-out Inv-loop μ-loop
-slice-aggregate-out c = search needs
-
-new-requires : tie.Need-new-requires Inv-loop μ-loop
-new-requires c κs = search needs
-
-loop-holds : tie.Need-loop-holds Inv-loop μ-loop
-loop-holds c = search needs
-
-enum-told : tie.Need-enum-told Inv-loop μ-loop
-enum-told c = search needs
-
-enum-told-2 : tie.Need-enum-told-2 Inv-loop μ-loop
-enum-told-2 c = search needs
-
-read-requires : tie.Need-read-requires Inv-loop μ-loop
-read-requires c κs = search needs
-
-tell-unread-requires : tie.Need-tell-unread-requires Inv-loop μ-loop
-tell-unread-requires c κs = search needs
-
-returns : tie.Need-returns Inv-loop μ-loop
-returns c = search needs
-
-count-requires : tie.Need-count-requires Inv-loop μ-loop
-count-requires c κs = search needs
-
-enum-told-3 : tie.Need-enum-told-3 Inv-loop μ-loop
-enum-told-3 c = search needs
-
-returns-2 : tie.Need-returns-2 Inv-loop μ-loop
-returns-2 c = search needs
-
 slice-reshare-prefix-work : tie.Need-slice-reshare-prefix-work Inv-loop μ-loop
 slice-reshare-prefix-work c = ready c .1
 
@@ -90,21 +48,6 @@ slice-reshare-prefix-write-all c = within (c .before .before .before)
 slice-aggregate-write-all : tie.Need-slice-aggregate-write-all Inv-loop μ-loop
 slice-aggregate-write-all c = sym (length-take-le _ _ (within (c .before .before .before .before)))
 
-write-all-requires : tie.Need-write-all-requires Inv-loop μ-loop
-write-all-requires c κs = search needs
-
-tell-unwritten-requires : tie.Need-tell-unwritten-requires Inv-loop μ-loop
-tell-unwritten-requires c κs = search needs
-
-returns-3 : tie.Need-returns-3 Inv-loop μ-loop
-returns-3 c = search needs
-
-sub-turns : tie.Need-sub-turns Inv-loop μ-loop
-sub-turns c = search needs
-
-loop-less : tie.Need-loop-less Inv-loop μ-loop
-loop-less c = search needs
-
 loop-again : tie.Need-loop-again Inv-loop μ-loop
 loop-again c =
     let call = c .before .before .before .before .before .before .before in
@@ -117,38 +60,35 @@ loop-again c =
       omega (arith, inv .3, call .work .kept .1 .1 .1 .0),
     )
 
-returns-4 : tie.Need-returns-4 Inv-loop μ-loop
-returns-4 c = search needs
-
 pub main-spec : {M : Type 1} → statement M
 main-spec =
     tie.close
     (tie.spec
     Inv-loop
     μ-loop
-    large-buffer-requires
-    slice-aggregate-input
-    large-buffer-requires-2
-    slice-aggregate-out
-    new-requires
-    loop-holds
-    enum-told
-    enum-told-2
-    read-requires
-    tell-unread-requires
-    returns
-    count-requires
-    enum-told-3
-    returns-2
+    (λ c κs. search needs)
+    (λ c. search needs)
+    (λ c κs. search needs)
+    (λ c. search needs)
+    (λ c κs. search needs)
+    (λ c. search needs)
+    (λ c. search needs)
+    (λ c. search needs)
+    (λ c κs. search needs)
+    (λ c κs. search needs)
+    (λ c. search needs)
+    (λ c κs. search needs)
+    (λ c. search needs)
+    (λ c. search needs)
     slice-reshare-prefix-work
     slice-aggregate-work
     work-requires
     slice-reshare-prefix-write-all
     slice-aggregate-write-all
-    write-all-requires
-    tell-unwritten-requires
-    returns-3
-    sub-turns
-    loop-less
+    (λ c κs. search needs)
+    (λ c κs. search needs)
+    (λ c. search needs)
+    (λ c. search needs)
+    (λ c. search needs)
     loop-again
-    returns-4)
+    (λ c. search needs))

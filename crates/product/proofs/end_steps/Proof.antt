@@ -15,9 +15,6 @@ use Rattle.product.proofs.Laws.{steps-word}
 use Rattle.product.proofs.end_steps.Statement.{statement}
 use Rattle.product.proofs.end_steps.Tie as tie
 
-product-requires : tie.Need-product-requires
-product-requires c κs = search needs
-
 rounded-units-requires : tie.Need-rounded-units-requires
 rounded-units-requires c κs =
     let a = c .before in
@@ -50,4 +47,4 @@ returns c =
     ap (λ (z : ℕ). z * 2 ^ E) (c .steps-of .ensures) ∙ finer (v .significand) (v .binade) E ∙ is (c .before) .value
 
 pub end-steps-spec : {M : Type 1} → statement M
-end-steps-spec = tie.close (tie.spec product-requires rounded-units-requires steps-of-requires returns)
+end-steps-spec = tie.close (tie.spec (λ c κs. search needs) rounded-units-requires steps-of-requires returns)

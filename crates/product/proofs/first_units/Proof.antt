@@ -19,9 +19,6 @@ use Rattle.product.proofs.Laws.{product-word}
 use Rattle.product.proofs.first_units.Statement.{statement}
 use Rattle.product.proofs.first_units.Tie as tie
 
-magnitude-requires : tie.Need-magnitude-requires
-magnitude-requires c κs = search needs
-
 -- the low significand's size
 size-is : (c : tie.After-magnitude) → c .magnitude .result ≡ natAbs (c .before .before .args .parts .low)
 size-is c =
@@ -43,9 +40,6 @@ returns c =
     let none : m .magnitude .result * a .args .x ≡ 0 = omega (arith, c .if1 .taken) in
     sym (first-none (contextAt (a .args .p .bits)) (a .args .parts) (a .pre .1) (a .args .x) (a .pre .2) (ap (λ (s : ℕ). s * a .args .x) (sym (size-is m)) ∙ none))
 
-word-digits-requires : tie.Need-word-digits-requires
-word-digits-requires c κs = search needs
-
 -- what is dropped and how far the rest is shifted
 step : (c : tie.After-word-digits) → let m = c .before .before in let a = m .before .before in FirstStep (contextAt (a .args .p .bits)) (a .args .parts .places) (m .magnitude .result * a .args .x) (c .word-digits .result) (firstUnits (contextAt (a .args .p .bits)) (wholeOf (contextAt (a .args .p .bits)) (a .args .parts)) (a .args .x))
 step c =
@@ -64,17 +58,8 @@ nearest-word-requires c κs =
     let a = digits .before .before .before .before in
     (omega (arith, s .digits, a .pre .1 .two), omega (arith, digits .word-digits .ensures .1, a .pre .1 .two))
 
-scale-requires : tie.Need-scale-requires
-scale-requires c κs = search needs
-
-add-result : tie.Need-add-result
-add-result c = search needs
-
 sub-result : tie.Need-sub-result
 sub-result c = omega (arith, step (c .before .before .before .before) .reach, c .before .scale .ensures)
-
-cast-result : tie.Need-cast-result
-cast-result c = search needs
 
 shl-result : tie.Need-shl-result
 shl-result c = omega (arith, step (c .before .before .before .before .before) .room, c .before .before .scale .ensures, c .before .before .before .before .before .before .before .before .before .pre .0)
@@ -100,15 +85,15 @@ pub first-units-spec : {M : Type 1} → statement M
 first-units-spec =
     tie.close
     (tie.spec
-    magnitude-requires
+    (λ c κs. search needs)
     mul-exact
     returns
-    word-digits-requires
+    (λ c κs. search needs)
     sub-dropped
     nearest-word-requires
-    scale-requires
-    add-result
+    (λ c κs. search needs)
+    (λ c. search needs)
     sub-result
-    cast-result
+    (λ c. search needs)
     shl-result
     returns-2)

@@ -33,12 +33,6 @@ high-word c =
 mul-from-word : tie.Need-mul-from-word
 mul-from-word c = record { fits = omega (arith, high-word c) }
 
-from-word-requires : tie.Need-from-word-requires
-from-word-requires c κs = search needs
-
-step-requires : tie.Need-step-requires
-step-requires c κs = search needs
-
 -- and two words hold it shifted
 shifted-room : (m k n : ℕ) → Kept n → m ≤ 2 ^ 48 → k ≡ scaleOf n + 1 - n → (k < 128) × (m < 2 ^ (128 - k))
 shifted-room m k n N h e = let t : 2 ^ 49 ≤ 2 ^ (128 - k) = pow-mono {i = 49} {j = 128 - k} (omega arith) in (omega arith, omega arith)
@@ -47,9 +41,6 @@ shifted-left-requires : tie.Need-shifted-left-requires
 shifted-left-requires c κs =
     let w = c .before in
     rw (w .from-word .ensures) (shifted-room (w .before .before .args .parts .high * w .before .before .args .x) (c .step .result) (w .before .before .args .p .bits) (w .before .before .pre .0) (high-word (w .before)) (c .step .ensures))
-
-from-word-requires-2 : tie.Need-from-word-requires-2
-from-word-requires-2 c κs = search needs
 
 -- the two terms
 shifted : (c : tie.After-shifted-left) → let a = c .before .before .before .before in valueOf (c .shifted-left .result) ≡ a .args .parts .high * a .args .x * step (contextAt (a .args .p .bits))
@@ -115,10 +106,10 @@ fused-units-spec =
     tie.close
     (tie.spec
     mul-from-word
-    from-word-requires
-    step-requires
+    (λ c κs. search needs)
+    (λ c κs. search needs)
     shifted-left-requires
-    from-word-requires-2
+    (λ c κs. search needs)
     difference-requires
     returns
     sum-requires

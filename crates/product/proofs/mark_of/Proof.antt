@@ -10,19 +10,10 @@ use Rattle.product.proofs.Laws.{steps-word}
 use Rattle.product.proofs.mark_of.Statement.{statement}
 use Rattle.product.proofs.mark_of.Tie as tie
 
-end-steps-requires : tie.Need-end-steps-requires
-end-steps-requires c κs = search needs
-
-end-steps-requires-2 : tie.Need-end-steps-requires-2
-end-steps-requires-2 c κs = search needs
-
 steps-of-requires : tie.Need-steps-of-requires
 steps-of-requires c κs =
     let a = c .before .before .before in
     (a .pre .3, steps-word (a .args .f .precision .bits) (a .args .v .significand) (a .args .v .binade) (a .pre .0 .precision) (a .pre .2 .most) (a .pre .3))
-
-compared-requires : tie.Need-compared-requires
-compared-requires c κs = search needs
 
 returns : tie.Need-returns
 returns c =
@@ -36,4 +27,4 @@ returns c =
     ∙ sym (mark-steps (contextOf f) (sound-fine f (a .pre .0) .some) (lowerOf f) (upperOf f) (a .args .x) (a .args .v) (lower .end-steps .result) (upper .end-steps2 .result) (lower .end-steps .ensures) (upper .end-steps2 .ensures))
 
 pub mark-of-spec : {M : Type 1} → statement M
-mark-of-spec = tie.close (tie.spec end-steps-requires end-steps-requires-2 steps-of-requires compared-requires returns)
+mark-of-spec = tie.close (tie.spec (λ c κs. search needs) (λ c κs. search needs) steps-of-requires (λ c κs. search needs) returns)

@@ -16,9 +16,6 @@ use Rattle.product.specs.AnswerLaws.{significand-in}
 use Rattle.product.proofs.multiply.Statement.{statement}
 use Rattle.product.proofs.multiply.Tie as tie
 
-is-intact-requires : tie.Need-is-intact-requires
-is-intact-requires c κs = search needs
-
 returns : tie.Need-returns
 unfolding multiplied
 returns c = refuses (stop (ap not (sym (c .before .is-intact .ensures)) ∙ c .if1 .taken)) _
@@ -55,9 +52,6 @@ mark-of-requires c κs =
     let is = sound-product (a .f) s (a .x) (bits range) in
     (s, bits range, rw (c .product-of .ensures) (is .bits), rw (c .product-of .ensures) (is .binade))
 
-answer-requires : tie.Need-answer-requires
-answer-requires c κs = search needs
-
 returns-3 : tie.Need-returns-3
 unfolding multiplied
 returns-3 c =
@@ -73,11 +67,11 @@ pub multiply-spec : {M : Type 1} → statement M
 multiply-spec =
     tie.close
     (tie.spec
-    is-intact-requires
+    (λ c κs. search needs)
     returns
     significand-out-requires
     returns-2
     product-of-requires
     mark-of-requires
-    answer-requires
+    (λ c κs. search needs)
     returns-3)

@@ -10,11 +10,5 @@ first-units-requires c κs =
     let f = a .args .f in
     (a .pre .0 .precision, sound-parts f (a .pre .0), a .pre .1)
 
-second-step-requires : tie.Need-second-step-requires
-second-step-requires c κs = search needs
-
-returns : tie.Need-returns
-returns c = search needs
-
 pub product-of-spec : {M : Type 1} → statement M
-product-of-spec = tie.close (tie.spec first-units-requires second-step-requires returns)
+product-of-spec = tie.close (tie.spec first-units-requires (λ c κs. search needs) (λ c. search needs))

@@ -16,9 +16,6 @@ use Rattle.product.specs.StepLaws.{Dropped, dropped}
 use Rattle.product.proofs.rounded_units.Statement.{statement}
 use Rattle.product.proofs.rounded_units.Tie as tie
 
-round-wide-requires : tie.Need-round-wide-requires
-round-wide-requires c κs = search needs
-
 -- the exponent that was returned
 pub record Exponent (E : ℕ) (e : ℤ) : Type 0 where
   pub count : ℕ
@@ -42,9 +39,6 @@ exponent c =
 cast-t5 : tie.Need-cast-t5
 cast-t5 c = let e = exponent c in rw (e .is) (tt, record { fits = omega (arith, e .small) })
 
-low-dropped-requires : tie.Need-low-dropped-requires
-low-dropped-requires c κs = search needs
-
 sub-t7 : tie.Need-sub-t7
 sub-t7 c = let e = exponent (c .before) in rw (e .is, c .low-dropped .ensures) (e .least)
 
@@ -57,4 +51,4 @@ returns c =
     ∙ ap (λ (r : Rounded). record { significand = r .significand; binade = natAbs (r .exponent) - scaleOf (c .before .before .before .before .args .p .bits) }) (told .ensures)
 
 pub rounded-units-spec : {M : Type 1} → statement M
-rounded-units-spec = tie.close (tie.spec round-wide-requires cast-t5 low-dropped-requires sub-t7 returns)
+rounded-units-spec = tie.close (tie.spec (λ c κs. search needs) cast-t5 (λ c κs. search needs) sub-t7 returns)

@@ -10,18 +10,12 @@ use borrow.Author.Tests.{lt-ltb, le-ltb, le-leb, lt-leb}
 use Rattle.product.proofs.significand_out.Statement.{statement}
 use Rattle.product.proofs.significand_out.Tie as tie
 
-least-requires : tie.Need-least-requires
-least-requires c κs = search needs
-
 returns : tie.Need-returns
 returns c =
     let low = c .before in
     let a = low .before .args in
     let below : a .x < 2 ^ (a .p .bits - 1) = rw (low .least .ensures) at (c .if1 .taken) in
     rw (lt-ltb (a .x) (2 ^ (a .p .bits - 1)) below)
-
-most-requires : tie.Need-most-requires
-most-requires c κs = search needs
 
 -- the last number below a power of two
 past-most : (m k x : ℕ) → m ≡ 2 ^ k - 1 → ltb m x ≡ leb (2 ^ k) x
@@ -39,4 +33,4 @@ returns-2 c =
     rw (le-ltb (a .x) (2 ^ (a .p .bits - 1)) from) (past-most (c .most .result) (a .p .bits) (a .x) (c .most .ensures))
 
 pub significand-out-spec : {M : Type 1} → statement M
-significand-out-spec = tie.close (tie.spec least-requires returns most-requires returns-2)
+significand-out-spec = tie.close (tie.spec (λ c κs. search needs) returns (λ c κs. search needs) returns-2)

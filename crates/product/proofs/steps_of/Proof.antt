@@ -4,14 +4,8 @@ use borrow.Author.Needs.{needs}
 use Rattle.product.proofs.steps_of.Statement.{statement}
 use Rattle.product.proofs.steps_of.Tie as tie
 
-cast-result : tie.Need-cast-result
-cast-result c = search needs
-
-shl-result : tie.Need-shl-result
-shl-result c = search needs
-
 returns : tie.Need-returns
 returns c = mod-eq-of-lt (c .before .before .pre .1)
 
 pub steps-of-spec : {M : Type 1} → statement M
-steps-of-spec = tie.close (tie.spec cast-result shl-result returns)
+steps-of-spec = tie.close (tie.spec (λ c. search needs) (λ c. search needs) returns)

@@ -6,9 +6,6 @@ use Rattle.product.specs.SoundLaws.{sound-product}
 use Rattle.product.proofs.trial.Statement.{statement}
 use Rattle.product.proofs.trial.Tie as tie
 
-product-of-requires : tie.Need-product-of-requires
-product-of-requires c κs = search needs
-
 mark-of-requires : tie.Need-mark-of-requires
 mark-of-requires c κs =
     let a = c .before in
@@ -21,4 +18,4 @@ returns c =
     c .mark-of .ensures ∙ ap (markBy (a .args .f) (a .args .x)) (c .before .product-of .ensures)
 
 pub trial-spec : {M : Type 1} → statement M
-trial-spec = tie.close (tie.spec product-of-requires mark-of-requires returns)
+trial-spec = tie.close (tie.spec (λ c κs. search needs) mark-of-requires returns)

@@ -21,18 +21,6 @@ use Rattle.reading.specs.ReadingLaws.{number-normalized, number-is}
 use Rattle.reading.proofs.finish.Statement.{statement}
 use Rattle.reading.proofs.finish.Tie as tie
 
-field-of-requires : tie.Need-field-of-requires
-field-of-requires c κs = search needs
-
-lifted-requires : tie.Need-lifted-requires
-lifted-requires c κs = search needs
-
-add-place : tie.Need-add-place
-add-place c = search needs
-
-add-place-2 : tie.Need-add-place-2
-add-place-2 c = search needs
-
 -- the product's exponent, and its count
 module _ (c : tie.After-struct-known) where
   abbrev a : tie.Start
@@ -59,12 +47,6 @@ returns-2 : tie.Need-returns-2
 unfolding finished
 returns-2 c = let p = c .before .before in refuses (stop (out-high binary32 (exponent p) (count p) (place p) (omega (arith, c .if2 .taken)))) _
 
-is-minus-requires : tie.Need-is-minus-requires
-is-minus-requires c κs = search needs
-
-cast-float-of : tie.Need-cast-float-of
-cast-float-of c = search needs
-
 -- 23 lets the exponent through
 within : (c : tie.Else2) → let p = c .before .before in (101 ≤ count p) × (count p ≤ 2 * emax binary32 + 100)
 within c = (omega (arith, c .before .if1 .left), omega (arith, c .if2 .left))
@@ -76,12 +58,6 @@ float-of-requires c κs =
     let s = a p .args in
     number-normalized binary32 (signOf binary32 (s .bits)) (s .v) (raised (s .f) (s .bits)) (a p .pre .3) (count p) (place p) (within high .0) (within high .1)
 
-significand-of-requires : tie.Need-significand-of-requires
-significand-of-requires c κs = search needs
-
-cast-mark-of : tie.Need-cast-mark-of
-cast-mark-of c = search needs
-
 mark-of-requires : tie.Need-mark-of-requires
 mark-of-requires c κs =
     let s = a (c .before .before .before .before .before .before) in
@@ -91,9 +67,6 @@ mark-of-requires c κs =
       subst (λ (n : ℕ). HasBits n (s .args .v .significand)) same (s .pre .3),
       s .pre .4,
     )
-
-answer-requires : tie.Need-answer-requires
-answer-requires c κs = search needs
 
 returns-3 : tie.Need-returns-3
 unfolding finished
@@ -116,17 +89,17 @@ pub finish-spec : {M : Type 1} → statement M
 finish-spec =
     tie.close
     (tie.spec
-    field-of-requires
-    lifted-requires
-    add-place
-    add-place-2
+    (λ c κs. search needs)
+    (λ c κs. search needs)
+    (λ c. search needs)
+    (λ c. search needs)
     returns
     returns-2
-    is-minus-requires
-    cast-float-of
+    (λ c κs. search needs)
+    (λ c. search needs)
     float-of-requires
-    significand-of-requires
-    cast-mark-of
+    (λ c κs. search needs)
+    (λ c. search needs)
     mark-of-requires
-    answer-requires
+    (λ c κs. search needs)
     returns-3)

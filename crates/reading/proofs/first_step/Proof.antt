@@ -11,6 +11,7 @@ use lib.Ieee.Exact.{HasValue}
 use lib.Pow.{pow-pos}
 use borrow.Author.Needs.{needs}
 use Rattle.rounding.specs.Signed.{negative}
+use Rattle.wide.specs.Value.{wordBits}
 use Rattle.floats.specs.Fields.{unitAt}
 use Rattle.floats.specs.Numbers.{value-number}
 use Rattle.floats.specs.Narrow.{stored-exactly}
@@ -23,18 +24,6 @@ use Rattle.product.specs.Units.{firstUnits}
 use Rattle.reading.specs.FirstLaws.{K32, low-number, first-float, first-told}
 use Rattle.reading.proofs.first_step.Statement.{statement}
 use Rattle.reading.proofs.first_step.Tie as tie
-
-scale-requires : tie.Need-scale-requires
-scale-requires c κs = search needs
-
-unit-at-requires : tie.Need-unit-at-requires
-unit-at-requires c κs = search needs
-
-sub-narrow-float : tie.Need-sub-narrow-float
-sub-narrow-float c = search needs
-
-narrow-float-requires : tie.Need-narrow-float-requires
-narrow-float-requires c κs = search needs
 
 module _ (c : tie.After-narrow-float) where
   abbrev a : tie.Start
@@ -57,7 +46,7 @@ module _ (c : tie.After-narrow-float) where
       (stored-exactly binary32 (prec binary32) (lit< tt) (lit≤ tt) false x (hid binary32) x (prec binary32 - 1) (pow-pos (prec binary32 - 1)) (le-of-lt (a .pre .2 .most)) (lit≤ tt) (lit≤ tt) refl)
 
   abbrev Tells : ℕ → Type 0
-  Tells d = Told binary32 64 d (toBits binary32 (mul binary32 (f .applied .low) (c .narrow-float .result))) (firstUnits K32 (wholeOf K32 (f .parts)) (a .args .x))
+  Tells d = Told binary32 wordBits d (toBits binary32 (mul binary32 (f .applied .low) (c .narrow-float .result))) (firstUnits K32 (wholeOf K32 (f .parts)) (a .args .x))
 
   bits-tell : Tells (c .before .unit-at .result)
   bits-tell = subst Tells (sym unit-is) (first-told f (a .pre .0) (a .pre .1) (a .args .x) (a .pre .2) (f .applied .low) (c .narrow-float .result) low-is x-is)
@@ -73,4 +62,4 @@ returns c =
     c .units-of .ensures ∙ bits-tell (c .before) .units ∙ ap (λ (n : ℕ). firstUnits (contextAt n) (wholeOf (contextAt n) (s .args .f .parts)) (s .args .x)) (sym (s .pre .1))
 
 pub first-step-spec : {M : Type 1} → statement M
-first-step-spec = tie.close (tie.spec scale-requires unit-at-requires sub-narrow-float narrow-float-requires units-of-requires returns)
+first-step-spec = tie.close (tie.spec (λ c κs. search needs) (λ c κs. search needs) (λ c. search needs) (λ c κs. search needs) units-of-requires returns)

@@ -19,21 +19,12 @@ use Rattle.reading.specs.AnswerLaws.{is-intact, precision-is, is-normal,
 use Rattle.reading.proofs.read.Statement.{statement}
 use Rattle.reading.proofs.read.Tie as tie
 
-take-requires : tie.Need-take-requires
-take-requires c κs = search needs
-
-enum-known-number : tie.Need-enum-known-number
-enum-known-number c = search needs
-
 enum-told : tie.Need-enum-told
 enum-told c = search needs
 
 float-from-bits-t7 : tie.Need-float-from-bits-t7
 unfolding nanBits
 float-from-bits-t7 c = tt
-
-enum-known-bits : tie.Need-enum-known-bits
-enum-known-bits c = search needs
 
 -- ---- a normal reading
 module _ (c : tie.After-known-told2) where
@@ -89,11 +80,11 @@ pub read-spec : {M : Type 1} → statement M
 read-spec =
     tie.close
     (tie.spec
-    take-requires
-    enum-known-number
+    (λ c κs. search needs)
+    (λ c. search needs)
     enum-told
     float-from-bits-t7
-    enum-known-bits
+    (λ c. search needs)
     two-steps-requires
     finish-requires
     returns

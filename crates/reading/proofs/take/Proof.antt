@@ -14,9 +14,6 @@ use Rattle.reading.specs.Reading.{zero, normal, kindOf}
 use Rattle.reading.proofs.take.Statement.{statement}
 use Rattle.reading.proofs.take.Tie as tie
 
-is-intact-requires : tie.Need-is-intact-requires
-is-intact-requires c κs = search needs
-
 returns : tie.Need-returns
 returns c = refuses (stop (ap not (sym (c .before .is-intact .ensures)) ∙ c .if1 .taken)) _
 
@@ -30,15 +27,6 @@ returns-2 c = refuses (pass (through (c .before .before)) (stop (ap not (ne-eqb 
 -- and 20
 precise : (c : tie.Else2) → not (eqb (c .before .before .before .before .args .f .precision .bits) (prec binary32)) ≡ false
 precise c = ap not (eq-eqb _ (prec binary32) (c .if2 .left))
-
-bits-of-requires : tie.Need-bits-of-requires
-bits-of-requires c κs = search needs
-
-field-of-requires : tie.Need-field-of-requires
-field-of-requires c κs = search needs
-
-digits-of-requires : tie.Need-digits-of-requires
-digits-of-requires c κs = search needs
 
 -- ---- the reading's fields
 module _ (c : tie.After-digits-of) where
@@ -96,12 +84,12 @@ pub take-spec : {M : Type 1} → statement M
 take-spec =
     tie.close
     (tie.spec
-    is-intact-requires
+    (λ c κs. search needs)
     returns
     returns-2
-    bits-of-requires
-    field-of-requires
-    digits-of-requires
+    (λ c κs. search needs)
+    (λ c κs. search needs)
+    (λ c κs. search needs)
     returns-3
     returns-4
     returns-5

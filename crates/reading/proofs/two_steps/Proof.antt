@@ -9,12 +9,6 @@ use Rattle.product.specs.Product.{productBy}
 use Rattle.reading.proofs.two_steps.Statement.{statement}
 use Rattle.reading.proofs.two_steps.Tie as tie
 
-significand-of-requires : tie.Need-significand-of-requires
-significand-of-requires c κs = search needs
-
-cast-second-step : tie.Need-cast-second-step
-cast-second-step c = search needs
-
 -- the significand has the format's digits
 in-range : (c : tie.After-significand-of) → HasBits (prec binary32) (c .significand-of .result)
 in-range c = rw (c .significand-of .ensures) (significand-bits binary32 (c .before .args .bits))
@@ -35,4 +29,4 @@ returns : tie.Need-returns
 returns c = let x = c .before .before in c .second-step .ensures ∙ ap (productBy (x .before .args .f)) (x .significand-of .ensures)
 
 pub two-steps-spec : {M : Type 1} → statement M
-two-steps-spec = tie.close (tie.spec significand-of-requires cast-second-step first-step-requires second-step-requires returns)
+two-steps-spec = tie.close (tie.spec (λ c κs. search needs) (λ c. search needs) first-step-requires second-step-requires returns)

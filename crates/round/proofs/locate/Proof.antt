@@ -14,9 +14,6 @@ returns c = sym (located-exact (c .before .args .r) (2 ^ c .before .args .k) (c 
 sub-power : tie.Need-sub-power
 sub-power c = some-digit (c .before .args .r) (c .before .args .k) (c .if1 .left) (c .before .pre .1)
 
-power-requires : tie.Need-power-requires
-power-requires c κs = search needs
-
 returns-2 : tie.Need-returns-2
 returns-2 c =
     let after = c .before in
@@ -39,4 +36,4 @@ returns-4 c =
     sym (located-above (a .r) h (2 ^ a .k) (half-of (a .k) h (sub-power (after .before)) (after .power .ensures)) (omega (arith, c .before .if2 .left, c .if3 .left)))
 
 pub locate-spec : {M : Type 1} → statement M
-locate-spec = tie.close (tie.spec returns sub-power power-requires returns-2 returns-3 returns-4)
+locate-spec = tie.close (tie.spec returns sub-power (λ c κs. search needs) returns-2 returns-3 returns-4)

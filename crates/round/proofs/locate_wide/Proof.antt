@@ -10,12 +10,6 @@ use Rattle.round.proofs.Laws.{some-digit, half-of}
 use Rattle.round.proofs.locate_wide.Statement.{statement}
 use Rattle.round.proofs.locate_wide.Tie as tie
 
-from-word-requires : tie.Need-from-word-requires
-from-word-requires c κs = search needs
-
-same-requires : tie.Need-same-requires
-same-requires c κs = search needs
-
 returns : tie.Need-returns
 returns c =
     let zero = c .before .before .from-word in
@@ -31,12 +25,6 @@ not-zero c e =
 sub-wide-power : tie.Need-sub-wide-power
 sub-wide-power c = let a = c .before .before .before in some-digit (valueOf (a .args .r)) (a .args .k) (not-zero c) (a .pre .1)
 
-wide-power-requires : tie.Need-wide-power-requires
-wide-power-requires c κs = search needs
-
-below-requires : tie.Need-below-requires
-below-requires c κs = search needs
-
 half-is : (c : tie.After-wide-power) → valueOf (c .wide-power .result) * 2 ≡ 2 ^ c .before .before .before .before .args .k
 half-is c = half-of (c .before .before .before .before .args .k) (valueOf (c .wide-power .result)) (sub-wide-power (c .before)) (c .wide-power .ensures)
 
@@ -46,9 +34,6 @@ returns-2 c =
     let a = after .before .before .before .before .args in
     let h = valueOf (after .wide-power .result) in
     sym (located-below (valueOf (a .r)) h (2 ^ a .k) (half-is after) (not-zero (after .before)) (ltb-true (valueOf (a .r)) h (sym (c .before .below .ensures) ∙ c .if2 .taken)))
-
-same-requires-2 : tie.Need-same-requires-2
-same-requires-2 c κs = search needs
 
 returns-3 : tie.Need-returns-3
 returns-3 c =
@@ -71,4 +56,4 @@ returns-4 c =
 
 pub locate-wide-spec : {M : Type 1} → statement M
 locate-wide-spec =
-    tie.close (tie.spec from-word-requires same-requires returns sub-wide-power wide-power-requires below-requires returns-2 same-requires-2 returns-3 returns-4)
+    tie.close (tie.spec (λ c κs. search needs) (λ c κs. search needs) returns sub-wide-power (λ c κs. search needs) (λ c κs. search needs) returns-2 (λ c κs. search needs) returns-3 returns-4)

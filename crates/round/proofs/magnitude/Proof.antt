@@ -55,8 +55,5 @@ cast-result-2 c =
     let k = toZ-ofZ w64 z (c .before .fits .z) in
     rw k (not-below z (rw k at (c .if1 .left)), size-fits z (c .before .fits .z))
 
-returns-2 : tie.Need-returns-2
-returns-2 c = search needs
-
 pub magnitude-spec : {M : Type 1} → statement M
-magnitude-spec = tie.close (tie.spec add-result sub-result cast-result add-result-2 returns cast-result-2 returns-2)
+magnitude-spec = tie.close (tie.spec add-result sub-result cast-result add-result-2 returns cast-result-2 (λ c. search needs))

@@ -11,9 +11,6 @@ use Rattle.round.proofs.Laws.{quotient-room}
 use Rattle.round.proofs.nearest_word.Statement.{statement}
 use Rattle.round.proofs.nearest_word.Tie as tie
 
-power-requires : tie.Need-power-requires
-power-requires c κs = search needs
-
 rem-locate : tie.Need-rem-locate
 rem-locate c = rw (c .power .ensures) (pow-pos (c .before .args .k))
 
@@ -41,4 +38,4 @@ returns c =
     λ i. record { taken = t i; location = l i }
 
 pub nearest-word-spec : {M : Type 1} → statement M
-nearest-word-spec = tie.close (tie.spec power-requires rem-locate locate-requires div-choose-neighbour choose-neighbour-requires returns)
+nearest-word-spec = tie.close (tie.spec (λ c κs. search needs) rem-locate locate-requires div-choose-neighbour choose-neighbour-requires returns)

@@ -13,21 +13,6 @@ use Rattle.rounding.specs.RoundLaws.{minus-zero}
 use Rattle.round.proofs.normalise.Statement.{statement}
 use Rattle.round.proofs.normalise.Tie as tie
 
-power-requires : tie.Need-power-requires
-power-requires c κs = search needs
-
-sub-power : tie.Need-sub-power
-sub-power c = search needs
-
-power-requires-2 : tie.Need-power-requires-2
-power-requires-2 c κs = search needs
-
-add-t9 : tie.Need-add-t9
-add-t9 c = search needs
-
-cast-t10 : tie.Need-cast-t10
-cast-t10 c = search needs
-
 returns : tie.Need-returns
 unfolding normalised
 returns c =
@@ -36,9 +21,6 @@ returns c =
     let room : a .dropped + 1 < 2 ^ 31 = omega arith in
     let exponent = toZ-pos w32 room ∙ ap pos (add-one (a .dropped)) ∙ sym (minus-zero (suc (a .dropped))) in
     rw (eq-eqb (a .kept) (2 ^ a .n) (c .before .if1 .taken ∙ s .power .ensures)) (λ i. record { significand = c .power2 .ensures i; exponent = exponent i; location = a .l })
-
-cast-t11 : tie.Need-cast-t11
-cast-t11 c = search needs
 
 returns-2 : tie.Need-returns-2
 unfolding normalised
@@ -49,4 +31,4 @@ returns-2 c =
     rw (ne-eqb (a .kept) (2 ^ a .n) (λ e. c .if1 .left (e ∙ sym (s .power .ensures))), toZ-pos w32 room, minus-zero (a .dropped))
 
 pub normalise-spec : {M : Type 1} → statement M
-normalise-spec = tie.close (tie.spec power-requires sub-power power-requires-2 add-t9 cast-t10 returns cast-t11 returns-2)
+normalise-spec = tie.close (tie.spec (λ c κs. search needs) (λ c. search needs) (λ c κs. search needs) (λ c. search needs) (λ c. search needs) returns (λ c. search needs) returns-2)

@@ -20,12 +20,6 @@ use Rattle.round.proofs.Laws.{negative-is}
 use Rattle.round.proofs.round_signed.Statement.{statement}
 use Rattle.round.proofs.round_signed.Tie as tie
 
-magnitude-requires : tie.Need-magnitude-requires
-magnitude-requires c κs = search needs
-
-round-word-requires : tie.Need-round-word-requires
-round-word-requires c κs = search needs
-
 -- a significand of n bits, or zero, is one that a signed word holds
 below : (rule : Rule) (n x : ℕ) → 0 < n → n < 64 → rounded rule n x 1 .significand < halfWord
 unfolding rounded
@@ -54,4 +48,4 @@ returns c =
     (λ i. record { significand = s i; exponent = e i; location = word .round-word .result .location }) ∙ ap (withSign (negative z)) r
 
 pub round-signed-spec : {M : Type 1} → statement M
-round-signed-spec = tie.close (tie.spec magnitude-requires round-word-requires with-sign-requires returns)
+round-signed-spec = tie.close (tie.spec (λ c κs. search needs) (λ c κs. search needs) with-sign-requires returns)

@@ -16,17 +16,11 @@ use Rattle.round.proofs.Laws.{longer, kept-digits}
 use Rattle.round.proofs.round_wide.Statement.{statement}
 use Rattle.round.proofs.round_wide.Tie as tie
 
-round-word-requires : tie.Need-round-word-requires
-round-word-requires c κs = search needs
-
 returns : tie.Need-returns
 returns c =
     let a = c .before .before .args in
     let word : a .u .lo ≡ valueOf (a .u) = omega (arith, c .before .if1 .taken) in
     c .round-word .ensures ∙ ap (λ (z : ℕ). rounded (ruleOf (a .rule)) (a .n) z 1) word
-
-digits-requires : tie.Need-digits-requires
-digits-requires c κs = search needs
 
 -- more than 64 digits
 long : (c : tie.After-digits) → 64 < c .digits .result
@@ -37,9 +31,6 @@ sub-k c = omega (arith, long c, c .before .before .pre .1)
 
 shifted-right-requires : tie.Need-shifted-right-requires
 shifted-right-requires c κs = search needs
-
-low-digits-requires : tie.Need-low-digits-requires
-low-digits-requires c κs = search needs
 
 locate-wide-requires : tie.Need-locate-wide-requires
 locate-wide-requires c κs =
@@ -61,9 +52,6 @@ kept-word c =
 
 choose-neighbour-requires : tie.Need-choose-neighbour-requires
 choose-neighbour-requires c κs = kept-word (c .before .before) .1
-
-normalise-requires : tie.Need-normalise-requires
-normalise-requires c κs = search needs
 
 returns-2 : tie.Need-returns-2
 unfolding nearest
@@ -89,13 +77,13 @@ pub round-wide-spec : {M : Type 1} → statement M
 round-wide-spec =
     tie.close
     (tie.spec
-    round-word-requires
+    (λ c κs. search needs)
     returns
-    digits-requires
+    (λ c κs. search needs)
     sub-k
     shifted-right-requires
-    low-digits-requires
+    (λ c κs. search needs)
     locate-wide-requires
     choose-neighbour-requires
-    normalise-requires
+    (λ c κs. search needs)
     returns-2)

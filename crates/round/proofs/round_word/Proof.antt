@@ -15,9 +15,6 @@ returns : tie.Need-returns
 unfolding rounded
 returns c = rw (c .if1 .taken)
 
-word-digits-requires : tie.Need-word-digits-requires
-word-digits-requires c κs = search needs
-
 widened-requires : tie.Need-widened-requires
 widened-requires c κs =
     let digits = c .before .word-digits in
@@ -34,15 +31,6 @@ returns-2 c =
     let a = s .before .before in
     c .widened .ensures ∙ rounded-few (ruleOf (a .args .rule)) (a .args .n) (a .pre .0) (a .args .x) (s .word-digits .result) (s .word-digits .ensures .0) (some (a .args .x) (s .before .if1 .left)) (c .before .if2 .taken)
 
-sub-k : tie.Need-sub-k
-sub-k c = search needs
-
-nearest-word-requires : tie.Need-nearest-word-requires
-nearest-word-requires c κs = search needs
-
-normalise-requires : tie.Need-normalise-requires
-normalise-requires c κs = search needs
-
 returns-3 : tie.Need-returns-3
 returns-3 c =
     let s = c .before .before .before in
@@ -53,4 +41,4 @@ returns-3 c =
     ∙ rounded-many (ruleOf (a .args .rule)) (a .args .n) (a .pre .0) (a .args .x) (s .word-digits .result) (s .word-digits .ensures .0) (some (a .args .x) (s .before .if1 .left)) (c .before .before .if2 .left)
 
 pub round-word-spec : {M : Type 1} → statement M
-round-word-spec = tie.close (tie.spec returns word-digits-requires widened-requires returns-2 sub-k nearest-word-requires normalise-requires returns-3)
+round-word-spec = tie.close (tie.spec returns (λ c κs. search needs) widened-requires returns-2 (λ c. search needs) (λ c κs. search needs) (λ c κs. search needs) returns-3)

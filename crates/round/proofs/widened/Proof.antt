@@ -11,18 +11,6 @@ use Rattle.round.proofs.Laws.{neg-is, neg-fits}
 use Rattle.round.proofs.widened.Statement.{statement}
 use Rattle.round.proofs.widened.Tie as tie
 
-sub-shift : tie.Need-sub-shift
-sub-shift c = search needs
-
-cast-t5 : tie.Need-cast-t5
-cast-t5 c = search needs
-
-shl-t6 : tie.Need-shl-t6
-shl-t6 c = search needs
-
-cast-t7 : tie.Need-cast-t7
-cast-t7 c = search needs
-
 sub-t8 : tie.Need-sub-t8
 sub-t8 c =
     let shift = c .args .n - c .args .b in
@@ -36,4 +24,4 @@ returns c =
     rw (toZ-pos w32 small, neg-is, toZ-ofZ w32 _ (neg-fits w32 (pos shift) small), shl-exact (c .args .b) shift 64 (c .pre .2) (omega arith))
 
 pub widened-spec : {M : Type 1} → statement M
-widened-spec = tie.close (tie.spec sub-shift cast-t5 shl-t6 cast-t7 sub-t8 returns)
+widened-spec = tie.close (tie.spec (λ c. search needs) (λ c. search needs) (λ c. search needs) (λ c. search needs) sub-t8 returns)

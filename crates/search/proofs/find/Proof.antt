@@ -5,11 +5,8 @@ use Rattle.search.specs.declared.Trace.{Trace}
 use Rattle.search.proofs.find.Statement.{statement}
 use Rattle.search.proofs.find.Tie as tie
 
-first-place-requires : tie.Need-first-place-requires
-first-place-requires c κs = search needs
-
 returns : tie.Need-returns
 returns c = ap (λ (t : Trace). t .found) (c .before .first-place .ensures)
 
 pub find-spec : {M : Type 1} → statement M
-find-spec = tie.close (tie.spec first-place-requires returns)
+find-spec = tie.close (tie.spec (λ c κs. search needs) returns)

@@ -7,12 +7,6 @@ use Rattle.search.specs.SearchLaws.{shift-lt, searchFrom-start, searchFr
 use Rattle.search.proofs.find_from.Statement.{statement}
 use Rattle.search.proofs.find_from.Tie as tie
 
-shifted-requires : tie.Need-shifted-requires
-shifted-requires c κs = search needs
-
-shifted-requires-2 : tie.Need-shifted-requires-2
-shifted-requires-2 c κs = search needs
-
 returns : tie.Need-returns
 returns c =
     let a = c .before .before .before .args in
@@ -31,4 +25,4 @@ returns-2 c =
 
 pub find-from-spec : {M : Type 1} → statement M
 find-from-spec =
-    tie.close (tie.spec shifted-requires shifted-requires-2 returns find-requires returns-2)
+    tie.close (tie.spec (λ c κs. search needs) (λ c κs. search needs) returns find-requires returns-2)

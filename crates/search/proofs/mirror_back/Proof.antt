@@ -4,9 +4,6 @@ use borrow.Author.Needs.{needs}
 use Rattle.search.proofs.mirror_back.Statement.{statement}
 use Rattle.search.proofs.mirror_back.Tie as tie
 
-enum-known-p : tie.Need-enum-known-p
-enum-known-p c = search needs
-
 sub-t6 : tie.Need-sub-t6
 sub-t6 c =
     let is-at = c .before .p .given .1 in
@@ -29,4 +26,4 @@ returns-2 : tie.Need-returns-2
 returns-2 c = rw (c .enum-told .given .1)
 
 pub mirror-back-spec : {M : Type 1} → statement M
-mirror-back-spec = tie.close (tie.spec enum-known-p sub-t6 sub-t7 enum-told returns returns-2)
+mirror-back-spec = tie.close (tie.spec (λ c. search needs) sub-t6 sub-t7 enum-told returns returns-2)

@@ -4,12 +4,6 @@ use borrow.Author.Needs.{needs}
 use Rattle.search.proofs.round_back.Statement.{statement}
 use Rattle.search.proofs.round_back.Tie as tie
 
-add-rounds : tie.Need-add-rounds
-add-rounds c = search needs
-
-enum-known-p : tie.Need-enum-known-p
-enum-known-p c = search needs
-
 mul-t9 : tie.Need-mul-t9
 mul-t9 c = omega (arith, rw (c .before .p .given .1) at (c .before .before .before .before .before .pre))
 
@@ -30,4 +24,4 @@ returns-2 c = rw (c .enum-told .given .1)
 
 pub round-back-spec : {M : Type 1} → statement M
 round-back-spec =
-    tie.close (tie.spec add-rounds enum-known-p mul-t9 add-t10 add-t11 enum-told returns returns-2)
+    tie.close (tie.spec (λ c. search needs) (λ c. search needs) mul-t9 add-t10 add-t11 enum-told returns returns-2)

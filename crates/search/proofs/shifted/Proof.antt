@@ -5,12 +5,6 @@ use Rattle.search.specs.SearchLaws.{shift-over, shift-under}
 use Rattle.search.proofs.shifted.Statement.{statement}
 use Rattle.search.proofs.shifted.Tie as tie
 
-sub-result : tie.Need-sub-result
-sub-result c = search needs
-
-add-result : tie.Need-add-result
-add-result c = search needs
-
 returns : tie.Need-returns
 returns c =
     let a = c .before .args in sym (shift-under (a .m) (a .base) (a .x) (c .if1 .taken) (c .before .pre .1))
@@ -20,4 +14,4 @@ returns-2 c =
     let a = c .before .args in sym (shift-over (a .m) (a .base) (a .x) (c .if1 .left) (c .before .pre .0))
 
 pub shifted-spec : {M : Type 1} → statement M
-shifted-spec = tie.close (tie.spec sub-result add-result returns returns-2)
+shifted-spec = tie.close (tie.spec (λ c. search needs) (λ c. search needs) returns returns-2)

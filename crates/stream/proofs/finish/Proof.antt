@@ -7,9 +7,6 @@ use Rattle.stream.proofs.finish.Tie as tie
 enum-told : tie.Need-enum-told
 enum-told c = search needs
 
-enum-told-2 : tie.Need-enum-told-2
-enum-told-2 c = search needs
-
 returns : tie.Need-returns
 returns c =
     let told = c .before .before in
@@ -22,16 +19,10 @@ returns-2 c =
     let start = told .before .before .before in
     end-room (start .args .p) _ _ _ _ (end-past _ (start .pre .0) _ _ (told .enum-told2 .given .1) (c .if2 .taken))
 
-put-refusal-requires : tie.Need-put-refusal-requires
-put-refusal-requires c κs = search needs
-
 returns-3 : tie.Need-returns-3
 returns-3 c =
     let start = c .before .before .before in
     end-room (start .args .p) _ _ _ _ (end-swept _ (start .pre .0) _ _ _ (c .enum-told .given .1))
-
-same-length : tie.Need-same-length
-same-length c = search needs
 
 returns-4 : tie.Need-returns-4
 returns-4 c =
@@ -47,10 +38,10 @@ finish-spec =
     tie.close
     (tie.spec
     enum-told
-    enum-told-2
+    (λ c. search needs)
     returns
     returns-2
-    put-refusal-requires
+    (λ c κs. search needs)
     returns-3
-    same-length
+    (λ c. search needs)
     returns-4)

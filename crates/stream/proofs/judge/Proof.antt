@@ -9,18 +9,6 @@ use Rattle.stream.specs.Output.{judgedLine}
 use Rattle.stream.proofs.judge.Statement.{statement}
 use Rattle.stream.proofs.judge.Tie as tie
 
-read-frame-requires : tie.Need-read-frame-requires
-read-frame-requires c κs = search needs
-
-enum-known-d : tie.Need-enum-known-d
-enum-known-d c = search needs
-
-set-up-requires : tie.Need-set-up-requires
-set-up-requires c κs = search needs
-
-enum-known-j : tie.Need-enum-known-j
-enum-known-j c = search needs
-
 returns : tie.Need-returns
 unfolding judgedLine
 returns c =
@@ -36,4 +24,4 @@ returns-2 c =
 pub judge-spec : {M : Type 1} → statement M
 judge-spec =
     tie.close
-    (tie.spec read-frame-requires enum-known-d set-up-requires enum-known-j returns returns-2)
+    (tie.spec (λ c κs. search needs) (λ c. search needs) (λ c κs. search needs) (λ c. search needs) returns returns-2)

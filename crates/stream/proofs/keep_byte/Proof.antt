@@ -7,15 +7,6 @@ use borrow.Author.Needs.{needs}
 use Rattle.stream.proofs.keep_byte.Statement.{statement}
 use Rattle.stream.proofs.keep_byte.Tie as tie
 
-slice-write-held : tie.Need-slice-write-held
-slice-write-held c = search needs
-
-add-result : tie.Need-add-result
-add-result c = search needs
-
-same-length : tie.Need-same-length
-same-length c = search needs
-
 returns : tie.Need-returns
 returns c =
     let a = c .before .args in
@@ -27,4 +18,4 @@ returns-2 c =
     (c .before .pre .0, c .before .pre .1, keep-full _ _ (a .b) (c .before .pre .0) (c .before .pre .1) (c .if1 .left))
 
 pub keep-byte-spec : {M : Type 1} → statement M
-keep-byte-spec = tie.close (tie.spec slice-write-held add-result same-length returns returns-2)
+keep-byte-spec = tie.close (tie.spec (λ c. search needs) (λ c. search needs) (λ c. search needs) returns returns-2)

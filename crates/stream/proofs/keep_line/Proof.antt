@@ -86,9 +86,6 @@ loop-holds c =
     let pre = c .before .before .pre in
     record { size = pre .0; few = pre .1; inside = pre .2; line = refl; rest = refl }
 
-shared-slice-read-b : tie.Need-shared-slice-read-b Inv-loop μ-loop
-shared-slice-read-b c = search needs
-
 same-length : tie.Need-same-length Inv-loop μ-loop
 same-length c = let at-loop = c .before .before .before in at-loop .loop .inv .size ∙ sym (at-loop .before .before .before .pre .0)
 
@@ -99,9 +96,6 @@ returns c =
 
 keep-byte-requires : tie.Need-keep-byte-requires Inv-loop μ-loop
 keep-byte-requires c κs = let at-loop = c .before .before .before .before in (at-loop .loop .inv .size, at-loop .loop .inv .few)
-
-add-place : tie.Need-add-place Inv-loop μ-loop
-add-place c = search needs
 
 loop-less : tie.Need-loop-less Inv-loop μ-loop
 loop-less c =
@@ -128,11 +122,11 @@ keep-line-spec =
     Inv-loop
     μ-loop
     loop-holds
-    shared-slice-read-b
+    (λ c. search needs)
     same-length
     returns
     keep-byte-requires
-    add-place
+    (λ c. search needs)
     loop-less
     loop-again
     same-length-2

@@ -9,32 +9,11 @@ use borrow.Author.Needs.{needs}
 use Rattle.stream.proofs.line_step.Statement.{statement}
 use Rattle.stream.proofs.line_step.Tie as tie
 
-array-share-prefix-held : tie.Need-array-share-prefix-held
-array-share-prefix-held c = search needs
-
 slice-aggregate-judge : tie.Need-slice-aggregate-judge
 slice-aggregate-judge c = let start = c .before .before in sym (length-take-le _ _ (omega (arith, start .pre .1, start .pre .2)))
 
-judge-requires : tie.Need-judge-requires
-judge-requires c κs = search needs
-
-enum-known-f : tie.Need-enum-known-f
-enum-known-f c = search needs
-
 begin-requires : tie.Need-begin-requires
 begin-requires c κs = judged-intact _ _ (sym (c .before .before .before .judge .ensures) ∙ ap outcomeOf (c .before .f .given .1))
-
-enum-known-j : tie.Need-enum-known-j
-enum-known-j c = search needs
-
-put-refusal-requires : tie.Need-put-refusal-requires
-put-refusal-requires c κs = search needs
-
-add-at-line : tie.Need-add-at-line
-add-at-line c = search needs
-
-at-line-requires : tie.Need-at-line-requires
-at-line-requires c κs = search needs
 
 returns : tie.Need-returns
 returns c =
@@ -42,9 +21,6 @@ returns c =
     let judged = known .before .before in
     let pre = judged .before .before .before .pre in
     line-accepted _ _ _ (pre .1) (pre .0) _ _ _ _ (sym (ap outcomeOf (known .f .given .1)) ∙ judged .judge .ensures) (c .begin .ensures)
-
-same-length : tie.Need-same-length
-same-length c = search needs
 
 returns-2 : tie.Need-returns-2
 returns-2 c =
@@ -58,15 +34,15 @@ pub line-step-spec : {M : Type 1} → statement M
 line-step-spec =
     tie.close
     (tie.spec
-    array-share-prefix-held
+    (λ c. search needs)
     slice-aggregate-judge
-    judge-requires
-    enum-known-f
+    (λ c κs. search needs)
+    (λ c. search needs)
     begin-requires
-    enum-known-j
-    put-refusal-requires
-    add-at-line
-    at-line-requires
+    (λ c. search needs)
+    (λ c κs. search needs)
+    (λ c. search needs)
+    (λ c κs. search needs)
     returns
-    same-length
+    (λ c. search needs)
     returns-2)

@@ -12,12 +12,6 @@ second a w l e t = sym (ap (λ (b : Bool). b && l) (sym e ∙ t))
 first : (a w l : Bool) → a ≡ w → a ≡ false → a ≡ (w && l)
 first a w l e t = t ∙ sym (ap (λ (b : Bool). b && l) (sym e ∙ t))
 
-wants-step-requires : tie.Need-wants-step-requires
-wants-step-requires c κs = search needs
-
-sub-result : tie.Need-sub-result
-sub-result c = search needs
-
 returns : tie.Need-returns
 returns c = second _ _ _ (c .before .before .wants-step .ensures) (c .before .if1 .taken)
 
@@ -25,4 +19,4 @@ returns-2 : tie.Need-returns-2
 returns-2 c = first _ _ _ (c .before .wants-step .ensures) (c .if1 .left)
 
 pub may-step-spec : {M : Type 1} → statement M
-may-step-spec = tie.close (tie.spec wants-step-requires sub-result returns returns-2)
+may-step-spec = tie.close (tie.spec (λ c κs. search needs) (λ c. search needs) returns returns-2)

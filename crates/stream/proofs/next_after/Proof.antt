@@ -7,9 +7,6 @@ use Rattle.stream.specs.LoopLaws.{next-again, next-read, next-stop}
 use Rattle.stream.proofs.next_after.Statement.{statement}
 use Rattle.stream.proofs.next_after.Tie as tie
 
-wants-step-requires : tie.Need-wants-step-requires
-wants-step-requires c κs = search needs
-
 returns : tie.Need-returns
 returns c =
     let call = c .before in
@@ -31,4 +28,4 @@ returns-3 c =
     next-read (readOf (a .p)) (drop (a .at) (a .input .now)) (sym (call .wants-step .ensures) ∙ unwanted .if1 .left) (c .if2 .left)
 
 pub next-after-spec : {M : Type 1} → statement M
-next-after-spec = tie.close (tie.spec wants-step-requires returns returns-2 returns-3)
+next-after-spec = tie.close (tie.spec (λ c κs. search needs) returns returns-2 returns-3)

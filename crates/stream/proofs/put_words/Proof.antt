@@ -69,15 +69,6 @@ abbrev μ-loop : tie.MeasureT-loop
 loop-holds : tie.Need-loop-holds Inv-loop μ-loop
 loop-holds c = begin _ _ _ _ (c .before .before .pre .0) (c .before .before .pre .1)
 
-mul-widened : tie.Need-mul-widened Inv-loop μ-loop
-mul-widened c = search needs
-
-shared-slice-read-widened : tie.Need-shared-slice-read-widened Inv-loop μ-loop
-shared-slice-read-widened c = search needs
-
-widened-requires : tie.Need-widened-requires Inv-loop μ-loop
-widened-requires c κs = search needs
-
 put-word-requires : tie.Need-put-word-requires Inv-loop μ-loop
 put-word-requires c κs =
     let in-loop = c .before .before .before in
@@ -91,9 +82,6 @@ add-opens c =
     let in-loop = word .before .before in
     let start = in-loop .before .before .before .before in
     one-fits _ _ _ _ (few-opens _ _ _ _ (start .pre .0) (start .pre .1) _ _ _ _ (in-loop .before .loop .inv)) (in-loop .loop-test .taken) (start .fits .count)
-
-add-i : tie.Need-add-i Inv-loop μ-loop
-add-i c = search needs
 
 loop-less : tie.Need-loop-less Inv-loop μ-loop
 loop-less c =
@@ -124,12 +112,12 @@ put-words-spec =
     Inv-loop
     μ-loop
     loop-holds
-    mul-widened
-    shared-slice-read-widened
-    widened-requires
+    (λ c. search needs)
+    (λ c. search needs)
+    (λ c κs. search needs)
     put-word-requires
     add-opens
-    add-i
+    (λ c. search needs)
     loop-less
     loop-again
     same-length

@@ -7,9 +7,6 @@ use borrow.Author.Needs.{needs}
 use Rattle.stream.proofs.step.Statement.{statement}
 use Rattle.stream.proofs.step.Tie as tie
 
-enum-known-task : tie.Need-enum-known-task
-enum-known-task c = search needs
-
 sweep-step-requires : tie.Need-sweep-step-requires
 sweep-step-requires c κs =
     let known = c .before .before in
@@ -25,12 +22,6 @@ returns c =
     let start = told .before .before .before .before in
     with-room (start .args .p) _ (start .args .at) _ _ _ _ (moved-past _ (start .pre .0) _ (start .args .at) _ _ (told .enum-told .given .1) (c .if1 .taken))
 
-slice-aggregate-keep-line : tie.Need-slice-aggregate-keep-line
-slice-aggregate-keep-line c = search needs
-
-keep-line-requires : tie.Need-keep-line-requires
-keep-line-requires c κs = search needs
-
 returns-2 : tie.Need-returns-2
 returns-2 c =
     let call = c .before .before .before in
@@ -40,9 +31,6 @@ returns-2 c =
     let kept = call .keep-line .ensures in
     with-room (start .args .p) _ (start .args .at) _ _ _ _ (moved-kept _ (start .pre .0) _ (start .args .at) _ _ (told .enum-told .given .1) (few .if1 .left) _ _ _ (kept .0 .0) (kept .0 .1) (kept .0 .2) (kept .1 .0) (kept .1 .1) (c .if2 .taken))
 
-line-step-requires : tie.Need-line-step-requires
-line-step-requires c κs = search needs
-
 add-t21 : tie.Need-add-t21
 add-t21 c =
     let test = c .before .before .before .before .before .before in
@@ -51,18 +39,12 @@ add-t21 c =
     let size = known .shared-slice-known .given in
     record { fits = omega (arith, call .keep-line .ensures .1 .0) }
 
-same-length : tie.Need-same-length
-same-length c = search needs
-
 returns-3 : tie.Need-returns-3
 returns-3 c =
     let turn = c .before .before .before in
     let known = turn .before .before .before in
     let start = known .before .before .before .before in
     with-room (start .args .p) _ (start .args .at) _ _ _ _ (moved-swept _ (start .pre .0) _ (start .args .at) _ _ _ (known .task .given .1) (start .pre .1) _ _ (turn .sweep-step .ensures))
-
-same-length-2 : tie.Need-same-length-2
-same-length-2 c = search needs
 
 returns-4 : tie.Need-returns-4
 returns-4 c =
@@ -79,16 +61,16 @@ pub step-spec : {M : Type 1} → statement M
 step-spec =
     tie.close
     (tie.spec
-    enum-known-task
+    (λ c. search needs)
     sweep-step-requires
     enum-told
     returns
-    slice-aggregate-keep-line
-    keep-line-requires
+    (λ c. search needs)
+    (λ c κs. search needs)
     returns-2
-    line-step-requires
+    (λ c κs. search needs)
     add-t21
-    same-length
+    (λ c. search needs)
     returns-3
-    same-length-2
+    (λ c. search needs)
     returns-4)

@@ -36,18 +36,6 @@ printed l₁ l₂ v w i j e h = subst (λ (l : List ℕ). Written l₁ i (wordLi
 room : (s after : SweepState) (t p : ℕ) (list : List ℕ) → Answered s after t p list → (used size : ℕ) → used + 576 ≤ size → (p ≤ length list) × (used + 9 * p ≤ size)
 room s after t p list a used size h = (omega (arith, a .place, a .fits, a .long), omega (arith, a .place, a .fits))
 
-slice-aggregate-sweep-call : tie.Need-slice-aggregate-sweep-call
-slice-aggregate-sweep-call c = search needs
-
-sweep-call-requires : tie.Need-sweep-call-requires
-sweep-call-requires c κs = search needs
-
-enum-known-answer : tie.Need-enum-known-answer
-enum-known-answer c = search needs
-
-slice-aggregate-put-words : tie.Need-slice-aggregate-put-words
-slice-aggregate-put-words c = search needs
-
 put-words-requires : tie.Need-put-words-requires
 put-words-requires c κs =
     let known = c .before .before .before in
@@ -61,9 +49,6 @@ added-requires c κs =
 
 enum-told : tie.Need-enum-told
 enum-told c = search needs
-
-same-length : tie.Need-same-length
-same-length c = search needs
 
 returns : tie.Need-returns
 returns c =
@@ -83,13 +68,13 @@ pub sweep-part-spec : {M : Type 1} → statement M
 sweep-part-spec =
     tie.close
     (tie.spec
-    slice-aggregate-sweep-call
-    sweep-call-requires
-    enum-known-answer
-    slice-aggregate-put-words
+    (λ c. search needs)
+    (λ c κs. search needs)
+    (λ c. search needs)
+    (λ c. search needs)
     put-words-requires
     added-requires
     enum-told
-    same-length
+    (λ c. search needs)
     returns
     returns-2)

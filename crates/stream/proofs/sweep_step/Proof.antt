@@ -13,9 +13,6 @@ use borrow.Author.Needs.{needs}
 use Rattle.stream.proofs.sweep_step.Statement.{statement}
 use Rattle.stream.proofs.sweep_step.Tie as tie
 
-sweep-part-requires : tie.Need-sweep-part-requires
-sweep-part-requires c κs = search needs
-
 room : (s : SweepState) (l₁ l₂ : List ℕ) (used u : ℕ) → Written l₁ used (partLines s) l₂ u → used + mostWritten ≤ length l₁ → u + 35 ≤ length l₂
 room s l₁ l₂ used u w h = omega (arith, w .place, written-length w, part-short s)
 
@@ -25,15 +22,6 @@ put-report-requires c κs =
     let start = part .before .before .before in
     room (start .args .t .state) _ _ _ _ (part .sweep-part .ensures .1) (start .pre .2)
 
-add-at-line : tie.Need-add-at-line
-add-at-line c = search needs
-
-at-line-requires : tie.Need-at-line-requires
-at-line-requires c κs = search needs
-
-same-length : tie.Need-same-length
-same-length c = search needs
-
 returns : tie.Need-returns
 returns c =
     let report = c .before .before .before .before in
@@ -41,9 +29,6 @@ returns c =
     let part = test .before .before .before .before .before .before in
     let start = part .before .before .before in
     part-ends _ _ (start .pre .1) _ (part .sweep-part .ensures .0) _ _ _ _ (part .sweep-part .ensures .1) _ _ (test .if1 .taken) (report .put-report .ensures) (c .at-line .ensures .0) (c .at-line .ensures .1)
-
-same-length-2 : tie.Need-same-length-2
-same-length-2 c = search needs
 
 returns-2 : tie.Need-returns-2
 returns-2 c =
@@ -55,11 +40,11 @@ pub sweep-step-spec : {M : Type 1} → statement M
 sweep-step-spec =
     tie.close
     (tie.spec
-    sweep-part-requires
+    (λ c κs. search needs)
     put-report-requires
-    add-at-line
-    at-line-requires
-    same-length
+    (λ c. search needs)
+    (λ c κs. search needs)
+    (λ c. search needs)
     returns
-    same-length-2
+    (λ c. search needs)
     returns-2)

@@ -8,11 +8,8 @@ use Rattle.stream.proofs.wants_step.Tie as tie
 returns : tie.Need-returns
 returns c = wants-input _ _ _ (c .if1 .taken)
 
-is-sweeping-requires : tie.Need-is-sweeping-requires
-is-sweeping-requires c κs = search needs
-
 returns-2 : tie.Need-returns-2
 returns-2 c = c .is-sweeping .ensures ∙ wants-sweep _ _ _ (c .before .if1 .left)
 
 pub wants-step-spec : {M : Type 1} → statement M
-wants-step-spec = tie.close (tie.spec returns is-sweeping-requires returns-2)
+wants-step-spec = tie.close (tie.spec returns (λ c κs. search needs) returns-2)

@@ -7,15 +7,6 @@ use Rattle.stream.specs.LoopLaws.{worked-ended, worked-made}
 use Rattle.stream.proofs.work.Statement.{statement}
 use Rattle.stream.proofs.work.Tie as tie
 
-wants-step-requires : tie.Need-wants-step-requires
-wants-step-requires c κs = search needs
-
-finish-requires : tie.Need-finish-requires
-finish-requires c κs = search needs
-
-same-length : tie.Need-same-length
-same-length c = search needs
-
 returns : tie.Need-returns
 returns c =
     let end = c .before .before in
@@ -23,15 +14,6 @@ returns c =
     let call = test .before in
     let start = call .before .before .before in
     worked-ended _ (start .pre .0) _ _ (start .pre .1) _ _ (sym (call .wants-step .ensures) ∙ not-true _ (test .if1 .taken)) _ (end .finish .ensures .0) (omega (arith, end .finish .ensures .1, start .pre .2))
-
-steps-requires : tie.Need-steps-requires
-steps-requires c κs = search needs
-
-next-after-requires : tie.Need-next-after-requires
-next-after-requires c κs = search needs
-
-same-length-2 : tie.Need-same-length-2
-same-length-2 c = search needs
 
 returns-2 : tie.Need-returns-2
 returns-2 c =
@@ -42,4 +24,4 @@ returns-2 c =
     worked-made (start .args .p) (start .pre .0) _ (start .args .at) (start .pre .1) _ _ (sym (call .wants-step .ensures) ∙ not-false _ (test .if1 .left)) _ _ (made .steps .ensures) (c .next-after .ensures)
 
 pub work-spec : {M : Type 1} → statement M
-work-spec = tie.close (tie.spec wants-step-requires finish-requires same-length returns steps-requires next-after-requires same-length-2 returns-2)
+work-spec = tie.close (tie.spec (λ c κs. search needs) (λ c κs. search needs) (λ c. search needs) returns (λ c κs. search needs) (λ c κs. search needs) (λ c. search needs) returns-2)

@@ -50,15 +50,6 @@ module _ (f : Factor) (sound : Sound f) {u q r : ℕ} (power : u ≡ 2 ^ (contex
       let few : q * 2 ^ E ≤ 2 ^ n * 2 ^ E = omega (arith, parts, pow-add 2 E n, mul-le-mul-left q end) in
       le-trans (le-of-mul-le-mul-right {k = 2 ^ E} few (pow-pos E)) (pow-mono {i = n} {j = 32} (omega (arith, sound .precision)))
 
-scale-requires : tie.Need-scale-requires
-scale-requires c κs = search needs
-
-add-wide-power : tie.Need-add-wide-power
-add-wide-power c = search needs
-
-wide-power-requires : tie.Need-wide-power-requires
-wide-power-requires c κs = search needs
-
 -- the power, as the calls ensure it
 power-is : (c : tie.After-wide-power) → let f = c .before .before .before .before .args .f in valueOf (c .wide-power .result) ≡ 2 ^ (contextOf f .E + f .precision .bits)
 power-is c = c .wide-power .ensures ∙ ap (λ (e : ℕ). 2 ^ (e + c .before .before .before .before .args .f .precision .bits)) (c .before .before .scale .ensures)
@@ -97,4 +88,4 @@ returns-2 c =
 pub first-high-spec : {M : Type 1} → statement M
 first-high-spec =
     tie.close
-    (tie.spec scale-requires add-wide-power wide-power-requires divide-requires returns add-result returns-2)
+    (tie.spec (λ c κs. search needs) (λ c. search needs) (λ c κs. search needs) divide-requires returns add-result returns-2)

@@ -30,17 +30,11 @@ module _ (s : Sought) (start : ℕ) {base : ℕ} {f : Found} (counted : base ≡
   nowhere : f .place ≡ Nowhere → f ≡ nextIn s start
   nowhere e = (λ i. record { place = (e ∙ ap (movedBy start) (sym e)) i; rounds = f .rounds }) ∙ moved
 
-remainder-requires : tie.Need-remainder-requires
-remainder-requires c κs = search needs
-
 find-from-requires : tie.Need-find-from-requires
 find-from-requires c κs =
     let s = c .before .args .s in
     let a = c .before .pre .0 in
     (a .window, a .below, a .step-below, omega (arith, c .remainder .ensures, mod-lt (s .step * c .before .args .start) {m = s .modulus} (omega arith)), a .most)
-
-enum-known-place : tie.Need-enum-known-place
-enum-known-place c = search needs
 
 add-t8 : tie.Need-add-t8
 add-t8 c =
@@ -75,9 +69,9 @@ pub next-spec : {M : Type 1} → statement M
 next-spec =
     tie.close
     (tie.spec
-    remainder-requires
+    (λ c κs. search needs)
     find-from-requires
-    enum-known-place
+    (λ c. search needs)
     add-t8
     enum-told
     returns

@@ -9,21 +9,6 @@ use Rattle.suspects.specs.Next.{soughtIn}
 use Rattle.suspects.proofs.prepare.Statement.{statement}
 use Rattle.suspects.proofs.prepare.Tie as tie
 
-low-dropped-requires : tie.Need-low-dropped-requires
-low-dropped-requires c κs = search needs
-
-sought-in-requires : tie.Need-sought-in-requires
-sought-in-requires c κs = search needs
-
-high-dropped-requires : tie.Need-high-dropped-requires
-high-dropped-requires c κs = search needs
-
-sought-in-requires-2 : tie.Need-sought-in-requires-2
-sought-in-requires-2 c κs = search needs
-
-first-high-requires : tie.Need-first-high-requires
-first-high-requires c κs = search needs
-
 -- half the distance of two midpoints, by the digits that are dropped
 half : (f : Factor) {d : ℕ} (e : ℕ) → d ≡ e → soughtIn (contextOf f) (lowerOf f) (upperOf f) (2 ^ d) ≡ soughtIn (contextOf f) (lowerOf f) (upperOf f) (2 ^ e)
 half f _ e = ap (λ (k : ℕ). soughtIn (contextOf f) (lowerOf f) (upperOf f) (2 ^ k)) e
@@ -40,4 +25,4 @@ returns c =
 
 pub prepare-spec : {M : Type 1} → statement M
 prepare-spec =
-    tie.close (tie.spec low-dropped-requires sought-in-requires high-dropped-requires sought-in-requires-2 first-high-requires returns)
+    tie.close (tie.spec (λ c κs. search needs) (λ c κs. search needs) (λ c κs. search needs) (λ c κs. search needs) (λ c κs. search needs) returns)

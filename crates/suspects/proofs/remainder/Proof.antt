@@ -12,12 +12,6 @@ low-word hi lo z m whole e =
     let turns : 2 ^ 64 ≡ 2 ^ 64 / m * m = omega (arith, div-add-mod' (2 ^ 64) m) in
     sym (add-mul-mod-self-right lo (hi * (2 ^ 64 / m)) m) ∙ ap (λ (x : ℕ). x % m) (omega (arith, ap (λ (x : ℕ). hi * x) turns))
 
-product-requires : tie.Need-product-requires
-product-requires c κs = search needs
-
-rem-result : tie.Need-rem-result
-rem-result c = search needs
-
 returns : tie.Need-returns
 returns c =
     let a = c .before .before in
@@ -25,4 +19,4 @@ returns c =
     low-word (p .result .hi) (p .result .lo) (a .args .x * a .args .y) (a .args .m) (a .pre .1) (p .ensures)
 
 pub remainder-spec : {M : Type 1} → statement M
-remainder-spec = tie.close (tie.spec product-requires rem-result returns)
+remainder-spec = tie.close (tie.spec (λ c κs. search needs) (λ c. search needs) returns)

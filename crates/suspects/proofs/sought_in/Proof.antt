@@ -30,9 +30,6 @@ module _ (f : Factor) (sound : Sound f) {power : ℕ} (is : power ≡ 2 ^ f .pre
     omega (arith, h, pow-succ' 2 (d - 1), pow-mono {i = suc (d - 1)} {j = wordBits - 1} (omega (arith, sound .precision))),
   )
 
-window-requires : tie.Need-window-requires
-window-requires c κs = search needs
-
 power-requires : tie.Need-power-requires
 power-requires c κs = omega (arith, c .window .ensures)
 
@@ -40,22 +37,10 @@ power-requires c κs = omega (arith, c .window .ensures)
 window-is : (c : tie.After-power) → c .power .result ≡ windowW (contextOf (c .before .before .before .args .f))
 window-is c = c .power .ensures ∙ ap (λ (k : ℕ). 2 ^ k) (c .before .window .ensures)
 
-sub-widening : tie.Need-sub-widening
-sub-widening c = search needs
-
-power-requires-2 : tie.Need-power-requires-2
-power-requires-2 c κs = search needs
-
 mul-widening : tie.Need-mul-widening
 mul-widening c =
     let start = c .before .before .before .before .before in
     omega (arith, rw (start .pre .0 .precision .scale) at (fits (start .args .f) (start .pre .0)), widened (start .args .f) (start .pre .0) (c .power2 .ensures))
-
-sub-power : tie.Need-sub-power
-sub-power c = search needs
-
-power-requires-3 : tie.Need-power-requires-3
-power-requires-3 c κs = search needs
 
 sought-near-requires : tie.Need-sought-near-requires
 sought-near-requires c κs =
@@ -77,12 +62,12 @@ pub sought-in-spec : {M : Type 1} → statement M
 sought-in-spec =
     tie.close
     (tie.spec
-    window-requires
+    (λ c κs. search needs)
     power-requires
-    sub-widening
-    power-requires-2
+    (λ c. search needs)
+    (λ c κs. search needs)
     mul-widening
-    sub-power
-    power-requires-3
+    (λ c. search needs)
+    (λ c κs. search needs)
     sought-near-requires
     returns)

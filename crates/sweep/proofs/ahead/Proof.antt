@@ -7,12 +7,6 @@ use Rattle.sweep.specs.Engine.{mostRounds}
 use Rattle.sweep.proofs.ahead.Statement.{statement}
 use Rattle.sweep.proofs.ahead.Tie as tie
 
-add-smaller : tie.Need-add-smaller
-add-smaller c = search needs
-
-smaller-requires : tie.Need-smaller-requires
-smaller-requires c κs = search needs
-
 sought-before-requires : tie.Need-sought-before-requires
 sought-before-requires c κs =
     let start = c .before .before in
@@ -20,15 +14,6 @@ sought-before-requires c κs =
 
 enum-told : tie.Need-enum-told
 enum-told c = search needs
-
-enum-told-2 : tie.Need-enum-told-2
-enum-told-2 c = search needs
-
-larger-requires : tie.Need-larger-requires
-larger-requires c κs = search needs
-
-add-sought-before : tie.Need-add-sought-before
-add-sought-before c = search needs
 
 sought-before-requires-2 : tie.Need-sought-before-requires-2
 sought-before-requires-2 c κs =
@@ -64,13 +49,13 @@ pub ahead-spec : {M : Type 1} → statement M
 ahead-spec =
     tie.close
     (tie.spec
-    add-smaller
-    smaller-requires
+    (λ c. search needs)
+    (λ c κs. search needs)
     sought-before-requires
     enum-told
-    enum-told-2
-    larger-requires
-    add-sought-before
+    (λ c. search needs)
+    (λ c κs. search needs)
+    (λ c. search needs)
     sought-before-requires-2
     add-t13
     returns

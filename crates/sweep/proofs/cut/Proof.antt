@@ -5,16 +5,10 @@ use Rattle.sweep.specs.StepLaws.{cut-before, cut-past, cut-none}
 use Rattle.sweep.proofs.cut.Statement.{statement}
 use Rattle.sweep.proofs.cut.Tie as tie
 
-enum-known-place : tie.Need-enum-known-place
-enum-known-place c = search needs
-
 returns : tie.Need-returns
 returns c =
     let a = c .before .before .before .before .args in
     cut-before (a .found) (a .end) (c .before .before .place .given .1) (c .if1 .taken)
-
-nowhere-requires : tie.Need-nowhere-requires
-nowhere-requires c κs = search needs
 
 enum-told : tie.Need-enum-told
 enum-told c = search needs
@@ -29,4 +23,4 @@ returns-3 : tie.Need-returns-3
 returns-3 c = let a = c .before .before .args in cut-none (a .found) (a .end) (c .enum-told .given .1)
 
 pub cut-spec : {M : Type 1} → statement M
-cut-spec = tie.close (tie.spec enum-known-place returns nowhere-requires enum-told returns-2 returns-3)
+cut-spec = tie.close (tie.spec (λ c. search needs) returns (λ c κs. search needs) enum-told returns-2 returns-3)

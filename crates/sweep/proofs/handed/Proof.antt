@@ -3,9 +3,6 @@ use borrow.Author.Needs.{needs}
 use Rattle.sweep.proofs.handed.Statement.{statement}
 use Rattle.sweep.proofs.handed.Tie as tie
 
-enum-known-left : tie.Need-enum-known-left
-enum-known-left c = search needs
-
 enum-told : tie.Need-enum-told
 enum-told c = search needs
 
@@ -16,4 +13,4 @@ returns-2 : tie.Need-returns-2
 returns-2 c = rw (c .enum-told .given .1)
 
 pub handed-spec : {M : Type 1} → statement M
-handed-spec = tie.close (tie.spec enum-known-left enum-told returns returns-2)
+handed-spec = tie.close (tie.spec (λ c. search needs) enum-told returns returns-2)

@@ -9,9 +9,6 @@ use Rattle.sweep.specs.EngineLaws.{sound-of}
 use Rattle.sweep.proofs.new_state.Statement.{statement}
 use Rattle.sweep.proofs.new_state.Tie as tie
 
-is-intact-requires : tie.Need-is-intact-requires
-is-intact-requires c κs = search needs
-
 returns : tie.Need-returns
 returns c = let a = c .before .before .args in refuses (stop (ap not (sym (c .before .is-intact .ensures)) ∙ c .if1 .taken)) (fresh (a .f) (a .first) (a .last))
 
@@ -35,4 +32,4 @@ returns-3 c =
     accepts (pass (let-through through) (pass (sym (c .before .range-out .ensures) ∙ c .if2 .left) end)) (fresh (a .f) (a .first) (a .last))
 
 pub new-state-spec : {M : Type 1} → statement M
-new-state-spec = tie.close (tie.spec is-intact-requires returns range-out-requires returns-2 returns-3)
+new-state-spec = tie.close (tie.spec (λ c κs. search needs) returns range-out-requires returns-2 returns-3)

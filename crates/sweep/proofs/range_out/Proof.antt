@@ -6,17 +6,11 @@ use Rattle.factor.specs.Precision.{significandOut}
 use Rattle.sweep.proofs.range_out.Statement.{statement}
 use Rattle.sweep.proofs.range_out.Tie as tie
 
-significand-out-requires : tie.Need-significand-out-requires
-significand-out-requires c κs = search needs
-
 returns : tie.Need-returns
 returns c =
     let a = c .before .before .args in
     let out : significandOut (a .p .bits) (a .first) ≡ true = sym (c .before .significand-out .ensures) ∙ c .if1 .taken in
     rw out
-
-significand-out-requires-2 : tie.Need-significand-out-requires-2
-significand-out-requires-2 c κs = search needs
 
 returns-2 : tie.Need-returns-2
 returns-2 c =
@@ -37,4 +31,4 @@ returns-3 c =
 pub range-out-spec : {M : Type 1} → statement M
 range-out-spec =
     tie.close
-    (tie.spec significand-out-requires returns significand-out-requires-2 returns-2 returns-3)
+    (tie.spec (λ c κs. search needs) returns (λ c κs. search needs) returns-2 returns-3)

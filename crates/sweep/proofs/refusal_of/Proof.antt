@@ -11,9 +11,6 @@ use Rattle.sweep.specs.Answers.{viewOf}
 use Rattle.sweep.proofs.refusal_of.Statement.{statement}
 use Rattle.sweep.proofs.refusal_of.Tie as tie
 
-is-intact-requires : tie.Need-is-intact-requires
-is-intact-requires c κs = search needs
-
 returns : tie.Need-returns
 returns c = stop (ap not (sym (c .before .is-intact .ensures)) ∙ c .if1 .taken)
 
@@ -58,4 +55,4 @@ returns-6 c =
     (pass (in-state state) (pass (c .before .before .if3 .left) (pass (ne-eqb (a .cap) 0 (c .before .if4 .left)) (pass (lt-leb (a .size) (a .free) (c .if5 .left)) end))))
 
 pub refusal-of-spec : {M : Type 1} → statement M
-refusal-of-spec = tie.close (tie.spec is-intact-requires returns state-out-requires returns-2 returns-3 returns-4 returns-5 returns-6)
+refusal-of-spec = tie.close (tie.spec (λ c κs. search needs) returns state-out-requires returns-2 returns-3 returns-4 returns-5 returns-6)

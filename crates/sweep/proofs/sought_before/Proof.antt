@@ -7,23 +7,14 @@ use Rattle.sweep.specs.Steps.{cutAt}
 use Rattle.sweep.proofs.sought_before.Statement.{statement}
 use Rattle.sweep.proofs.sought_before.Tie as tie
 
-next-requires : tie.Need-next-requires
-next-requires c κs = search needs
-
-cut-requires : tie.Need-cut-requires
-cut-requires c κs = search needs
-
 returns : tie.Need-returns
 returns c =
     let a = c .before .before .before .args in
     let found : c .cut .result ≡ cutAt (a .end) (nextIn (a .s) (a .at)) = c .cut .ensures ∙ ap (cutAt (a .end)) (c .before .next .ensures) in
     rw (lt-ltb (a .at) (a .end) (c .before .before .if1 .taken)) found
 
-nowhere-requires : tie.Need-nowhere-requires
-nowhere-requires c κs = search needs
-
 returns-2 : tie.Need-returns-2
 returns-2 c = let a = c .before .before .args in rw (le-ltb (a .at) (a .end) (c .before .if1 .left)) (c .nowhere .ensures)
 
 pub sought-before-spec : {M : Type 1} → statement M
-sought-before-spec = tie.close (tie.spec next-requires cut-requires returns nowhere-requires returns-2)
+sought-before-spec = tie.close (tie.spec (λ c κs. search needs) (λ c κs. search needs) returns (λ c κs. search needs) returns-2)

@@ -7,9 +7,6 @@ use Rattle.sweep.specs.Engine.{rangeOut}
 use Rattle.sweep.proofs.state_out.Statement.{statement}
 use Rattle.sweep.proofs.state_out.Tie as tie
 
-range-out-requires : tie.Need-range-out-requires
-range-out-requires c κs = search needs
-
 returns : tie.Need-returns
 returns c =
     let s = c .before .before .before .before .args .s in
@@ -31,4 +28,4 @@ returns-3 c =
     rw (in-range, le-ltb (s .next) (s .first) (c .before .if2 .left))
 
 pub state-out-spec : {M : Type 1} → statement M
-state-out-spec = tie.close (tie.spec range-out-requires returns returns-2 returns-3)
+state-out-spec = tie.close (tie.spec (λ c κs. search needs) returns returns-2 returns-3)

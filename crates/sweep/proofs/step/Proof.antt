@@ -15,15 +15,6 @@ add-rounds c =
     let found = c .before .before in
     omega (arith, step-rounds (found .before .before .pre) (found .ahead .ensures))
 
-enum-known-place : tie.Need-enum-known-place
-enum-known-place c = search needs
-
-must-stop-requires : tie.Need-must-stop-requires
-must-stop-requires c κs = search needs
-
-halted-requires : tie.Need-halted-requires
-halted-requires c κs = search needs
-
 -- what is known at a suspect
 module _ (c : tie.After-must-stop) where
   abbrev told : tie.After-place
@@ -54,9 +45,6 @@ tried-requires c κs =
 enum-told : tie.Need-enum-told
 enum-told c = search needs
 
-halted-requires-2 : tie.Need-halted-requires-2
-halted-requires-2 c κs = search needs
-
 returns-2 : tie.Need-returns-2
 returns-2 c =
     let trial = c .before in
@@ -75,13 +63,13 @@ step-spec =
     (tie.spec
     ahead-requires
     add-rounds
-    enum-known-place
-    must-stop-requires
-    halted-requires
+    (λ c. search needs)
+    (λ c κs. search needs)
+    (λ c κs. search needs)
     returns
     trial-requires
     tried-requires
     enum-told
-    halted-requires-2
+    (λ c κs. search needs)
     returns-2
     returns-3)

@@ -15,15 +15,6 @@ use Rattle.sweep.specs.TailLaws.{moved, lent-length, tail-free, tail-tak
 use Rattle.sweep.proofs.sweep_call.Statement.{statement}
 use Rattle.sweep.proofs.sweep_call.Tie as tie
 
-refusal-of-requires : tie.Need-refusal-of-requires
-refusal-of-requires c κs = search needs
-
-enum-known-verdict : tie.Need-enum-known-verdict
-enum-known-verdict c = search needs
-
-refused-requires : tie.Need-refused-requires
-refused-requires c κs = search needs
-
 enum-told : tie.Need-enum-told
 enum-told c = search needs
 
@@ -53,9 +44,6 @@ part-sweep-on-start c =
     let place = tail-free (a .state) (a .cap) (a .list .now) (a .free) (taken c) in
     search needs
 
-part-sweep-on-end : tie.Need-part-sweep-on-end
-part-sweep-on-end c = search needs
-
 sweep-on-requires : tie.Need-sweep-on-requires
 sweep-on-requires c κs =
     let a = c .before .before .before .before .before .args in
@@ -79,9 +67,6 @@ returns c =
     ap (λ (r : SweepAnswer). replyOf r (a .list .now)) (c .refused .ensures)
     ∙ call-refused engine (viewOf (a .state)) (callOf (a .cap) (a .list .now) (a .free)) (number .0 .0) (rw (number .1) at (told .before .before .before .refusal-of .ensures) .is)
 
-same-length : tie.Need-same-length
-same-length c = search needs
-
 returns-2 : tie.Need-returns-2
 returns-2 c =
     let on = c .before .before .before in
@@ -93,16 +78,16 @@ pub sweep-call-spec : {M : Type 1} → statement M
 sweep-call-spec =
     tie.close
     (tie.spec
-    refusal-of-requires
-    enum-known-verdict
-    refused-requires
+    (λ c κs. search needs)
+    (λ c. search needs)
+    (λ c κs. search needs)
     enum-told
     mul-sweep-on
     sub-sweep-on
     part-sweep-on-start
-    part-sweep-on-end
+    (λ c. search needs)
     sweep-on-requires
     add-moved
     returns
-    same-length
+    (λ c. search needs)
     returns-2)

@@ -19,9 +19,6 @@ abbrev μ-loop : tie.MeasureT-loop
 prepare-requires : tie.Need-prepare-requires Inv-loop μ-loop
 prepare-requires c κs = let start = c .before .before in work-sound (start .args .s) (start .args .cap) (length (start .args .tail .now)) (start .pre)
 
-begun-requires : tie.Need-begun-requires Inv-loop μ-loop
-begun-requires c κs = search needs
-
 loop-holds : tie.Need-loop-holds Inv-loop μ-loop
 loop-holds c = work-start (c .before .before .before .before .pre) (c .begun .ensures)
 
@@ -74,9 +71,6 @@ loop-less-2 c = stepped (c .before .before) .less
 loop-again-2 : tie.Need-loop-again-2 Inv-loop μ-loop
 loop-again-2 c = stepped (c .before .before) .kept (omega (arith, c .if1 .left))
 
-ended-requires : tie.Need-ended-requires Inv-loop μ-loop
-ended-requires c κs = search needs
-
 same-length : tie.Need-same-length Inv-loop μ-loop
 same-length c = let long = c .before .before .loop .inv .long in search needs
 
@@ -93,7 +87,7 @@ sweep-on-spec =
     Inv-loop
     μ-loop
     prepare-requires
-    begun-requires
+    (λ c κs. search needs)
     loop-holds
     step-requires
     cast-tail
@@ -103,6 +97,6 @@ sweep-on-spec =
     loop-again
     loop-less-2
     loop-again-2
-    ended-requires
+    (λ c κs. search needs)
     same-length
     returns)

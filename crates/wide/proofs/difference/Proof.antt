@@ -40,9 +40,6 @@ returns-2 c =
     let low = c .before .before .before .before .if1 .left in
     difference-by-borrow (2 ^ 64) (u .hi) (u .lo) (v .hi) (v .lo) (less u v (start .pre) low) low (c .before .struct-known9 .given .1 .0 .fits)
 
-sub-t4 : tie.Need-sub-t4
-sub-t4 c = search needs
-
 sub-t6 : tie.Need-sub-t6
 sub-t6 c =
     let start = c .before .before .before .before .before in
@@ -63,4 +60,4 @@ add-t10 : tie.Need-add-t10
 add-t10 c = record { fits = gap-rest-lt _ _ (c .before .before .before .before .if1 .left) (c .before .struct-known9 .given .1 .0 .fits) }
 
 pub difference-spec : {M : Type 1} → statement M
-difference-spec = tie.close (tie.spec sub-t4 returns sub-t6 sub-t7 sub-t8 sub-t9 add-t10 returns-2)
+difference-spec = tie.close (tie.spec (λ c. search needs) returns sub-t6 sub-t7 sub-t8 sub-t9 add-t10 returns-2)

@@ -17,15 +17,6 @@ returns-2 c =
     let u = c .before .before .before .args .u in
     (ap (λ (n : ℕ). 64 + n) (c .word-digits2 .ensures .0) ∙ sym (size-by-parts 64 (u .hi) (u .lo) (omega arith) (omega arith)), omega arith)
 
-word-digits-requires : tie.Need-word-digits-requires
-word-digits-requires c κs = search needs
-
-word-digits-requires-2 : tie.Need-word-digits-requires-2
-word-digits-requires-2 c κs = search needs
-
-add-result : tie.Need-add-result
-add-result c = search needs
-
 pub digits-spec : {M : Type 1} → statement M
 digits-spec =
-    tie.close (tie.spec word-digits-requires returns word-digits-requires-2 add-result returns-2)
+    tie.close (tie.spec (λ c κs. search needs) returns (λ c κs. search needs) (λ c. search needs) returns-2)

@@ -15,9 +15,6 @@ use Rattle.wide.proofs.divide_normal.Tie as tie
 by-digits : (u : Wide) → (u .hi * B + u .lo / B) * B + u .lo % B ≡ valueOf u
 by-digits u = omega arith
 
-quotient-digit-requires : tie.Need-quotient-digit-requires
-quotient-digit-requires c κs = search needs
-
 quotient-digit-requires-2 : tie.Need-quotient-digit-requires-2
 quotient-digit-requires-2 c κs =
     let start = c .before .before .before in
@@ -55,4 +52,4 @@ returns : tie.Need-returns
 returns c = divided (c .before .before)
 
 pub divide-normal-spec : {M : Type 1} → statement M
-divide-normal-spec = tie.close (tie.spec quotient-digit-requires quotient-digit-requires-2 mul-t5 add-t6 returns)
+divide-normal-spec = tie.close (tie.spec (λ c κs. search needs) quotient-digit-requires-2 mul-t5 add-t6 returns)

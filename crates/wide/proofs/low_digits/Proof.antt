@@ -17,18 +17,12 @@ returns-2 c =
     let args = c .before .before .before .args in
     rw (c .before .power2 .ensures) (lowest-past 64 (args .k) (args .u .hi) (args .u .lo) (c .before .before .if1 .left) (omega arith))
 
-power-requires : tie.Need-power-requires
-power-requires c κs = search needs
-
 rem-t5 : tie.Need-rem-t5
 rem-t5 c = rw (c .before .power .ensures) (pow-pos (c .before .before .before .args .k))
-
-power-requires-2 : tie.Need-power-requires-2
-power-requires-2 c κs = search needs
 
 rem-t8 : tie.Need-rem-t8
 rem-t8 c = rw (c .before .power2 .ensures) (pow-pos _)
 
 pub low-digits-spec : {M : Type 1} → statement M
 low-digits-spec =
-    tie.close (tie.spec power-requires rem-t5 returns power-requires-2 rem-t8 returns-2)
+    tie.close (tie.spec (λ c κs. search needs) rem-t5 returns (λ c κs. search needs) rem-t8 returns-2)

@@ -8,8 +8,5 @@ use Rattle.wide.proofs.power.Tie as tie
 returns : tie.Need-returns
 returns c = rw one-mul (mod-eq-of-lt (pow-lt (c .pre)))
 
-shl-result : tie.Need-shl-result
-shl-result c = search needs
-
 pub power-spec : {M : Type 1} → statement M
-power-spec = tie.close (tie.spec shl-result returns)
+power-spec = tie.close (tie.spec (λ c. search needs) returns)

@@ -33,12 +33,6 @@ returns-2 c = one-too-large (known (c .before .before)) (c .before .if1 .left) (
 returns-3 : tie.Need-returns-3
 returns-3 c = two-too-large (known (c .before .before)) (c .if2 .left)
 
-div-estimate : tie.Need-div-estimate
-div-estimate c = search needs
-
-rem-left : tie.Need-rem-left
-rem-left c = search needs
-
 mul-left : tie.Need-mul-left
 mul-left c = record { fits = lt-of-le-of-lt (le-add-right _ (c .args .low)) (left-fits c) }
 
@@ -48,17 +42,11 @@ add-left c = record { fits = left-fits c }
 mul-taken : tie.Need-mul-taken
 mul-taken c = record { fits = taken-fits B (d c) (c .args .high) (c .args .low) (half (d c) (c .pre .0)) (c .pre .1) (c .pre .2) }
 
-sub-lack : tie.Need-sub-lack
-sub-lack c = search needs
-
 sub-t14 : tie.Need-sub-t14
 sub-t14 c = let least = at-least-one (known (c .before .before)) (c .before .if1 .left) in omega arith
 
 sub-t10 : tie.Need-sub-t10
 sub-t10 c = at-least-two (known (c .before .before)) (c .if2 .left)
-
-sub-t11 : tie.Need-sub-t11
-sub-t11 c = search needs
 
 sub-t16 : tie.Need-sub-t16
 sub-t16 c = twice-enough (known (c .before .before))
@@ -67,16 +55,16 @@ pub quotient-digit-spec : {M : Type 1} → statement M
 quotient-digit-spec =
     tie.close
     (tie.spec
-    div-estimate
-    rem-left
+    (λ c. search needs)
+    (λ c. search needs)
     mul-left
     add-left
     mul-taken
     returns
-    sub-lack
+    (λ c. search needs)
     sub-t14
     returns-2
     sub-t10
-    sub-t11
+    (λ c. search needs)
     sub-t16
     returns-3)

@@ -39,33 +39,12 @@ returns-2 c =
     let u = start .args .u in
     value-past (u .hi) (u .lo) (start .args .k) (start .pre .1) (c .before .if1 .left) (start .pre .0)
 
-shl-t5 : tie.Need-shl-t5
-shl-t5 c = search needs
-
-sub-t7 : tie.Need-sub-t7
-sub-t7 c = search needs
-
-cast-t8 : tie.Need-cast-t8
-cast-t8 c = search needs
-
-shr-t9 : tie.Need-shr-t9
-shr-t9 c = search needs
-
 add-t10 : tie.Need-add-t10
 add-t10 c =
     let start = c .before .before .before in
     let u = start .args .u in
     record { fits = high-fits (u .hi) (u .lo) (start .args .k) (start .pre .1) (c .before .before .if1 .taken) }
 
-shl-t12 : tie.Need-shl-t12
-shl-t12 c = search needs
-
-cast-t14 : tie.Need-cast-t14
-cast-t14 c = search needs
-
-shl-t15 : tie.Need-shl-t15
-shl-t15 c = search needs
-
 pub shifted-left-spec : {M : Type 1} → statement M
 shifted-left-spec =
-    tie.close (tie.spec shl-t5 sub-t7 cast-t8 shr-t9 add-t10 shl-t12 returns cast-t14 shl-t15 returns-2)
+    tie.close (tie.spec (λ c. search needs) (λ c. search needs) (λ c. search needs) (λ c. search needs) add-t10 (λ c. search needs) returns (λ c. search needs) (λ c. search needs) returns-2)

@@ -30,32 +30,11 @@ returns-2 c =
     let args = c .before .before .args in
     value-past (args .u .hi) (args .u .lo) (args .k) (omega arith) (c .before .if1 .left)
 
-shr-t5 : tie.Need-shr-t5
-shr-t5 c = search needs
-
-sub-t7 : tie.Need-sub-t7
-sub-t7 c = search needs
-
-cast-t8 : tie.Need-cast-t8
-cast-t8 c = search needs
-
-shl-t9 : tie.Need-shl-t9
-shl-t9 c = search needs
-
-shr-t11 : tie.Need-shr-t11
-shr-t11 c = search needs
-
 add-t12 : tie.Need-add-t12
 add-t12 c =
     let args = c .before .before .before .before .args in
     record { fits = low-fits (args .u .hi) (args .u .lo) (args .k) (omega arith) (c .before .before .before .if1 .taken) }
 
-cast-t14 : tie.Need-cast-t14
-cast-t14 c = search needs
-
-shr-t15 : tie.Need-shr-t15
-shr-t15 c = search needs
-
 pub shifted-right-spec : {M : Type 1} → statement M
 shifted-right-spec =
-    tie.close (tie.spec shr-t5 sub-t7 cast-t8 shl-t9 shr-t11 add-t12 returns cast-t14 shr-t15 returns-2)
+    tie.close (tie.spec (λ c. search needs) (λ c. search needs) (λ c. search needs) (λ c. search needs) (λ c. search needs) add-t12 returns (λ c. search needs) (λ c. search needs) returns-2)

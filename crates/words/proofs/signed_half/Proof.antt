@@ -18,15 +18,6 @@ down-is c =
     let e : toZ w64 v ≡ pos v = toZ-pos w64 (omega arith) in
     rw (e, lt-ltb v 4294967296 h) (ap negsuc (omega arith))
 
-cast-result : tie.Need-cast-result
-cast-result c = search needs
-
-returns : tie.Need-returns
-returns c = search needs
-
-cast-result-2 : tie.Need-cast-result-2
-cast-result-2 c = search needs
-
 sub-result : tie.Need-sub-result
 sub-result c = rw (down-is c) (record { sfits = omega arith })
 
@@ -38,4 +29,4 @@ returns-2 c = toZ-ofZ (cast-result-3 c) ∙ toZ-ofZ (sub-result c) ∙ down-is c
 
 pub signed-half-spec : {M : Type 1} → statement M
 signed-half-spec =
-    tie.close (tie.spec cast-result returns cast-result-2 sub-result cast-result-3 returns-2)
+    tie.close (tie.spec (λ c. search needs) (λ c. search needs) (λ c. search needs) sub-result cast-result-3 returns-2)

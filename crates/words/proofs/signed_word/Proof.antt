@@ -18,18 +18,6 @@ less-one (suc m) = ap negsuc (omega arith)
 down-is : (c : tie.After-with-sign) → toZ w64 (ofZ w64 (c .with-sign .result)) -ℤ pos 1 ≡ negsuc (18446744073709551615 - c .before .before .args .v)
 down-is c = let e : toZ w64 (ofZ w64 (c .with-sign .result)) ≡ c .with-sign .result = search needs in rw (e, c .with-sign .ensures) (less-one _)
 
-cast-result : tie.Need-cast-result
-cast-result c = search needs
-
-returns : tie.Need-returns
-returns c = search needs
-
-sub-with-sign : tie.Need-sub-with-sign
-sub-with-sign c = search needs
-
-with-sign-requires : tie.Need-with-sign-requires
-with-sign-requires c κs = search needs
-
 sub-result : tie.Need-sub-result
 sub-result c = rw (down-is c) (record { sfits = omega arith })
 
@@ -38,4 +26,4 @@ returns-2 c = toZ-ofZ (sub-result c) ∙ down-is c ∙ rw (le-ltb _ _ (c .before
 
 pub signed-word-spec : {M : Type 1} → statement M
 signed-word-spec =
-    tie.close (tie.spec cast-result returns sub-with-sign with-sign-requires sub-result returns-2)
+    tie.close (tie.spec (λ c. search needs) (λ c. search needs) (λ c. search needs) (λ c κs. search needs) sub-result returns-2)

@@ -15,9 +15,6 @@ use Rattle.words.proofs.unsigned_half.Tie as tie
 cast-magnitude : tie.Need-cast-magnitude
 cast-magnitude c = rw (toZ-ofZ (c .fits .z)) (sfits-widen tt (c .fits .z))
 
-magnitude-requires : tie.Need-magnitude-requires
-magnitude-requires c κs = search needs
-
 size : (c : tie.After-magnitude) → c .magnitude .result ≡ natAbs (c .before .args .z)
 size c = c .magnitude .ensures ∙ rw (toZ-ofZ (cast-magnitude (c .before)), toZ-ofZ (c .before .fits .z))
 
@@ -37,4 +34,4 @@ returns-2 : tie.Need-returns-2
 returns-2 c = size (c .before) ∙ sym (word-above 32 (c .before .before .args .z) (rw (toZ-ofZ (c .before .before .fits .z)) at (c .if1 .left)))
 
 pub unsigned-half-spec : {M : Type 1} → statement M
-unsigned-half-spec = tie.close (tie.spec cast-magnitude magnitude-requires sub-result returns returns-2)
+unsigned-half-spec = tie.close (tie.spec cast-magnitude (λ c κs. search needs) sub-result returns returns-2)

@@ -12,9 +12,6 @@ use Rattle.words.proofs.Laws.{size-below, word-below, word-above}
 use Rattle.words.proofs.unsigned_word.Statement.{statement}
 use Rattle.words.proofs.unsigned_word.Tie as tie
 
-magnitude-requires : tie.Need-magnitude-requires
-magnitude-requires c κs = search needs
-
 size : (c : tie.After-magnitude) → c .magnitude .result ≡ natAbs (c .before .args .z)
 size c = rw (c .magnitude .ensures, toZ-ofZ (c .before .fits .z))
 
@@ -23,9 +20,6 @@ fits c = fits-natAbs tt (c .before .fits .z)
 
 below : (c : tie.Then1) → ltZ (c .before .before .args .z) (pos 0) ≡ true
 below c = rw (toZ-ofZ (c .before .before .fits .z)) at (c .if1 .taken)
-
-sub-result : tie.Need-sub-result
-sub-result c = search needs
 
 add-result : tie.Need-add-result
 add-result c = record { fits = omega (arith, size (c .before), size-below (c .before .before .args .z) (below c), fits (c .before) .fits) }
@@ -37,4 +31,4 @@ returns-2 : tie.Need-returns-2
 returns-2 c = size (c .before) ∙ sym (word-above 64 (c .before .before .args .z) (rw (toZ-ofZ (c .before .before .fits .z)) at (c .if1 .left)))
 
 pub unsigned-word-spec : {M : Type 1} → statement M
-unsigned-word-spec = tie.close (tie.spec magnitude-requires sub-result add-result returns returns-2)
+unsigned-word-spec = tie.close (tie.spec (λ c κs. search needs) (λ c. search needs) add-result returns returns-2)

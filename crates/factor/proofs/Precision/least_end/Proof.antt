@@ -5,14 +5,8 @@ use borrow.Author.Needs.{needs}
 use Rattle.factor.proofs.Precision.least_end.Statement.{statement}
 use Rattle.factor.proofs.Precision.least_end.Tie as tie
 
-scale-requires : tie.Need-scale-requires
-scale-requires c κs = search needs
-
-power-requires : tie.Need-power-requires
-power-requires c κs = search needs
-
 returns : tie.Need-returns
 returns c = c .power .ensures ∙ ap (λ (e : ℕ). 2 ^ e) (c .before .scale .ensures)
 
 pub least-end-spec : {M : Type 1} → statement M
-least-end-spec = tie.close (tie.spec scale-requires power-requires returns)
+least-end-spec = tie.close (tie.spec (λ c κs. search needs) (λ c κs. search needs) returns)

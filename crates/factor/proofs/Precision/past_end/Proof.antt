@@ -7,12 +7,6 @@ use Rattle.factor.specs.Precision.{scaleOf}
 use Rattle.factor.proofs.Precision.past_end.Statement.{statement}
 use Rattle.factor.proofs.Precision.past_end.Tie as tie
 
-high-dropped-requires : tie.Need-high-dropped-requires
-high-dropped-requires c κs = search needs
-
-power-requires : tie.Need-power-requires
-power-requires c κs = search needs
-
 returns : tie.Need-returns
 returns c = c .power .ensures ∙ ap (λ (e : ℕ). 2 ^ e) (c .before .high-dropped .ensures ∙ next (scaleOf (c .before .before .args .self .bits)))
   where
@@ -20,4 +14,4 @@ returns c = c .power .ensures ∙ ap (λ (e : ℕ). 2 ^ e) (c .before .high-drop
     next e = omega arith
 
 pub past-end-spec : {M : Type 1} → statement M
-past-end-spec = tie.close (tie.spec high-dropped-requires power-requires returns)
+past-end-spec = tie.close (tie.spec (λ c κs. search needs) (λ c κs. search needs) returns)
