@@ -15,17 +15,17 @@ pub const PRECISION: u32 = 24;
 const MOST_EXPONENT: u32 = 127;
 
 // The exponent's field of infinities and NaNs.
-pub const ENDLESS: u32 = 255;
+pub const ENDLESS: u32 = 2 * MOST_EXPONENT + 1;
 
 // The weight of the exponent's field, which the leading digit has too, and that of the sign.
 const LEADING: u32 = 8388608;
 
-const SIGN: u32 = 2147483648;
+const SIGN: u32 = LEADING * (ENDLESS + 1);
 
 // The patterns of plus infinity and of NaN.
-const INFINITY: u32 = 2139095040;
+const INFINITY: u32 = ENDLESS * LEADING;
 
-const NAN: u32 = 2143289344;
+const NAN: u32 = INFINITY + LEADING / 2;
 
 // Whether a pattern has the sign.
 pub fn is_minus(bits: u32) -> bool

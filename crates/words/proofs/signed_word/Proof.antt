@@ -22,7 +22,7 @@ sub-result : tie.Need-sub-result
 sub-result c = rw (down-is c) (record { sfits = omega arith })
 
 returns-2 : tie.Need-returns-2
-returns-2 c = toZ-ofZ (sub-result c) ∙ down-is c ∙ rw (le-ltb _ _ (c .before .if1 .left)) (ap negsuc (omega arith))
+returns-2 c = toZ-ofZ (sub-result c) ∙ down-is c ∙ rw (le-ltb (c .before .before .args .v) 9223372036854775808 (c .before .if1 .left)) (ap negsuc (omega arith))
 
 pub signed-word-spec : {M : Type 1} → statement M
 signed-word-spec =
