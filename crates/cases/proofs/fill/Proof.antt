@@ -33,15 +33,4 @@ returns : tie.Need-returns Inv-loop μ-loop
 returns c = tt
 
 pub fill-spec : {M : Type 1} → statement M
-fill-spec =
-    tie.close
-    (tie.spec
-    Inv-loop
-    μ-loop
-    loop-holds
-    mul-list
-    element-write-list
-    add-i
-    loop-less
-    loop-again
-    returns)
+fill-spec = tie.close (tie.spec Inv-loop μ-loop loop-holds mul-list element-write-list add-i loop-less loop-again returns)

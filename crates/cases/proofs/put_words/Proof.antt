@@ -40,17 +40,4 @@ returns : tie.Need-returns Inv-loop μ-loop
 returns c = search needs
 
 pub put-words-spec : {M : Type 1} → statement M
-put-words-spec =
-    tie.close
-    (tie.spec
-    Inv-loop
-    μ-loop
-    loop-holds
-    mul-wide
-    shared-slice-read-wide
-    wide-requires
-    put-field-requires
-    add-i
-    loop-less
-    loop-again
-    returns)
+put-words-spec = tie.close (tie.spec Inv-loop μ-loop loop-holds mul-wide shared-slice-read-wide wide-requires put-field-requires add-i loop-less loop-again returns)

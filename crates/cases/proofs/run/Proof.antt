@@ -46,19 +46,4 @@ returns-2 : tie.Need-returns-2 Inv-loop μ-loop
 returns-2 c = search needs
 
 pub run-spec : {M : Type 1} → statement M
-run-spec =
-    tie.close
-    (tie.spec
-    Inv-loop
-    μ-loop
-    nothing-requires
-    loop-holds
-    shared-slice-read-if1
-    answer-line-requires
-    add-from
-    add-i
-    loop-less
-    loop-again
-    last-line-requires
-    returns
-    returns-2)
+run-spec = tie.close (tie.spec Inv-loop μ-loop nothing-requires loop-holds shared-slice-read-if1 answer-line-requires add-from add-i loop-less loop-again last-line-requires returns returns-2)

@@ -13,14 +13,4 @@ next-requires c κs =
     (intact-sound (a .f) (sym (t .before .is-intact .ensures) ∙ t .if1 .taken), omega (arith, c .if2 .left))
 
 pub search-spec : {M : Type 1} → statement M
-search-spec =
-    tie.close
-    (tie.spec
-    (λ c κs. search needs)
-    (λ c κs. search needs)
-    (λ c. search needs)
-    next-requires
-    (λ c κs. search needs)
-    (λ c. search needs)
-    (λ c κs. search needs)
-    (λ c. search needs))
+search-spec = tie.close (tie.spec (λ c κs. search needs) (λ c κs. search needs) (λ c. search needs) next-requires (λ c κs. search needs) (λ c. search needs) (λ c κs. search needs) (λ c. search needs))

@@ -54,24 +54,5 @@ returns c =
 
 pub put-factor-spec : {M : Type 1} → statement M
 put-factor-spec =
-    tie.close
-    (tie.spec
-    (λ c. search needs)
-    (λ c. search needs)
-    slice-write-out-2
-    slice-write-out-3
-    slice-write-out-4
-    (λ c κs. search needs)
-    slice-write-out-5
-    (λ c. search needs)
-    slice-write-out-6
-    (λ c κs. search needs)
-    (λ c. search needs)
-    slice-write-out-7
-    (λ c κs. search needs)
-    (λ c. search needs)
-    slice-write-out-8
-    (λ c κs. search needs)
-    slice-write-out-9
-    same-length
-    returns)
+    tie.close (tie.spec (λ c. search needs) (λ c. search needs) slice-write-out-2 slice-write-out-3 slice-write-out-4 (λ c κs. search needs) slice-write-out-5 (λ c. search needs) slice-write-out-6 (λ c κs. search needs)
+    (λ c. search needs) slice-write-out-7 (λ c κs. search needs) (λ c. search needs) slice-write-out-8 (λ c κs. search needs) slice-write-out-9 same-length returns)

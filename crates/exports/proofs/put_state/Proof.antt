@@ -29,14 +29,4 @@ returns c =
     rw (put .put-factor .ensures, mark-is (put .before .before .before .before .args .s .finished))
 
 pub put-state-spec : {M : Type 1} → statement M
-put-state-spec =
-    tie.close
-    (tie.spec
-    (λ c κs. search needs)
-    (λ c. search needs)
-    slice-write-out-2
-    slice-write-out-3
-    (λ c. search needs)
-    slice-write-out-4
-    (λ c. search needs)
-    returns)
+put-state-spec = tie.close (tie.spec (λ c κs. search needs) (λ c. search needs) slice-write-out-2 slice-write-out-3 (λ c. search needs) slice-write-out-4 (λ c. search needs) returns)

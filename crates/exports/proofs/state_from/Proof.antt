@@ -9,12 +9,4 @@ unfolding stateFrom
 returns c = rw (c .before .before .before .before .factor-from .ensures)
 
 pub state-from-spec : {M : Type 1} → statement M
-state-from-spec =
-    tie.close
-    (tie.spec
-    (λ c κs. search needs)
-    (λ c. search needs)
-    (λ c. search needs)
-    (λ c. search needs)
-    (λ c. search needs)
-    returns)
+state-from-spec = tie.close (tie.spec (λ c κs. search needs) (λ c. search needs) (λ c. search needs) (λ c. search needs) (λ c. search needs) returns)

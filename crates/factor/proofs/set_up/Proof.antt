@@ -178,21 +178,5 @@ returns-7 c =
 
 pub set-up-spec : {M : Type 1} → statement M
 set-up-spec =
-    tie.close
-    (tie.spec
-    (λ c κs. search needs)
-    (λ c. search needs)
-    enum-told
-    returns
-    ends-out-requires
-    returns-2
-    returns-3
-    (λ c κs. search needs)
-    returns-4
-    parts-at-requires
-    parts-at-requires-2
-    returns-5
-    (λ c κs. search needs)
-    returns-6
-    stored-parts-requires
-    returns-7)
+    tie.close (tie.spec (λ c κs. search needs) (λ c. search needs) enum-told returns ends-out-requires returns-2 returns-3 (λ c κs. search needs) returns-4 parts-at-requires parts-at-requires-2 returns-5
+    (λ c κs. search needs) returns-6 stored-parts-requires returns-7)

@@ -26,14 +26,4 @@ returns-2 c =
 
 pub float-of-spec : {M : Type 1} → statement M
 float-of-spec =
-    tie.close
-    (tie.spec
-    (λ c. search needs)
-    (λ c. search needs)
-    (λ c. search needs)
-    float-from-bits-result
-    returns
-    (λ c. search needs)
-    (λ c. search needs)
-    float-from-bits-result-2
-    returns-2)
+    tie.close (tie.spec (λ c. search needs) (λ c. search needs) (λ c. search needs) float-from-bits-result returns (λ c. search needs) (λ c. search needs) float-from-bits-result-2 returns-2)

@@ -31,4 +31,5 @@ returns c =
     c .float-of .ensures ∙ ap (floatOf binary32 (a .minus) (emax binary32 + a .n - 2 - a .places)) (kept s) ∙ narrow-is binary32 (a .n) (a .m) (a .places) (s .pre) (a .minus)
 
 pub narrow-float-spec : {M : Type 1} → statement M
-narrow-float-spec = tie.close (tie.spec (λ c. search needs) (λ c. search needs) (λ c. search needs) (λ c. search needs) (λ c. search needs) (λ c. search needs) cast-float-of-2 float-of-requires returns)
+narrow-float-spec =
+    tie.close (tie.spec (λ c. search needs) (λ c. search needs) (λ c. search needs) (λ c. search needs) (λ c. search needs) (λ c. search needs) cast-float-of-2 float-of-requires returns)

@@ -34,16 +34,4 @@ returns-2 c =
     ap₂ (λ (m k : ℕ). m * 2 ^ (k - 1 - d) % 2 ^ wordBits) (c .before .significand-of .ensures) (c .field-of .ensures) ∙ units-shifted binary32 wordBits d _ (e .if1 .left) (e .before .pre .1)
 
 pub units-of-spec : {M : Type 1} → statement M
-units-of-spec =
-    tie.close
-    (tie.spec
-    (λ c. search needs)
-    returns
-    (λ c κs. search needs)
-    (λ c. search needs)
-    (λ c κs. search needs)
-    sub-result
-    sub-result-2
-    (λ c. search needs)
-    shl-result
-    returns-2)
+units-of-spec = tie.close (tie.spec (λ c. search needs) returns (λ c κs. search needs) (λ c. search needs) (λ c κs. search needs) sub-result sub-result-2 (λ c. search needs) shl-result returns-2)

@@ -12,5 +12,4 @@ returns-2 : tie.Need-returns-2
 returns-2 c = sym (high-byte (c .before .args .d) (c .if1 .left))
 
 pub digit-byte-spec : {M : Type 1} → statement M
-digit-byte-spec =
-    tie.close (tie.spec (λ c. search needs) (λ c. search needs) returns (λ c. search needs) (λ c. search needs) returns-2)
+digit-byte-spec = tie.close (tie.spec (λ c. search needs) (λ c. search needs) returns (λ c. search needs) (λ c. search needs) returns-2)

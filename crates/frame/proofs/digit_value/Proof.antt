@@ -28,5 +28,4 @@ returns-5 c =
     sym (no-value b (between-over 48 57 b (omega arith)) (between-over 65 70 b (omega arith)))
 
 pub digit-value-spec : {M : Type 1} → statement M
-digit-value-spec =
-    tie.close (tie.spec returns (λ c. search needs) returns-2 returns-3 (λ c. search needs) (λ c. search needs) returns-4 returns-5)
+digit-value-spec = tie.close (tie.spec returns (λ c. search needs) returns-2 returns-3 (λ c. search needs) (λ c. search needs) returns-4 returns-5)

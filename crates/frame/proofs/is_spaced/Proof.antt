@@ -47,16 +47,4 @@ returns-4 c =
     third-left _ _ (second .before .before .if1 .left) (second .if2 .left) (third .if3 .left)
 
 pub is-spaced-spec : {M : Type 1} → statement M
-is-spaced-spec =
-    tie.close
-    (tie.spec
-    (λ c. search needs)
-    (λ c. search needs)
-    returns
-    (λ c. search needs)
-    returns-2
-    (λ c. search needs)
-    returns-3
-    (λ c. search needs)
-    (λ c. search needs)
-    returns-4)
+is-spaced-spec = tie.close (tie.spec (λ c. search needs) (λ c. search needs) returns (λ c. search needs) returns-2 (λ c. search needs) returns-3 (λ c. search needs) (λ c. search needs) returns-4)

@@ -20,5 +20,4 @@ returns : tie.Need-returns
 returns c = written-then (c .before .before .put-digits .ensures) (written-byte _ _ _)
 
 pub put-field-spec : {M : Type 1} → statement M
-put-field-spec =
-    tie.close (tie.spec (λ c κs. search needs) slice-write-buf add-result (λ c. search needs) returns)
+put-field-spec = tie.close (tie.spec (λ c κs. search needs) slice-write-buf add-result (λ c. search needs) returns)

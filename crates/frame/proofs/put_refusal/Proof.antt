@@ -30,11 +30,4 @@ returns c =
     written-field _ _ _ _ (first .put-field .ensures) (written-field _ _ _ _ (second .put-field2 .ensures) (third .put-field3 .ensures))
 
 pub put-refusal-spec : {M : Type 1} → statement M
-put-refusal-spec =
-    tie.close
-    (tie.spec
-    (λ c κs. search needs)
-    put-field-requires-2
-    put-field-requires-3
-    (λ c. search needs)
-    returns)
+put-refusal-spec = tie.close (tie.spec (λ c κs. search needs) put-field-requires-2 put-field-requires-3 (λ c. search needs) returns)

@@ -56,14 +56,4 @@ returns c =
     (written-field _ _ _ _ (fourth .put-field4 .ensures) (fifth .put-field5 .ensures))))
 
 pub put-report-spec : {M : Type 1} → statement M
-put-report-spec =
-    tie.close
-    (tie.spec
-    (λ c κs. search needs)
-    (λ c κs. search needs)
-    put-field-requires-2
-    put-field-requires-3
-    put-field-requires-4
-    put-field-requires-5
-    (λ c. search needs)
-    returns)
+put-report-spec = tie.close (tie.spec (λ c κs. search needs) (λ c κs. search needs) put-field-requires-2 put-field-requires-3 put-field-requires-4 put-field-requires-5 (λ c. search needs) returns)

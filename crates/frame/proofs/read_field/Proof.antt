@@ -102,23 +102,5 @@ returns-4 c = all-read _ _ _ (omega arith) _ _ (c .before .loop .inv) (c .loop-t
 
 pub read-field-spec : {M : Type 1} → statement M
 read-field-spec =
-    tie.close
-    (tie.spec
-    Inv-loop
-    μ-loop
-    returns
-    (λ c. search needs)
-    returns-2
-    loop-holds
-    (λ c. search needs)
-    (λ c. search needs)
-    (λ c κs. search needs)
-    (λ c. search needs)
-    enum-told
-    returns-3
-    mul-value
-    add-value
-    (λ c. search needs)
-    (λ c. search needs)
-    loop-again
-    returns-4)
+    tie.close (tie.spec Inv-loop μ-loop returns (λ c. search needs) returns-2 loop-holds (λ c. search needs) (λ c. search needs) (λ c κs. search needs) (λ c. search needs) enum-told returns-3 mul-value add-value
+    (λ c. search needs) (λ c. search needs) loop-again returns-4)

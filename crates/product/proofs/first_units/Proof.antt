@@ -83,17 +83,4 @@ returns-2 c =
 
 pub first-units-spec : {M : Type 1} → statement M
 first-units-spec =
-    tie.close
-    (tie.spec
-    (λ c κs. search needs)
-    mul-exact
-    returns
-    (λ c κs. search needs)
-    sub-dropped
-    nearest-word-requires
-    (λ c κs. search needs)
-    (λ c. search needs)
-    sub-result
-    (λ c. search needs)
-    shl-result
-    returns-2)
+    tie.close (tie.spec (λ c κs. search needs) mul-exact returns (λ c κs. search needs) sub-dropped nearest-word-requires (λ c κs. search needs) (λ c. search needs) sub-result (λ c. search needs) shl-result returns-2)

@@ -102,15 +102,4 @@ returns-2 : tie.Need-returns-2
 returns-2 c = c .sum .ensures ∙ joined (c .before .before .before .before) false (c .before .if1 .left)
 
 pub fused-units-spec : {M : Type 1} → statement M
-fused-units-spec =
-    tie.close
-    (tie.spec
-    mul-from-word
-    (λ c κs. search needs)
-    (λ c κs. search needs)
-    shifted-left-requires
-    (λ c κs. search needs)
-    difference-requires
-    returns
-    sum-requires
-    returns-2)
+fused-units-spec = tie.close (tie.spec mul-from-word (λ c κs. search needs) (λ c κs. search needs) shifted-left-requires (λ c κs. search needs) difference-requires returns sum-requires returns-2)

@@ -64,14 +64,4 @@ returns-3 c =
     ∙ accepts (pass (through past) (pass (in-range range) end)) _
 
 pub multiply-spec : {M : Type 1} → statement M
-multiply-spec =
-    tie.close
-    (tie.spec
-    (λ c κs. search needs)
-    returns
-    significand-out-requires
-    returns-2
-    product-of-requires
-    mark-of-requires
-    (λ c κs. search needs)
-    returns-3)
+multiply-spec = tie.close (tie.spec (λ c κs. search needs) returns significand-out-requires returns-2 product-of-requires mark-of-requires (λ c κs. search needs) returns-3)

@@ -87,19 +87,5 @@ returns-3 c =
 
 pub finish-spec : {M : Type 1} → statement M
 finish-spec =
-    tie.close
-    (tie.spec
-    (λ c κs. search needs)
-    (λ c κs. search needs)
-    (λ c. search needs)
-    (λ c. search needs)
-    returns
-    returns-2
-    (λ c κs. search needs)
-    (λ c. search needs)
-    float-of-requires
-    (λ c κs. search needs)
-    (λ c. search needs)
-    mark-of-requires
-    (λ c κs. search needs)
-    returns-3)
+    tie.close (tie.spec (λ c κs. search needs) (λ c κs. search needs) (λ c. search needs) (λ c. search needs) returns returns-2 (λ c κs. search needs) (λ c. search needs) float-of-requires (λ c κs. search needs)
+    (λ c. search needs) mark-of-requires (λ c κs. search needs) returns-3)

@@ -77,16 +77,4 @@ returns-3 c =
     c .finish .ensures ∙ ap (finished (a k .args .f) (b k)) (v .two-steps .ensures) ∙ taken k .2
 
 pub read-spec : {M : Type 1} → statement M
-read-spec =
-    tie.close
-    (tie.spec
-    (λ c κs. search needs)
-    (λ c. search needs)
-    enum-told
-    float-from-bits-t7
-    (λ c. search needs)
-    two-steps-requires
-    finish-requires
-    returns
-    returns-2
-    returns-3)
+read-spec = tie.close (tie.spec (λ c κs. search needs) (λ c. search needs) enum-told float-from-bits-t7 (λ c. search needs) two-steps-requires finish-requires returns returns-2 returns-3)

@@ -81,16 +81,4 @@ returns-6 c =
     ap (λ (z : ℕ). accepted (normal z)) (d .before .before .bits-of .ensures) ∙ ap accepted kind ∙ accepts (pass (through (t d)) (pass (precise (e d)) (pass (ended n) (pass is end)))) _
 
 pub take-spec : {M : Type 1} → statement M
-take-spec =
-    tie.close
-    (tie.spec
-    (λ c κs. search needs)
-    returns
-    returns-2
-    (λ c κs. search needs)
-    (λ c κs. search needs)
-    (λ c κs. search needs)
-    returns-3
-    returns-4
-    returns-5
-    returns-6)
+take-spec = tie.close (tie.spec (λ c κs. search needs) returns returns-2 (λ c κs. search needs) (λ c κs. search needs) (λ c κs. search needs) returns-3 returns-4 returns-5 returns-6)

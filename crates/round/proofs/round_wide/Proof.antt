@@ -75,15 +75,4 @@ returns-2 c =
 
 pub round-wide-spec : {M : Type 1} → statement M
 round-wide-spec =
-    tie.close
-    (tie.spec
-    (λ c κs. search needs)
-    returns
-    (λ c κs. search needs)
-    sub-k
-    shifted-right-requires
-    (λ c κs. search needs)
-    locate-wide-requires
-    choose-neighbour-requires
-    (λ c κs. search needs)
-    returns-2)
+    tie.close (tie.spec (λ c κs. search needs) returns (λ c κs. search needs) sub-k shifted-right-requires (λ c κs. search needs) locate-wide-requires choose-neighbour-requires (λ c κs. search needs) returns-2)

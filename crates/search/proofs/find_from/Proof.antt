@@ -24,5 +24,4 @@ returns-2 c =
     c .find .ensures ∙ ap₂ (searchWindow (a .m) (a .step)) from to ∙ sym (searchFrom-window (a .m) (a .step) (a .base) (a .l) (a .r) (omega arith))
 
 pub find-from-spec : {M : Type 1} → statement M
-find-from-spec =
-    tie.close (tie.spec (λ c κs. search needs) (λ c κs. search needs) returns find-requires returns-2)
+find-from-spec = tie.close (tie.spec (λ c κs. search needs) (λ c κs. search needs) returns find-requires returns-2)

@@ -23,5 +23,4 @@ returns-2 : tie.Need-returns-2
 returns-2 c = rw (c .enum-told .given .1)
 
 pub round-back-spec : {M : Type 1} → statement M
-round-back-spec =
-    tie.close (tie.spec (λ c. search needs) (λ c. search needs) mul-t9 add-t10 add-t11 enum-told returns returns-2)
+round-back-spec = tie.close (tie.spec (λ c. search needs) (λ c. search needs) mul-t9 add-t10 add-t11 enum-told returns returns-2)

@@ -22,6 +22,4 @@ returns-2 c =
     ap (λ (a : Outcome Description). andThen a setUp) (sym (ap outcomeOf (known .j .given .1)) ∙ known .before .before .read-frame .ensures)
 
 pub judge-spec : {M : Type 1} → statement M
-judge-spec =
-    tie.close
-    (tie.spec (λ c κs. search needs) (λ c. search needs) (λ c κs. search needs) (λ c. search needs) returns returns-2)
+judge-spec = tie.close (tie.spec (λ c κs. search needs) (λ c. search needs) (λ c κs. search needs) (λ c. search needs) returns returns-2)

@@ -116,18 +116,4 @@ returns-2 : tie.Need-returns-2 Inv-loop μ-loop
 returns-2 c = told (at-end _ _ _ _ _ _ (c .before .loop .inv) (c .loop-test .left))
 
 pub keep-line-spec : {M : Type 1} → statement M
-keep-line-spec =
-    tie.close
-    (tie.spec
-    Inv-loop
-    μ-loop
-    loop-holds
-    (λ c. search needs)
-    same-length
-    returns
-    keep-byte-requires
-    (λ c. search needs)
-    loop-less
-    loop-again
-    same-length-2
-    returns-2)
+keep-line-spec = tie.close (tie.spec Inv-loop μ-loop loop-holds (λ c. search needs) same-length returns keep-byte-requires (λ c. search needs) loop-less loop-again same-length-2 returns-2)

@@ -32,17 +32,5 @@ returns-2 c =
 
 pub line-step-spec : {M : Type 1} → statement M
 line-step-spec =
-    tie.close
-    (tie.spec
-    (λ c. search needs)
-    slice-aggregate-judge
-    (λ c κs. search needs)
-    (λ c. search needs)
-    begin-requires
-    (λ c. search needs)
-    (λ c κs. search needs)
-    (λ c. search needs)
-    (λ c κs. search needs)
-    returns
-    (λ c. search needs)
-    returns-2)
+    tie.close (tie.spec (λ c. search needs) slice-aggregate-judge (λ c κs. search needs) (λ c. search needs) begin-requires (λ c. search needs) (λ c κs. search needs) (λ c. search needs) (λ c κs. search needs) returns
+    (λ c. search needs) returns-2)

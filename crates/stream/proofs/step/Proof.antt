@@ -59,18 +59,5 @@ returns-4 c =
 
 pub step-spec : {M : Type 1} → statement M
 step-spec =
-    tie.close
-    (tie.spec
-    (λ c. search needs)
-    sweep-step-requires
-    enum-told
-    returns
-    (λ c. search needs)
-    (λ c κs. search needs)
-    returns-2
-    (λ c κs. search needs)
-    add-t21
-    (λ c. search needs)
-    returns-3
-    (λ c. search needs)
+    tie.close (tie.spec (λ c. search needs) sweep-step-requires enum-told returns (λ c. search needs) (λ c κs. search needs) returns-2 (λ c κs. search needs) add-t21 (λ c. search needs) returns-3 (λ c. search needs)
     returns-4)

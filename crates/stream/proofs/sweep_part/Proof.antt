@@ -66,15 +66,4 @@ returns-2 c =
 
 pub sweep-part-spec : {M : Type 1} → statement M
 sweep-part-spec =
-    tie.close
-    (tie.spec
-    (λ c. search needs)
-    (λ c κs. search needs)
-    (λ c. search needs)
-    (λ c. search needs)
-    put-words-requires
-    added-requires
-    enum-told
-    (λ c. search needs)
-    returns
-    returns-2)
+    tie.close (tie.spec (λ c. search needs) (λ c κs. search needs) (λ c. search needs) (λ c. search needs) put-words-requires added-requires enum-told (λ c. search needs) returns returns-2)

@@ -37,14 +37,4 @@ returns-2 c =
     part-goes-on _ _ (start .pre .1) _ (part .sweep-part .ensures .0) _ _ _ _ (part .sweep-part .ensures .1) _ (start .pre .0 .size) (c .if1 .left)
 
 pub sweep-step-spec : {M : Type 1} → statement M
-sweep-step-spec =
-    tie.close
-    (tie.spec
-    (λ c κs. search needs)
-    put-report-requires
-    (λ c. search needs)
-    (λ c κs. search needs)
-    (λ c. search needs)
-    returns
-    (λ c. search needs)
-    returns-2)
+sweep-step-spec = tie.close (tie.spec (λ c κs. search needs) put-report-requires (λ c. search needs) (λ c κs. search needs) (λ c. search needs) returns (λ c. search needs) returns-2)

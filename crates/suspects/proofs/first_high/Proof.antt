@@ -86,6 +86,4 @@ returns-2 c =
     inexact (power .before .before .before .before .args .f) (power .before .before .before .before .pre) (power-is power) (divided .divide .ensures .0) (divided .divide .ensures .1) (c .before .if1 .left)
 
 pub first-high-spec : {M : Type 1} → statement M
-first-high-spec =
-    tie.close
-    (tie.spec (λ c κs. search needs) (λ c. search needs) (λ c κs. search needs) divide-requires returns add-result returns-2)
+first-high-spec = tie.close (tie.spec (λ c κs. search needs) (λ c. search needs) (λ c κs. search needs) divide-requires returns add-result returns-2)

@@ -66,13 +66,4 @@ returns-2 c =
     nowhere (a .s) (a .start) (counted .remainder .ensures) (found .find-from .ensures) (c .enum-told .given .1)
 
 pub next-spec : {M : Type 1} → statement M
-next-spec =
-    tie.close
-    (tie.spec
-    (λ c κs. search needs)
-    find-from-requires
-    (λ c. search needs)
-    add-t8
-    enum-told
-    returns
-    returns-2)
+next-spec = tie.close (tie.spec (λ c κs. search needs) find-from-requires (λ c. search needs) add-t8 enum-told returns returns-2)

@@ -24,5 +24,4 @@ returns c =
     λ i. record { low = low i; high = high i; «first_high» = first i }
 
 pub prepare-spec : {M : Type 1} → statement M
-prepare-spec =
-    tie.close (tie.spec (λ c κs. search needs) (λ c κs. search needs) (λ c κs. search needs) (λ c κs. search needs) (λ c κs. search needs) returns)
+prepare-spec = tie.close (tie.spec (λ c κs. search needs) (λ c κs. search needs) (λ c κs. search needs) (λ c κs. search needs) (λ c κs. search needs) returns)

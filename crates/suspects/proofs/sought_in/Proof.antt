@@ -60,14 +60,4 @@ returns c =
 
 pub sought-in-spec : {M : Type 1} → statement M
 sought-in-spec =
-    tie.close
-    (tie.spec
-    (λ c κs. search needs)
-    power-requires
-    (λ c. search needs)
-    (λ c κs. search needs)
-    mul-widening
-    (λ c. search needs)
-    (λ c κs. search needs)
-    sought-near-requires
-    returns)
+    tie.close (tie.spec (λ c κs. search needs) power-requires (λ c. search needs) (λ c κs. search needs) mul-widening (λ c. search needs) (λ c κs. search needs) sought-near-requires returns)

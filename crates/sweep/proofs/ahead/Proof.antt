@@ -47,16 +47,4 @@ returns-2 c =
 
 pub ahead-spec : {M : Type 1} → statement M
 ahead-spec =
-    tie.close
-    (tie.spec
-    (λ c. search needs)
-    (λ c κs. search needs)
-    sought-before-requires
-    enum-told
-    (λ c. search needs)
-    (λ c κs. search needs)
-    (λ c. search needs)
-    sought-before-requires-2
-    add-t13
-    returns
-    returns-2)
+    tie.close (tie.spec (λ c. search needs) (λ c κs. search needs) sought-before-requires enum-told (λ c. search needs) (λ c κs. search needs) (λ c. search needs) sought-before-requires-2 add-t13 returns returns-2)

@@ -29,6 +29,4 @@ returns-3 c =
     rw (in-first, in-last)
 
 pub range-out-spec : {M : Type 1} → statement M
-range-out-spec =
-    tie.close
-    (tie.spec (λ c κs. search needs) returns (λ c κs. search needs) returns-2 returns-3)
+range-out-spec = tie.close (tie.spec (λ c κs. search needs) returns (λ c κs. search needs) returns-2 returns-3)

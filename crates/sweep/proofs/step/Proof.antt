@@ -59,17 +59,4 @@ returns-3 c =
 
 pub step-spec : {M : Type 1} → statement M
 step-spec =
-    tie.close
-    (tie.spec
-    ahead-requires
-    add-rounds
-    (λ c. search needs)
-    (λ c κs. search needs)
-    (λ c κs. search needs)
-    returns
-    trial-requires
-    tried-requires
-    enum-told
-    (λ c κs. search needs)
-    returns-2
-    returns-3)
+    tie.close (tie.spec ahead-requires add-rounds (λ c. search needs) (λ c κs. search needs) (λ c κs. search needs) returns trial-requires tried-requires enum-told (λ c κs. search needs) returns-2 returns-3)

@@ -76,18 +76,5 @@ returns-2 c =
 
 pub sweep-call-spec : {M : Type 1} → statement M
 sweep-call-spec =
-    tie.close
-    (tie.spec
-    (λ c κs. search needs)
-    (λ c. search needs)
-    (λ c κs. search needs)
-    enum-told
-    mul-sweep-on
-    sub-sweep-on
-    part-sweep-on-start
-    (λ c. search needs)
-    sweep-on-requires
-    add-moved
-    returns
-    (λ c. search needs)
-    returns-2)
+    tie.close (tie.spec (λ c κs. search needs) (λ c. search needs) (λ c κs. search needs) enum-told mul-sweep-on sub-sweep-on part-sweep-on-start (λ c. search needs) sweep-on-requires add-moved returns
+    (λ c. search needs) returns-2)

@@ -82,21 +82,5 @@ returns c =
 
 pub sweep-on-spec : {M : Type 1} → statement M
 sweep-on-spec =
-    tie.close
-    (tie.spec
-    Inv-loop
-    μ-loop
-    prepare-requires
-    (λ c κs. search needs)
-    loop-holds
-    step-requires
-    cast-tail
-    mul-tail
-    slice-write-tail
-    loop-less
-    loop-again
-    loop-less-2
-    loop-again-2
-    (λ c κs. search needs)
-    same-length
-    returns)
+    tie.close (tie.spec Inv-loop μ-loop prepare-requires (λ c κs. search needs) loop-holds step-requires cast-tail mul-tail slice-write-tail loop-less loop-again loop-less-2 loop-again-2 (λ c κs. search needs)
+    same-length returns)

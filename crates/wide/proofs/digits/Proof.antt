@@ -18,5 +18,4 @@ returns-2 c =
     (ap (λ (n : ℕ). 64 + n) (c .word-digits2 .ensures .0) ∙ sym (size-by-parts 64 (u .hi) (u .lo) (omega arith) (omega arith)), omega arith)
 
 pub digits-spec : {M : Type 1} → statement M
-digits-spec =
-    tie.close (tie.spec (λ c κs. search needs) returns (λ c κs. search needs) (λ c. search needs) returns-2)
+digits-spec = tie.close (tie.spec (λ c κs. search needs) returns (λ c κs. search needs) (λ c. search needs) returns-2)

@@ -71,13 +71,4 @@ shr-t7 : tie.Need-shr-t7
 shr-t7 c = normal (c .before .before .before) .shift-lt
 
 pub divide-spec : {M : Type 1} → statement M
-divide-spec =
-    tie.close
-    (tie.spec
-    shifted-left-requires
-    cast-divide-normal
-    shl-divide-normal
-    divide-normal-requires
-    cast-t6
-    shr-t7
-    returns)
+divide-spec = tie.close (tie.spec shifted-left-requires cast-divide-normal shl-divide-normal divide-normal-requires cast-t6 shr-t7 returns)

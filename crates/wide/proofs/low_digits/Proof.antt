@@ -24,5 +24,4 @@ rem-t8 : tie.Need-rem-t8
 rem-t8 c = rw (c .before .power2 .ensures) (pow-pos _)
 
 pub low-digits-spec : {M : Type 1} → statement M
-low-digits-spec =
-    tie.close (tie.spec (λ c κs. search needs) rem-t5 returns (λ c κs. search needs) rem-t8 returns-2)
+low-digits-spec = tie.close (tie.spec (λ c κs. search needs) rem-t5 returns (λ c κs. search needs) rem-t8 returns-2)

@@ -62,5 +62,4 @@ add-t18 : tie.Need-add-t18
 add-t18 c = omega arith
 
 pub product-spec : {M : Type 1} → statement M
-product-spec =
-    tie.close (tie.spec mul-lowest mul-middle add-middle mul-next add-next mul-t10 add-t12 add-t14 mul-t16 add-t18 returns)
+product-spec = tie.close (tie.spec mul-lowest mul-middle add-middle mul-next add-next mul-t10 add-t12 add-t14 mul-t16 add-t18 returns)

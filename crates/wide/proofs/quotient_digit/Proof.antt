@@ -53,18 +53,4 @@ sub-t16 c = twice-enough (known (c .before .before))
 
 pub quotient-digit-spec : {M : Type 1} → statement M
 quotient-digit-spec =
-    tie.close
-    (tie.spec
-    (λ c. search needs)
-    (λ c. search needs)
-    mul-left
-    add-left
-    mul-taken
-    returns
-    (λ c. search needs)
-    sub-t14
-    returns-2
-    sub-t10
-    (λ c. search needs)
-    sub-t16
-    returns-3)
+    tie.close (tie.spec (λ c. search needs) (λ c. search needs) mul-left add-left mul-taken returns (λ c. search needs) sub-t14 returns-2 sub-t10 (λ c. search needs) sub-t16 returns-3)

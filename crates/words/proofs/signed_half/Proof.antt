@@ -28,5 +28,4 @@ returns-2 : tie.Need-returns-2
 returns-2 c = toZ-ofZ (cast-result-3 c) ∙ toZ-ofZ (sub-result c) ∙ down-is c ∙ rw (le-ltb _ _ (c .if1 .left))
 
 pub signed-half-spec : {M : Type 1} → statement M
-signed-half-spec =
-    tie.close (tie.spec (λ c. search needs) (λ c. search needs) (λ c. search needs) sub-result cast-result-3 returns-2)
+signed-half-spec = tie.close (tie.spec (λ c. search needs) (λ c. search needs) (λ c. search needs) sub-result cast-result-3 returns-2)

@@ -25,5 +25,4 @@ returns-2 : tie.Need-returns-2
 returns-2 c = toZ-ofZ (sub-result c) ∙ down-is c ∙ rw (le-ltb (c .before .before .args .v) 9223372036854775808 (c .before .if1 .left)) (ap negsuc (omega arith))
 
 pub signed-word-spec : {M : Type 1} → statement M
-signed-word-spec =
-    tie.close (tie.spec (λ c. search needs) (λ c. search needs) (λ c. search needs) (λ c κs. search needs) sub-result returns-2)
+signed-word-spec = tie.close (tie.spec (λ c. search needs) (λ c. search needs) (λ c. search needs) (λ c κs. search needs) sub-result returns-2)
