@@ -71,6 +71,10 @@ impl Precision {
     pub const LEAST: u32 = 4;
 
     pub const MOST: u32 = 24;
+    // The scale of the ends, and the most rounds of a search: what follows from them are methods.
+    const SCALE: u32 = 62;
+
+    const ROUNDS: u64 = 64;
     // Refusal 11: precision not 4 to 24.
     fn is_out(bits: u32) -> bool
         ensures { λ r. ⌜ r ≡ precisionOut bits ⌝ }
@@ -114,7 +118,7 @@ impl Precision {
         requires { ⌜ Kept (self .bits) ⌝ }
         ensures { λ r. ⌜ r ≡ scaleOf (self .bits) ⌝ }
     {
-        62
+        Precision::SCALE
     }
 
     // Digits dropped of a product below 2, counted in the unit 2 ^ - (E + n - 1).
@@ -170,7 +174,7 @@ impl Precision {
         requires { ⌜ Kept (self .bits) ⌝ }
         ensures { λ r. ⌜ r ≡ roundsOf (self .bits) ⌝ }
     {
-        64
+        Precision::ROUNDS
     }
 }
 
