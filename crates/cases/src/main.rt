@@ -556,7 +556,7 @@ fn answer_line(s: SweepState, list: &mut [u32; 64], input: &[u8], line: Line) ->
 
 // At first all is zero.
 fn nothing() -> SweepState {
-    let zero = f32::from_bits(0);
+    let zero = floats::plus_zero();
     SweepState {
         factor: Factor {
             precision: Precision { bits: 0 },

@@ -1,10 +1,9 @@
--- What every definition and law of a factor is over: the tie rule, the precision n and the scale E of the ends. Assumes nothing.
+-- What every definition and law of a factor is over: the tie rule, the precision n and the scale E of the ends. Definitions only. Assumes nothing.
 use Prim.Native.Nat.{ℕ, _*_, _≤_, _<_}
-use native.Mathlib.Omega.{arith}
 use Rattle.rounding.specs.Grid.{Rule, toEven}
 use Rattle.factor.specs.declared.Description.{Description}
 use Rattle.factor.specs.declared.Factor.{Factor}
-use Rattle.factor.specs.Precision.{Kept, scaleOf}
+use Rattle.factor.specs.Precision.{scaleOf}
 
 pub record Context : Type 0 where
   pub rule : Rule
@@ -16,16 +15,13 @@ pub record Fine (K : Context) : Type 0 where
   pub some : 0 < K .n
   pub room : 2 * K .n ≤ K .E
 
--- ---- the tie rule: it stays shut too
+-- the tie rule: it unfolds only where it is named, as the scale does
 unfoldable pub tieRule : Rule
 tieRule = toEven
 
 -- ---- the context of a precision, of a description, and of a factor, with its ends as numbers
 abbrev pub contextAt : ℕ → Context
 contextAt n = record { rule = tieRule; n = n; E = scaleOf n }
-
-pub fine-at : {n : ℕ} → Kept n → Fine (contextAt n)
-fine-at k = record { some = omega arith; room = omega arith }
 
 abbrev pub contextFor : Description → Context
 contextFor d = contextAt (d .precision)

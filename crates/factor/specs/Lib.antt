@@ -1,6 +1,7 @@
 -- The definitions and laws of a factor, in the order in which they build on each other.
 pub mod Precision
 pub mod Context
+pub mod ContextLaws
 pub mod Parts
 pub mod Whole
 pub mod LowForm

@@ -1,5 +1,5 @@
--- What belongs to a precision n (document 01: "Limits and exponents that belong to a precision are named once, with the precision"). Assumes nothing.
-use mathlib.Core.Path.{_≡_, refl}
+-- What belongs to a precision n (document 01: "Limits and exponents that belong to a precision are named once, with the precision"). Definitions only. Assumes nothing.
+use mathlib.Core.Path.{_≡_}
 use mathlib.Core.Bool.{Bool, _||_}
 use mathlib.Core.List.{[], _∷_}
 use Prim.Native.Nat.{ℕ, _-_, _^_, _≤_}
@@ -40,10 +40,6 @@ pub record Kept (n : ℕ) : Type 0 where
   pub least : leastPrecision ≤ n
   pub most : n ≤ mostPrecision
   pub scale : scaleOf n ≡ 62
-
-pub kept : {n : ℕ} → leastPrecision ≤ n → n ≤ mostPrecision → Kept n
-unfolding scaleOf
-kept a b = record { least = a; most = b; scale = refl }
 
 -- the precision, or refusal 11
 abbrev pub newPrecision : ℕ → Outcome Precision

@@ -12,8 +12,9 @@ use Rattle.floats.specs.Fields.{sameFloat}
 use Rattle.factor.specs.declared.Description.{Description}
 use Rattle.factor.specs.declared.Parts.{Parts}
 use Rattle.factor.specs.declared.Factor.{Factor}
-use Rattle.factor.specs.Precision.{leastPrecision, mostPrecision, Kept, kept, precisionOut}
+use Rattle.factor.specs.Precision.{leastPrecision, mostPrecision, Kept, precisionOut}
 use Rattle.factor.specs.Context.{Context, contextFor}
+use Rattle.factor.specs.ContextLaws.{kept-of}
 use Rattle.factor.specs.Parts.{partsAt}
 use Rattle.factor.specs.Whole.{End}
 use Rattle.factor.specs.SetUp.{endOut, sameHigh, sameZ, sameLow, appliedOf, factorOf, conditions, setUp, sameFactor, given, described, intact, Sound}
@@ -42,7 +43,7 @@ end-in K c e = let t = or-false (ltb c (2 ^ K .E)) (leb (2 ^ suc (K .E)) c) e in
 
 -- a precision that 11 lets through
 pub kept-in : (n : ℕ) → precisionOut n ≡ false → Kept n
-kept-in n e = let t = or-false (ltb n leastPrecision) (ltb mostPrecision n) e in kept (ltb-false n leastPrecision (t .0)) (ltb-false mostPrecision n (t .1))
+kept-in n e = let t = or-false (ltb n leastPrecision) (ltb mostPrecision n) e in kept-of (ltb-false n leastPrecision (t .0)) (ltb-false mostPrecision n (t .1))
 
 -- ---- set-up gave f
 pub setUp-sound : (d : Description) (f : Factor) → setUp d ≡ accepted f → (factorOf d ≡ f) × Sound (factorOf d)

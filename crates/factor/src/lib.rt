@@ -3,10 +3,10 @@
 use rounding::TieRule;
 ghost use mathlib.Core.Path.{_≡_};
 ghost use Prim.Native.Nat.{suc, _+_, _-_, _<_, _≤_, _^_};
-ghost use mathlib.Core.Bool.{false, not, _||_};
-ghost use lib.Dec.{T, ltb};
+ghost use mathlib.Core.Bool.{false, _||_};
+ghost use lib.Dec.{ltb};
 ghost use lib.Ieee;
-ghost use lib.Ieee.{binary32, isNan};
+ghost use lib.Ieee.{binary32};
 ghost use lib.IntN.{natAbs};
 ghost use Rattle.wide.specs.Value.{halfWord};
 ghost use Rattle.rounding.specs.Apart.{apart};
@@ -229,7 +229,7 @@ fn low_float(n: u32, low: i64, places: u32) -> f32
 {
     let size = round::magnitude(low);
     if size == 0 {
-        return f32::from_bits(0);
+        return floats::plus_zero();
     }
     floats::narrow_float(low < 0, n, size, places)
 }
@@ -321,9 +321,8 @@ pub fn set_up(d: Description) -> SetUp
     })
 }
 
-// Whether what is stored is the same bit for bit, the second being numbers.
+// Whether what is stored is the same bit for bit.
 fn same_applied(a: Applied, b: Applied) -> bool
-    requires { ⌜ T (not (isNan (b .high))) × T (not (isNan (b .low))) ⌝ }
     ensures { λ r. ⌜ r ≡ sameApplied a b ⌝ }
 {
     if floats::same_float(a.high, b.high) {
@@ -336,7 +335,6 @@ fn same_applied(a: Applied, b: Applied) -> bool
 
 // Whether two factors of the same precision, scale and ends store the same parts, bit for bit.
 fn same_factor(f: Factor, g: Factor) -> bool
-    requires { ⌜ T (not (isNan (g .applied .high))) × T (not (isNan (g .applied .low))) ⌝ }
     ensures { λ r. ⌜ r ≡ sameFactor f g ⌝ }
 {
     let p = f.parts;

@@ -2,9 +2,9 @@
 use mathlib.Core.Bool.{Bool, true, false, not, _&&_, cond}
 use Prim.Native.Nat.{ℕ, suc, _+_, _-_, _*_, _/_, _%_, _^_, _≤_, _<_}
 use lib.Dec.{eqb, leb}
-use lib.IntN.{ℤ}
+use lib.IntN.{ℤ, pos}
 use lib.Ieee
-use lib.Ieee.{Float, Format, prec, emax, low, hid, ones, top, minus, toBits}
+use lib.Ieee.{Float, fin, Format, prec, emax, low, hid, ones, top, minus, toBits}
 
 -- ---- the fields of a pattern b: the sign, the exponent's field, and the digits below the leading one
 abbrev pub signOf : Format → ℕ → Bool
@@ -20,6 +20,9 @@ digitsOf f b = b % hid f
 abbrev pub signAbove : Format → Bool → ℕ → ℕ
 signAbove f true b = top f + b
 signAbove f false b = b
+
+abbrev pub plusZero : Float
+plusZero = fin false 0 (pos 0)
 
 -- floats are compared bit for bit
 abbrev pub sameFloat : Format → Float → Float → Bool
@@ -50,7 +53,7 @@ significandOf f b = hid f + digitsOf f b
 abbrev pub exponentOf : Format → ℕ → ℤ
 exponentOf f b = minus (fieldOf f b) (emax f)
 
--- ---- the float of a sign, an exponent k and a significand m: m * 2 ^ k of the format's smallest values
+-- ---- the float of a sign, an exponent k and a significand m: m * 2 ^ k times the format's smallest positive value
 abbrev pub floatOf : Format → Bool → (k m : ℕ) → Float
 floatOf f s k m = Ieee.round f s (m * 2 ^ k) (2 ^ low f)
 
@@ -69,15 +72,15 @@ pub record Narrow (f : Format) (n m q : ℕ) : Type 0 where
   pub deep : n ≤ suc q
   pub shallow : q ≤ emax f + n - 2
 
--- ---- the size as a whole number of 2 ^ d of the format's smallest values: of zero, or of a number that is whole in this unit
+-- ---- the size in units of 2 ^ d times the smallest positive value: of zero, or of a number that is whole in them
 abbrev pub unitsOf : Format → (d b : ℕ) → ℕ
 unitsOf f d b = cond (eqb (b % top f) 0) 0 (significandOf f b * 2 ^ (fieldOf f b - suc d))
 
--- a product of l / 2 ^ E and X / hid is whole in the unit 2 ^ - (E + prec - 1): that is 2 ^ unitAt of the smallest values
+-- a product of l / 2 ^ E and X / hid is whole in the unit 2 ^ - (E + prec - 1): that is 2 ^ unitAt times the smallest positive value
 abbrev pub unitAt : Format → (E : ℕ) → ℕ
 unitAt f E = emax f - 1 - E
 
--- the size is whole in the unit, and below 2 ^ w
+-- what code asks to count it: by its field the number is whole in the unit, or zero, and its size below 2 ^ w
 pub record InUnits (f : Format) (w d b : ℕ) : Type 0 where
   pub from : 0 < b % top f → suc d ≤ fieldOf f b
   pub to : fieldOf f b + prec f ≤ suc (w + d)

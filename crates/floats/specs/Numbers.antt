@@ -1,13 +1,12 @@
 -- Which floats are numbers, and which one is not. Assumes nothing.
-use mathlib.Core.Path.{_≡_, refl, sym, ap, _∙_, subst}
+use mathlib.Core.Path.{_≡_, refl, sym, _∙_}
 use mathlib.Core.Bool.{Bool, true, false, not, true≢false}
 use Prim.Native.Nat.{ℕ, _*_, _%_, _≤_, _<_}
 use lib.Dec.{T}
-use lib.Ieee.{Float, nan, inf, fin, Format, ofBits, toBits, isNan, nanBits, fits, ne, hid, ones, top}
+use lib.Ieee.{Float, nan, inf, fin, Format, ofBits, isNan, nanBits, ne, hid, ones, top}
 use lib.Ieee.Compare.{differs-from-itself, nan-differs}
-use lib.Ieee.Bits.{ofBits-toBits, nanBits-is, nanBits-above}
+use lib.Ieee.Bits.{nanBits-is, nanBits-above}
 use lib.Ieee.Exact.{HasValue}
-use lib.Ieee.Fits.{nan-fits}
 use borrow.Author.Tests.{lt-ltb, le-ltb}
 
 pub no-nan : (x : Float) → ne x x ≡ false → T (not (isNan x))
@@ -18,13 +17,6 @@ no-nan (fin s m e) h = tt
 
 pub is-nan : (x : Float) → ne x x ≡ true → x ≡ nan
 is-nan x h = differs-from-itself x (rw h tt)
-
--- no number has the bits that stand for `nan`
-pub nan-bits : (f : Format) (y : Float) → T (fits f y) → T (not (isNan y)) → ¬ (toBits f nan ≡ toBits f y)
-unfolding isNan
-nan-bits f y h n e =
-    let same : nan ≡ y = sym (ofBits-toBits f nan (nan-fits f)) ∙ ap (ofBits f) e ∙ ofBits-toBits f y h in
-    subst (λ (z : Float). T (not (isNan z))) (sym same) n
 
 -- what has a value is a number
 pub value-number : (x : Float) (s : Bool) (a c : ℕ) → HasValue x s a c → T (not (isNan x))

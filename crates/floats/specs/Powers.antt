@@ -27,7 +27,7 @@ up-down : (z : ℤ) (m j : ℕ) → z +ℤ pos m ≡ pos j → up z * 2 ^ m ≡ 
 up-down (pos k) m j e = sym (pow-add 2 k m) ∙ ap (λ (z : ℕ). 2 ^ z) (ap natAbs e) ∙ sym (mul-one (2 ^ j))
 up-down (negsuc k) m j e = one-mul (2 ^ m) ∙ ap (λ (z : ℕ). 2 ^ z) (sub-pos m (suc k) j e) ∙ pow-add 2 j (suc k)
 
--- ---- S / hid * 2 ^ B * 2 ^ z is S * 2 ^ j of the smallest values
+-- ---- S / hid * 2 ^ B * 2 ^ z is S * 2 ^ j times the smallest positive value
 pub in-smallest : (f : Format) (S B : ℕ) (z : ℤ) (j : ℕ) → z +ℤ pos (B + (emax f - 1)) ≡ pos j → S * 2 ^ B * up z * 2 ^ low f ≡ S * 2 ^ j * (hid f * down z)
 in-smallest f S B z j e =
     let one : 2 ^ low f ≡ 2 ^ (emax f - 1) * hid f = ap (λ (y : ℕ). 2 ^ y) (omega (arith, two f, reach f)) ∙ pow-add 2 (emax f - 1) (prec f - 1) in

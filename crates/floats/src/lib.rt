@@ -6,7 +6,7 @@ ghost use lib.Dec.{T};
 ghost use lib.Ieee;
 ghost use lib.Ieee.{binary32, emax, isNan, ofBits, toBits};
 ghost use Rattle.wide.specs.Value.{wordBits};
-ghost use Rattle.floats.specs.Fields.{signOf, fieldOf, digitsOf, significandOf, sameFloat, floatOf, Normalized, Narrow, unitAt, InUnits, unitsOf};
+ghost use Rattle.floats.specs.Fields.{signOf, fieldOf, digitsOf, significandOf, endless, subnormal, zeroBits, plusZero, sameFloat, floatOf, Normalized, Narrow, unitAt, InUnits, unitsOf};
 
 // How many digits a significand has, the leading one counted.
 pub const PRECISION: u32 = 24;
@@ -55,6 +55,33 @@ pub fn significand_of(bits: u32) -> u32
     LEADING + bits % LEADING
 }
 
+// Whether a pattern is an infinity's or a NaN's.
+pub fn is_endless(bits: u32) -> bool
+    ensures { λ r. ⌜ r ≡ endless binary32 bits ⌝ }
+{
+    field_of(bits) == ENDLESS
+}
+
+// Whether it is a subnormal number's, zero not being one.
+pub fn is_subnormal(bits: u32) -> bool
+    ensures { λ r. ⌜ r ≡ subnormal binary32 bits ⌝ }
+{
+    if field_of(bits) == 0 {
+        return digits_of(bits) != 0;
+    }
+    false
+}
+
+// Whether it is that of a zero, of either sign.
+pub fn is_zero(bits: u32) -> bool
+    ensures { λ r. ⌜ r ≡ zeroBits binary32 bits ⌝ }
+{
+    if field_of(bits) == 0 {
+        return digits_of(bits) == 0;
+    }
+    false
+}
+
 // The number of a pattern, all NaN patterns being one NaN.
 pub fn float_from(bits: u32) -> f32
     ensures { λ r. ⌜ r ≡ ofBits binary32 bits ⌝ }
@@ -76,18 +103,21 @@ pub fn bits_of(x: f32) -> u32
     f32::to_bits(x)
 }
 
-// Whether two floats are the same bit for bit, the second being a number.
+// Whether two floats are the same bit for bit.
 pub fn same_float(x: f32, y: f32) -> bool
-    requires { ⌜ T (not (isNan y)) ⌝ }
     ensures { λ r. ⌜ r ≡ sameFloat binary32 x y ⌝ }
 {
-    if x != x {
-        return false;
-    }
-    f32::to_bits(x) == f32::to_bits(y)
+    bits_of(x) == bits_of(y)
 }
 
-// The float of a sign, an exponent and a significand: m * 2 ^ exponent of the smallest values.
+// Plus zero.
+pub fn plus_zero() -> f32
+    ensures { λ r. ⌜ r ≡ plusZero ⌝ }
+{
+    f32::from_bits(0)
+}
+
+// The float of a sign, an exponent and a significand: m * 2 ^ exponent times the smallest positive value.
 pub fn float_of(minus: bool, exponent: u32, m: u32) -> f32
     requires { ⌜ Normalized binary32 exponent m ⌝ }
     ensures { λ r. ⌜ r ≡ floatOf binary32 minus exponent m ⌝ }
@@ -107,7 +137,7 @@ pub fn narrow_float(minus: bool, n: u32, m: u64, places: u32) -> f32
     float_of(minus, MOST_EXPONENT + n - 2 - places, (m << up) as u32)
 }
 
-// The unit of a product of a number over 2 ^ scale and one from 1 to below 2: 2 ^ unit_at(scale) of the smallest values.
+// The unit of a product of a number over 2 ^ scale and one from 1 to below 2: 2 ^ unit_at(scale) times the smallest positive value.
 pub fn unit_at(scale: u32) -> u32
     requires { ⌜ scale < emax binary32 ⌝ }
     ensures { λ r. ⌜ r ≡ unitAt binary32 scale ⌝ }
@@ -115,7 +145,7 @@ pub fn unit_at(scale: u32) -> u32
     MOST_EXPONENT - 1 - scale
 }
 
-// The size of a number that is whole in units of 2 ^ d of the smallest values, counted in them.
+// The size of a number that is whole in units of 2 ^ d times the smallest positive value, counted in them.
 pub fn units_of(x: f32, d: u32) -> u64
     requires { ⌜ T (not (isNan x)) × InUnits binary32 wordBits d (toBits binary32 x) ⌝ }
     ensures { λ r. ⌜ r ≡ unitsOf binary32 d (toBits binary32 x) ⌝ }

@@ -16,7 +16,8 @@ use Rattle.rounding.specs.Fraction.{Fraction, times, less, RN, Same}
 use Rattle.factor.specs.declared.Parts.{Parts}
 use Rattle.factor.specs.declared.Factor.{Factor}
 use Rattle.factor.specs.Parts.{partsAt, highPart, lowPart}
-use Rattle.factor.specs.Context.{Context, Fine, contextOf, lowerOf, upperOf, fine-at}
+use Rattle.factor.specs.Context.{Context, Fine, contextOf, lowerOf, upperOf}
+use Rattle.factor.specs.ContextLaws.{fine-at}
 use Rattle.factor.specs.PartsLaws.{high-counts, low-counts}
 use Rattle.factor.specs.Accepted.{Between, high-everywhere, rest-counts-C, low-everywhere}
 use Rattle.factor.specs.Stored.{high-over, low-over, low-sign}

@@ -3,7 +3,8 @@ use Prim.Native.Nat.{ℕ}
 use native.Mathlib.Omega.{arith}
 use Rattle.rounding.specs.RoundLaws.{HasBits}
 use Rattle.factor.specs.declared.Factor.{Factor}
-use Rattle.factor.specs.Context.{Fine, contextOf, lowerOf, fine-at}
+use Rattle.factor.specs.Context.{Fine, contextOf, lowerOf}
+use Rattle.factor.specs.ContextLaws.{fine-at}
 use Rattle.factor.specs.Whole.{wholeOf}
 use Rattle.factor.specs.SetUp.{Sound}
 use Rattle.product.specs.Product.{productBy}

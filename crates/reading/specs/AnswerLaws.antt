@@ -13,7 +13,7 @@ use Rattle.marks.specs.declared.Mark.{Mark}
 use Rattle.marks.specs.Answers.{NoneHolds, Outcome, refused, accepted, answer, Marked}
 use Rattle.marks.specs.AnswerLaws.{pass, end, accepts, rest-answers, none-apart, only-accepted, refused-first, of-answer}
 use Rattle.rounding.specs.RoundLaws.{HasBits}
-use Rattle.floats.specs.Fields.{signOf, zeroBits, Normal, significandOf}
+use Rattle.floats.specs.Fields.{plusZero, signOf, zeroBits, Normal, significandOf}
 use Rattle.floats.specs.Pattern.{significand-bits}
 use Rattle.floats.specs.Classes.{normal-others}
 use Rattle.factor.specs.declared.Factor.{Factor}
@@ -23,7 +23,7 @@ use Rattle.product.specs.declared.Product.{Product}
 use Rattle.product.specs.Product.{productBy}
 use Rattle.product.specs.SoundLaws.{sound-product}
 use Rattle.reading.specs.declared.Taken.{Taken}
-use Rattle.reading.specs.Reading.{unreadable, zero, normal, kindOf, numberOf, raised, outside, finished, plusZero, conditions, numbered, answered, applied, takenOf}
+use Rattle.reading.specs.Reading.{unreadable, zero, normal, kindOf, numberOf, raised, outside, finished, conditions, numbered, answered, applied, takenOf}
 use Rattle.reading.specs.Exponents.{let-through}
 use Rattle.reading.specs.ReadingLaws.{number-value, number-normal}
 

@@ -15,8 +15,9 @@ use Rattle.wide.specs.Value.{wordBits}
 use Rattle.floats.specs.Fields.{unitAt}
 use Rattle.floats.specs.Times.{product-value, product-least, Told, told}
 use Rattle.factor.specs.declared.Factor.{Factor}
-use Rattle.factor.specs.Precision.{scaleOf, kept}
-use Rattle.factor.specs.Context.{Context, Fine, tieRule, contextAt, contextOf, lowerOf, fine-at}
+use Rattle.factor.specs.Precision.{scaleOf}
+use Rattle.factor.specs.Context.{Context, Fine, tieRule, contextAt, contextOf, lowerOf}
+use Rattle.factor.specs.ContextLaws.{kept-of, fine-at}
 use Rattle.factor.specs.Parts.{lowPart}
 use Rattle.factor.specs.Whole.{Whole, wholeOf}
 use Rattle.factor.specs.SetUp.{Sound, appliedOf, described}
@@ -30,7 +31,7 @@ abbrev pub K32 : Context
 K32 = contextAt (prec binary32)
 
 pub fine-32 : Fine K32
-fine-32 = fine-at (kept (lit≤ tt) (lit≤ tt))
+fine-32 = fine-at (kept-of (lit≤ tt) (lit≤ tt))
 
 pub near-32 : K32 .E < emax binary32
 unfolding scaleOf

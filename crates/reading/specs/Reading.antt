@@ -1,15 +1,15 @@
 -- A binary32 reading times a factor (document 01, "Binary32" and the refusals 31, 20, 21, 22, 23). Definitions only. Assumes nothing.
-use mathlib.Core.Bool.{Bool, false, not, _&&_, _||_, cond}
+use mathlib.Core.Bool.{Bool, not, _&&_, _||_, cond}
 use mathlib.Core.List.{List, [], _∷_, _++_}
 use Prim.Native.Nat.{ℕ, _-_, _*_, _^_}
 use lib.Dec.{eqb}
 use lib.IntN.{ℤ, pos, negsuc, _+ℤ_}
 use lib.Signed.{ltZ}
 use lib.Ieee
-use lib.Ieee.{Float, Format, fin, binary32, prec, emax, hid, toBits, up, down}
+use lib.Ieee.{Float, Format, binary32, prec, emax, hid, toBits, up, down}
 use Rattle.marks.specs.declared.Mark.{Mark}
 use Rattle.marks.specs.Answers.{Outcome, refused, accepted, answer, Marked}
-use Rattle.floats.specs.Fields.{signOf, endless, zeroBits, subnormal, significandOf, exponentOf}
+use Rattle.floats.specs.Fields.{signOf, plusZero, endless, zeroBits, subnormal, significandOf, exponentOf}
 use Rattle.factor.specs.declared.Factor.{Factor}
 use Rattle.factor.specs.SetUp.{intact}
 use Rattle.product.specs.declared.Product.{Product}
@@ -64,9 +64,6 @@ unfolding mark numberOf
 finished f b v = ranged f b (marked f (significandOf binary32 b) v)
 
 -- ---- the answer
-abbrev pub plusZero : Float
-plusZero = fin false 0 (pos 0)
-
 -- all conditions that refuse it; a zero has no exponent
 abbrev pub conditions : Factor → ℕ → Product → List (ℕ × Bool)
 conditions f b v = unreadable f b ++ (23, not (zeroBits binary32 b) && outside f b v) ∷ []

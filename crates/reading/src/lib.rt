@@ -17,7 +17,7 @@ ghost use Rattle.product.specs.Product.{productBy};
 ghost use Rattle.product.specs.Units.{firstUnits};
 ghost use Rattle.reading.specs.Reading.{unreadable, kindOf, finished, applied, outcomeOf, takenOf};
 
-// A product's field, counted from -100 as its scale is: so a normal number's fields are these places.
+// The product's exponent field plus 100, as the scale is counted from -100: the fields of normal numbers are these places.
 const LEAST_PLACE: u32 = 101;
 
 const MOST_PLACE: u32 = floats::ENDLESS + 99;
@@ -100,15 +100,13 @@ fn take(f: Factor, reading: f32) -> Taken
         return Taken::Refused(20);
     }
     let bits = floats::bits_of(reading);
-    let field = floats::field_of(bits);
-    let digits = floats::digits_of(bits);
-    if field == floats::ENDLESS {
+    if floats::is_endless(bits) {
         return Taken::Refused(21);
     }
-    if field == 0 {
-        if digits != 0 {
-            return Taken::Refused(22);
-        }
+    if floats::is_subnormal(bits) {
+        return Taken::Refused(22);
+    }
+    if floats::is_zero(bits) {
         return Taken::Zero;
     }
     Taken::Normal(bits)
@@ -129,7 +127,7 @@ pub fn read(f: Factor, reading: f32) -> ReadingAnswer
 {
     match take(f, reading) {
         Taken::Refused(number) => ReadingAnswer::Refused(number),
-        Taken::Zero => ReadingAnswer::Right(f32::from_bits(0)),
+        Taken::Zero => ReadingAnswer::Right(floats::plus_zero()),
         Taken::Normal(bits) => finish(f, bits, two_steps(f, bits)),
     }
 }

@@ -5,7 +5,7 @@ use lib.Ieee.{size, minus}
 use lib.Ieee.Order.{drop}
 use Rattle.rounding.specs.Fraction.{Fraction, over, power, times, Below, AtMost}
 
--- 2 ^ e ≤ v < 2 ^ (e + 1)
+-- 2 ^ e ≤ v < 2 ^ (e + 1), of the size of v
 pub record InBinade (e : ℤ) (v : Fraction) : Type 0 where
   pub from : AtMost (power e) v
   pub to : Below v (times (over 2 0) (power e))

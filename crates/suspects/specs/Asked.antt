@@ -4,7 +4,8 @@ use Prim.Native.Nat.{ℕ, _+_, _*_, _-_, _%_, _^_, _≤_, _<_}
 use native.Mathlib.Nat.{mod-lt, le-trans}
 use native.Mathlib.Omega.{arith}
 use lib.Pow.{pow-pos, pow-mono}
-use Rattle.factor.specs.Context.{Context, contextOf, lowerOf, upperOf, fine-at}
+use Rattle.factor.specs.Context.{Context, contextOf, lowerOf, upperOf}
+use Rattle.factor.specs.ContextLaws.{fine-at}
 use Rattle.factor.specs.declared.Factor.{Factor}
 use Rattle.factor.specs.SetUp.{Sound}
 use Rattle.wide.specs.Value.{halfWord}

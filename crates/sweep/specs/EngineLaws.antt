@@ -13,7 +13,8 @@ use Rattle.rounding.specs.RoundLaws.{HasBits}
 use Rattle.factor.specs.declared.Parts.{Parts}
 use Rattle.factor.specs.declared.Factor.{Factor}
 use Rattle.factor.specs.Precision.{significandOut}
-use Rattle.factor.specs.Context.{Context, Fine, contextOf, lowerOf, upperOf, fine-at}
+use Rattle.factor.specs.Context.{Context, Fine, contextOf, lowerOf, upperOf}
+use Rattle.factor.specs.ContextLaws.{fine-at}
 use Rattle.factor.specs.Parts.{partsAt}
 use Rattle.factor.specs.SetUp.{intact, Sound}
 use Rattle.factor.specs.SetUpLaws.{intact-sound}

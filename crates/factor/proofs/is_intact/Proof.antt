@@ -5,7 +5,6 @@ use mir.Syntax.{w32}
 use mir.Val.{toZ, ofZ}
 use borrow.Author.Needs.{needs}
 use Rattle.factor.specs.SetUp.{given, described, setUp, outcomeOf, intact}
-use Rattle.factor.specs.Stored.{accepted-numbers}
 use Rattle.factor.proofs.is_intact.Statement.{statement}
 use Rattle.factor.proofs.is_intact.Tie as tie
 
@@ -15,15 +14,6 @@ set-up-is c =
     let f = c .before .before .args .f in
     let same : toZ w32 (ofZ w32 (f .applied .scale)) ≡ f .applied .scale = search needs in
     c .set-up .ensures ∙ ap (λ (k : ℤ). setUp (record { precision = f .precision .bits; scale = k; lower = f .lower; upper = f .upper })) same
-
-same-factor-requires : tie.Need-same-factor-requires
-same-factor-requires c κs =
-    let s = c .before .before .before in
-    let f = s .before .before .args .f in
-    accepted-numbers (described f) (c .before .g .given .0 .0) (sym (set-up-is s) ∙ ap outcomeOf (c .before .g .given .1))
-
-enum-told : tie.Need-enum-told
-enum-told c = search needs
 
 returns : tie.Need-returns
 unfolding intact
@@ -40,4 +30,4 @@ returns-2 c =
     ap (given f) (sym (ap outcomeOf (c .enum-told .given .1)) ∙ set-up-is s)
 
 pub is-intact-spec : {M : Type 1} → statement M
-is-intact-spec = tie.close (tie.spec (λ c κs. search needs) (λ c. search needs) same-factor-requires enum-told returns returns-2)
+is-intact-spec = tie.close (tie.spec (λ c κs. search needs) (λ c. search needs) (λ c κs. search needs) (λ c. search needs) returns returns-2)

@@ -6,33 +6,30 @@ use native.Mathlib.Nat.{le-of-lt}
 use native.Mathlib.Omega.{arith}
 use lib.IntN.{ℤ, pos, natAbs}
 use lib.Ieee
-use lib.Ieee.{binary32, ofBits, ofFields, nanBits}
+use lib.Ieee.{binary32}
 use lib.Signed.{ltZ}
 use mir.Syntax.{w64}
 use mir.ValLaws.{toZ-ofZ}
 use borrow.Author.Needs.{needs}
 use Rattle.rounding.specs.Signed.{negative}
 use Rattle.round.proofs.Laws.{negative-is}
+use Rattle.floats.specs.Fields.{plusZero}
 use Rattle.factor.proofs.low_float.Statement.{statement}
 use Rattle.factor.proofs.low_float.Tie as tie
 
 size-is : (c : tie.After-magnitude) → c .magnitude .result ≡ natAbs (c .before .args .low)
 size-is c = c .magnitude .ensures ∙ ap natAbs (toZ-ofZ w64 (c .before .args .low) (c .before .fits .low))
 
-float-from-bits-result : tie.Need-float-from-bits-result
-unfolding nanBits
-float-from-bits-result c = tt
-
--- plus zero
-zero-is : ofBits binary32 0 ≡ Ieee.round binary32 Bool.false 0 1
-unfolding ofBits ofFields Ieee.odd Ieee.round Ieee.units Ieee.size
+-- zero over one is plus zero
+zero-is : plusZero ≡ Ieee.round binary32 Bool.false 0 1
+unfolding Ieee.odd Ieee.round Ieee.units Ieee.size
 zero-is = refl
 
 returns : tie.Need-returns
 returns c =
-    let a = c .before .before in
-    let z = a .pre .1 .none (sym (size-is (c .before)) ∙ c .if1 .taken) in
-    zero-is ∙ ap₂ (λ (l : ℤ) (q : ℕ). Ieee.round binary32 (negative l) (natAbs l) (2 ^ q)) (sym (z .0)) (sym (z .1))
+    let a = c .before .before .before in
+    let z = a .pre .1 .none (sym (size-is (c .before .before)) ∙ c .before .if1 .taken) in
+    c .plus-zero .ensures ∙ zero-is ∙ ap₂ (λ (l : ℤ) (q : ℕ). Ieee.round binary32 (negative l) (natAbs l) (2 ^ q)) (sym (z .0)) (sym (z .1))
 
 some : (c : tie.Else1) → 0 < natAbs (c .before .before .args .low)
 some c = pos-of (natAbs (c .before .before .args .low)) (λ e. c .if1 .left (size-is (c .before) ∙ e))
@@ -55,4 +52,4 @@ returns-2 c =
     c .narrow-float .ensures ∙ ap₂ (λ (b : Bool) (z : ℕ). Ieee.round binary32 b z (2 ^ a .args .places)) (ap (λ (z : ℤ). ltZ z (pos 0)) same ∙ negative-is (a .args .low)) (size-is (s .before))
 
 pub low-float-spec : {M : Type 1} → statement M
-low-float-spec = tie.close (tie.spec (λ c κs. search needs) float-from-bits-result returns narrow-float-requires returns-2)
+low-float-spec = tie.close (tie.spec (λ c κs. search needs) (λ c κs. search needs) returns narrow-float-requires returns-2)

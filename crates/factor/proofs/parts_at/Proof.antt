@@ -10,11 +10,12 @@ use mir.Syntax.{w64}
 use mir.Val.{toZ, ofZ}
 use mir.ValLaws.{toZ-ofZ}
 use borrow.Author.Needs.{needs}
-use Rattle.wide.specs.Value.{wordBits, halfWord}
+use Rattle.wide.specs.Value.{wordBits}
 use Rattle.rounding.specs.Apart.{apart}
 use Rattle.rounding.specs.Signed.{signedOf}
 use Rattle.round.specs.declared.Neighbour.{Neighbour}
-use Rattle.factor.specs.Context.{Context, Fine, tieRule, contextAt, fine-at}
+use Rattle.factor.specs.Context.{Context, Fine, tieRule, contextAt}
+use Rattle.factor.specs.ContextLaws.{fine-at}
 use Rattle.factor.specs.Whole.{step, whole, partsFrom}
 use Rattle.factor.specs.LowForm.{size-of}
 use Rattle.factor.specs.PartsLaws.{high-most, rest-le, parts-from}
@@ -37,9 +38,8 @@ module _ (a : tie.Start) where
   -- Ch in the unit of the ends fits a word
   fits : h * step K < 2 ^ 64
   fits =
-      let e : wordBits - 1 ≡ n + (E + 1 - n) = omega (arith, a .pre .0) in
-      let w : halfWord ≡ 2 ^ n * step K = ap (λ (z : ℕ). 2 ^ z) e ∙ pow-add 2 n (E + 1 - n) in
-      omega (arith, w, mul-le-mul-right (step K) (high-most K fine (a .args .end) (a .pre .1)))
+      let w : 2 ^ (E + 1) ≡ 2 ^ n * step K = ap (λ (z : ℕ). 2 ^ z) (omega (arith, a .pre .0)) ∙ pow-add 2 n (E + 1 - n) in
+      omega (arith, w, pow-mono {i = E + 1} {j = wordBits - 1} (omega (arith, a .pre .0)), mul-le-mul-right (step K) (high-most K fine (a .args .end) (a .pre .1)))
 
   left : apart (a .args .end) (h * step K) ≤ 2 ^ (E - n)
   left = rest-le K fine (a .args .end) (a .pre .1)
@@ -54,7 +54,7 @@ shift-is c =
     ap₂ (λ (x y : ℕ). x * 2 ^ y % 2 ^ 64) (high-is c) (c .before .step .ensures) ∙ mod-eq-of-lt (fits a)
 
 rest-of-requires : tie.Need-rest-of-requires
-rest-of-requires c κs = let a = c .before .before in rw (shift-is c) (lt-of-le-of-lt (left a) (lt-of-le-of-lt (pow-mono {i = K a .E - K a .n} {j = 60} (omega (arith, a .pre .0))) (omega arith)))
+rest-of-requires c κs = let a = c .before .before in rw (shift-is c) (lt-of-le-of-lt (left a) (lt-of-le-of-lt (pow-mono {i = K a .E - K a .n} {j = wordBits - 2} (omega (arith, a .pre .0))) (omega arith)))
 
 rest-is : (c : tie.After-rest-of) → let a = c .before .before .before in toZ w64 (ofZ w64 (c .rest-of .result)) ≡ signedOf (ltb (a .args .end) (h a * step (K a))) (apart (a .args .end) (h a * step (K a)))
 rest-is c =

@@ -9,7 +9,8 @@ use mir.ValLaws.{toZ-ofZ}
 use borrow.Author.Needs.{needs}
 use Rattle.rounding.specs.Signed.{roundedSigned}
 use Rattle.factor.specs.declared.Parts.{Parts}
-use Rattle.factor.specs.Context.{Context, Fine, tieRule, contextAt, fine-at}
+use Rattle.factor.specs.Context.{Context, Fine, tieRule, contextAt}
+use Rattle.factor.specs.ContextLaws.{fine-at}
 use Rattle.factor.specs.Whole.{partsFrom}
 use Rattle.factor.proofs.Laws.{parts-none, Placed, parts-some}
 use Rattle.factor.proofs.parts_from.Statement.{statement}

@@ -13,7 +13,8 @@ use Rattle.marks.specs.AnswerLaws.{pass, stop, end, refuses, accepts, only-acce
 use Rattle.factor.specs.declared.Description.{Description}
 use Rattle.factor.specs.declared.Precision.{Precision}
 use Rattle.factor.specs.Precision.{Kept, precisionOut, precisionSays}
-use Rattle.factor.specs.Context.{Context, contextAt, contextFor, fine-at}
+use Rattle.factor.specs.Context.{Context, contextAt, contextFor}
+use Rattle.factor.specs.ContextLaws.{fine-at}
 use Rattle.factor.specs.Whole.{End}
 use Rattle.factor.specs.Parts.{partsAt}
 use Rattle.factor.specs.SetUp.{endOut, scaleOut, sameHigh, sameLow, appliedOf, factorOf, setUp}

@@ -1,9 +1,8 @@
 -- `reading::read` meets its contract: refused, a zero, or the two steps and what becomes of them. Assumes nothing.
-use mathlib.Core.Path.{_≡_, refl, sym, ap, _∙_, subst}
+use mathlib.Core.Path.{_≡_, sym, ap, _∙_, subst}
 use mathlib.Core.Bool.{false}
 use Prim.Native.Nat.{ℕ}
-use lib.Ieee
-use lib.Ieee.{Float, binary32, prec, ofBits, ofFields, nanBits}
+use lib.Ieee.{Float, binary32, prec}
 use borrow.Author.Needs.{needs}
 use Rattle.marks.specs.declared.Mark.{Mark}
 use Rattle.marks.specs.Answers.{NoneHolds, accepted}
@@ -14,17 +13,13 @@ use Rattle.factor.specs.SetUp.{Sound}
 use Rattle.factor.specs.SetUpLaws.{intact-sound}
 use Rattle.product.specs.Product.{productBy}
 use Rattle.product.specs.SoundLaws.{sound-product}
-use Rattle.reading.specs.Reading.{plusZero, unreadable, finished, applied}
+use Rattle.reading.specs.Reading.{unreadable, finished, applied}
 use Rattle.reading.specs.AnswerLaws.{is-intact, precision-is, is-normal, taken-normal, taken-zero, taken-refused}
 use Rattle.reading.proofs.read.Statement.{statement}
 use Rattle.reading.proofs.read.Tie as tie
 
 enum-told : tie.Need-enum-told
 enum-told c = search needs
-
-float-from-bits-t7 : tie.Need-float-from-bits-t7
-unfolding nanBits
-float-from-bits-t7 c = tt
 
 -- ---- a normal reading
 module _ (c : tie.After-known-told2) where
@@ -59,16 +54,12 @@ returns c =
     let a = t .before .args in
     taken-refused (a .f) (a .reading) (t .take .result) (t .take .ensures) (c .before .number .given .0 .0) (c .before .number .given .1)
 
--- plus zero
-zero-is : ofBits binary32 0 ≡ plusZero
-unfolding ofBits ofFields Ieee.odd
-zero-is = refl
-
 returns-2 : tie.Need-returns-2
 returns-2 c =
-    let t = c .before .before in
+    let z = c .before in
+    let t = z .before .before in
     let a = t .before .args in
-    ap (λ (y : Float). accepted (record { mark = Mark.Right; value = y })) zero-is ∙ taken-zero (a .f) (a .reading) (t .take .result) (t .take .ensures) (c .enum-told .given .1)
+    ap (λ (y : Float). accepted (record { mark = Mark.Right; value = y })) (c .plus-zero .ensures) ∙ taken-zero (a .f) (a .reading) (t .take .result) (t .take .ensures) (z .enum-told .given .1)
 
 returns-3 : tie.Need-returns-3
 returns-3 c =
@@ -77,4 +68,4 @@ returns-3 c =
     c .finish .ensures ∙ ap (finished (a k .args .f) (b k)) (v .two-steps .ensures) ∙ taken k .2
 
 pub read-spec : {M : Type 1} → statement M
-read-spec = tie.close (tie.spec (λ c κs. search needs) (λ c. search needs) enum-told float-from-bits-t7 (λ c. search needs) two-steps-requires finish-requires returns returns-2 returns-3)
+read-spec = tie.close (tie.spec (λ c κs. search needs) (λ c. search needs) enum-told (λ c κs. search needs) (λ c. search needs) two-steps-requires finish-requires returns returns-2 returns-3)

@@ -1,0 +1,25 @@
+-- `floats::is_zero` meets its contract: the field, then the digits. Assumes nothing.
+use mathlib.Core.Path.{sym, ap, _∙_}
+use mathlib.Core.Bool.{Bool, _&&_}
+use Prim.Native.Nat.{ℕ}
+use lib.Dec.{eqb}
+use lib.Ieee.{binary32}
+use borrow.Author.Needs.{needs}
+use borrow.Author.Tests.{eq-eqb, ne-eqb}
+use Rattle.floats.specs.Fields.{fieldOf, digitsOf}
+use Rattle.floats.proofs.is_zero.Statement.{statement}
+use Rattle.floats.proofs.is_zero.Tie as tie
+
+returns : tie.Need-returns
+returns c =
+    let field = c .before .before in
+    let a = field .before .args .bits in
+    ap (λ (z : ℕ). eqb z 0) (c .digits-of .ensures) ∙ sym (ap (λ (b : Bool). b && eqb (digitsOf binary32 a) 0) (eq-eqb (fieldOf binary32 a) 0 (sym (field .field-of .ensures) ∙ c .before .if1 .taken)))
+
+returns-2 : tie.Need-returns-2
+returns-2 c =
+    let a = c .before .before .args .bits in
+    sym (ap (λ (b : Bool). b && eqb (digitsOf binary32 a) 0) (ne-eqb (fieldOf binary32 a) 0 (λ e. c .if1 .left (c .before .field-of .ensures ∙ e))))
+
+pub is-zero-spec : {M : Type 1} → statement M
+is-zero-spec = tie.close (tie.spec (λ c κs. search needs) (λ c κs. search needs) returns returns-2)

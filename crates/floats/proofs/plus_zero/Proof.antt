@@ -1,0 +1,17 @@
+-- `floats::plus_zero` meets its contract. Assumes nothing.
+use mathlib.Core.Path.{refl}
+use lib.Ieee
+use lib.Ieee.{ofBits, ofFields, nanBits}
+use Rattle.floats.proofs.plus_zero.Statement.{statement}
+use Rattle.floats.proofs.plus_zero.Tie as tie
+
+float-from-bits-result : tie.Need-float-from-bits-result
+unfolding nanBits
+float-from-bits-result c = tt
+
+returns : tie.Need-returns
+unfolding ofBits ofFields Ieee.odd
+returns c = refl
+
+pub plus-zero-spec : {M : Type 1} → statement M
+plus-zero-spec = tie.close (tie.spec float-from-bits-result returns)
