@@ -6,7 +6,7 @@ ghost use lib.Dec.{T};
 ghost use lib.Ieee;
 ghost use lib.Ieee.{binary32, emax, isNan, ofBits, toBits};
 ghost use Rattle.wide.specs.Value.{wordBits};
-ghost use Rattle.floats.specs.Fields.{signOf, fieldOf, digitsOf, significandOf, endless, subnormal, zeroBits, plusZero, sameFloat, floatOf, Normalized, Narrow, unitAt, InUnits, unitsOf};
+ghost use Rattle.floats.specs.Fields.{signOf, fieldOf, digitsOf, significandOf, plusZero, sameFloat, floatOf, Normalized, Narrow, unitAt, InUnits, unitsOf};
 
 // How many digits a significand has, the leading one counted.
 pub const PRECISION: u32 = 24;
@@ -53,33 +53,6 @@ pub fn significand_of(bits: u32) -> u32
     ensures { λ r. ⌜ r ≡ significandOf binary32 bits ⌝ }
 {
     LEADING + bits % LEADING
-}
-
-// Whether a pattern is an infinity's or a NaN's.
-pub fn is_endless(bits: u32) -> bool
-    ensures { λ r. ⌜ r ≡ endless binary32 bits ⌝ }
-{
-    field_of(bits) == ENDLESS
-}
-
-// Whether it is a subnormal number's, zero not being one.
-pub fn is_subnormal(bits: u32) -> bool
-    ensures { λ r. ⌜ r ≡ subnormal binary32 bits ⌝ }
-{
-    if field_of(bits) == 0 {
-        return digits_of(bits) != 0;
-    }
-    false
-}
-
-// Whether it is that of a zero, of either sign.
-pub fn is_zero(bits: u32) -> bool
-    ensures { λ r. ⌜ r ≡ zeroBits binary32 bits ⌝ }
-{
-    if field_of(bits) == 0 {
-        return digits_of(bits) == 0;
-    }
-    false
 }
 
 // The number of a pattern, all NaN patterns being one NaN.

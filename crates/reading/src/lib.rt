@@ -100,13 +100,15 @@ fn take(f: Factor, reading: f32) -> Taken
         return Taken::Refused(20);
     }
     let bits = floats::bits_of(reading);
-    if floats::is_endless(bits) {
+    let field = floats::field_of(bits);
+    let digits = floats::digits_of(bits);
+    if field == floats::ENDLESS {
         return Taken::Refused(21);
     }
-    if floats::is_subnormal(bits) {
-        return Taken::Refused(22);
-    }
-    if floats::is_zero(bits) {
+    if field == 0 {
+        if digits != 0 {
+            return Taken::Refused(22);
+        }
         return Taken::Zero;
     }
     Taken::Normal(bits)

@@ -1,16 +1,16 @@
 -- `reading::take` meets its contract: the refusals in their order. Assumes nothing.
 use mathlib.Core.Path.{_≡_, sym, ap, _∙_}
-use mathlib.Core.Bool.{Bool, false, not, cond}
+use mathlib.Core.Bool.{true, false, not}
 use Prim.Native.Nat.{ℕ}
 use lib.Dec.{eqb}
-use lib.Ieee.{binary32, prec, toBits}
+use lib.Ieee.{binary32, prec, ones, toBits}
 use borrow.Author.Needs.{needs}
 use borrow.Author.Tests.{eq-eqb, ne-eqb}
-use Rattle.marks.specs.Answers.{accepted, answer}
+use Rattle.marks.specs.Answers.{accepted}
 use Rattle.marks.specs.AnswerLaws.{pass, stop, end, refuses, accepts}
-use Rattle.floats.specs.Fields.{endless, subnormal, zeroBits}
+use Rattle.floats.specs.Fields.{fieldOf, digitsOf, endless, subnormal}
 use Rattle.factor.specs.SetUp.{intact}
-use Rattle.reading.specs.Reading.{Kind, zero, normal, unreadable}
+use Rattle.reading.specs.Reading.{zero, normal, kindOf}
 use Rattle.reading.proofs.take.Statement.{statement}
 use Rattle.reading.proofs.take.Tie as tie
 
@@ -28,10 +28,10 @@ returns-2 c = refuses (pass (through (c .before .before)) (stop (ap not (ne-eqb 
 precise : (c : tie.Else2) → not (eqb (c .before .before .before .before .args .f .precision .bits) (prec binary32)) ≡ false
 precise c = ap not (eq-eqb _ (prec binary32) (c .if2 .left))
 
--- ---- the reading's pattern
-module _ (c : tie.After-bits-of) where
+-- ---- the reading's fields
+module _ (c : tie.After-digits-of) where
   abbrev e : tie.Else2
-  e = c .before
+  e = c .before .before .before
 
   abbrev t : tie.Else1
   t = e .before .before
@@ -39,51 +39,46 @@ module _ (c : tie.After-bits-of) where
   abbrev b : ℕ
   b = toBits binary32 (t .before .before .args .reading)
 
--- 21, of the pattern that was read
-endless-is : (c : tie.After-is-endless) → c .is-endless .result ≡ endless binary32 (b (c .before))
-endless-is c = c .is-endless .ensures ∙ ap (endless binary32) (c .before .bits-of .ensures)
+  field-is : c .before .field-of .result ≡ fieldOf binary32 b
+  field-is = c .before .field-of .ensures ∙ ap (fieldOf binary32) (c .before .before .bits-of .ensures)
+
+  digits-is : c .digits-of .result ≡ digitsOf binary32 b
+  digits-is = c .digits-of .ensures ∙ ap (digitsOf binary32) (c .before .before .bits-of .ensures)
 
 returns-3 : tie.Need-returns-3
-returns-3 c = let d = c .before .before in refuses (pass (through (t d)) (pass (precise (e d)) (stop (sym (endless-is (c .before)) ∙ c .if3 .taken)))) _
+returns-3 c = let d = c .before in refuses (pass (through (t d)) (pass (precise (e d)) (stop (eq-eqb _ (ones binary32) (sym (field-is d) ∙ c .if3 .taken))))) _
 
-ended : (c : tie.Else3) → endless binary32 (b (c .before .before)) ≡ false
-ended c = sym (endless-is (c .before)) ∙ c .if3 .left
-
--- 22
-subnormal-is : (c : tie.After-is-subnormal) → c .is-subnormal .result ≡ subnormal binary32 (b (c .before .before .before))
-subnormal-is c = c .is-subnormal .ensures ∙ ap (subnormal binary32) (c .before .before .before .bits-of .ensures)
+-- 21 lets it through
+ended : (c : tie.Else3) → endless binary32 (b (c .before)) ≡ false
+ended c = ne-eqb _ (ones binary32) (λ is. c .if3 .left (field-is (c .before) ∙ is))
 
 returns-4 : tie.Need-returns-4
 returns-4 c =
-    let n = c .before .before in
-    let d = n .before .before in
-    refuses (pass (through (t d)) (pass (precise (e d)) (pass (ended n) (stop (sym (subnormal-is (c .before)) ∙ c .if4 .taken))))) _
-
--- what is left is a zero, or normal
-zero-is : (c : tie.After-is-zero) → c .is-zero .result ≡ zeroBits binary32 (b (c .before .before .before .before .before))
-zero-is c = c .is-zero .ensures ∙ ap (zeroBits binary32) (c .before .before .before .before .before .bits-of .ensures)
-
-let-in : (c : tie.After-is-zero) → let d = c .before .before .before .before .before in (k : Kind) → accepted k ≡ answer (unreadable (t d .before .before .args .f) (b d)) k
-let-in c k =
-    let s = c .before in
-    let n = s .before .before in
-    let d = n .before .before in
-    accepts (pass (through (t d)) (pass (precise (e d)) (pass (ended n) (pass (sym (subnormal-is (s .before)) ∙ s .if4 .left) end)))) k
+    let z = c .before in
+    let n = z .before in
+    let d = n .before in
+    let is : subnormal binary32 (b d) ≡ true = rw (eq-eqb (fieldOf binary32 (b d)) 0 (sym (field-is d) ∙ z .if4 .taken), ne-eqb (digitsOf binary32 (b d)) 0 (λ is. c .if5 .taken (digits-is d ∙ is))) in
+    refuses (pass (through (t d)) (pass (precise (e d)) (pass (ended n) (stop is)))) _
 
 returns-5 : tie.Need-returns-5
 returns-5 c =
     let z = c .before in
-    let d = z .before .before .before .before .before in
-    let-in z zero ∙ ap (answer (unreadable (t d .before .before .args .f) (b d))) (ap (λ (q : Bool). cond q zero (normal (b d))) (sym (c .if5 .taken) ∙ zero-is z))
+    let n = z .before in
+    let d = n .before in
+    let none = eq-eqb (fieldOf binary32 (b d)) 0 (sym (field-is d) ∙ z .if4 .taken) in
+    let nil = eq-eqb (digitsOf binary32 (b d)) 0 (sym (digits-is d) ∙ c .if5 .left) in
+    let is : subnormal binary32 (b d) ≡ false = rw (none, nil) in
+    let kind : zero ≡ kindOf (b d) = rw (none, nil) in
+    ap accepted kind ∙ accepts (pass (through (t d)) (pass (precise (e d)) (pass (ended n) (pass is end)))) _
 
 returns-6 : tie.Need-returns-6
 returns-6 c =
-    let z = c .before in
-    let d = z .before .before .before .before .before in
-    ap (λ (x : ℕ). accepted (normal x)) (d .bits-of .ensures)
-    ∙ let-in z (normal (b d))
-    ∙ ap (answer (unreadable (t d .before .before .args .f) (b d))) (ap (λ (q : Bool). cond q zero (normal (b d))) (sym (c .if5 .left) ∙ zero-is z))
+    let n = c .before in
+    let d = n .before in
+    let some = ne-eqb (fieldOf binary32 (b d)) 0 (λ is. c .if4 .left (field-is d ∙ is)) in
+    let is : subnormal binary32 (b d) ≡ false = rw some in
+    let kind : normal (b d) ≡ kindOf (b d) = rw some in
+    ap (λ (z : ℕ). accepted (normal z)) (d .before .before .bits-of .ensures) ∙ ap accepted kind ∙ accepts (pass (through (t d)) (pass (precise (e d)) (pass (ended n) (pass is end)))) _
 
 pub take-spec : {M : Type 1} → statement M
-take-spec =
-    tie.close (tie.spec (λ c κs. search needs) returns returns-2 (λ c κs. search needs) (λ c κs. search needs) returns-3 (λ c κs. search needs) returns-4 (λ c κs. search needs) returns-5 returns-6)
+take-spec = tie.close (tie.spec (λ c κs. search needs) returns returns-2 (λ c κs. search needs) (λ c κs. search needs) (λ c κs. search needs) returns-3 returns-4 returns-5 returns-6)
