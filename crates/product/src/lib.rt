@@ -10,7 +10,7 @@ ghost use Prim.Native.Nat.{_+_, _-_, _*_, _<_, _≤_, _^_};
 ghost use Rattle.marks.specs.Answers.{accepted};
 ghost use Rattle.rounding.specs.Unit.{rn};
 ghost use Rattle.rounding.specs.RoundLaws.{HasBits};
-ghost use Rattle.wide.specs.Value.{valueOf};
+ghost use Rattle.wide.specs.Value.{wordBits, valueOf};
 ghost use Rattle.factor.specs.Precision.{Kept, scaleOf, significandOut};
 ghost use Rattle.factor.specs.Context.{tieRule, contextAt, contextOf};
 ghost use Rattle.factor.specs.Whole.{End, wholeOf};
@@ -95,7 +95,7 @@ pub fn product_of(f: Factor, x: u64) -> Product
 
 // A product as a whole number of 2 ^ (1 - n), the step of binade 0: so products are compared.
 fn steps_of(v: Product) -> u64
-    requires { ⌜ (v .binade ≤ 1) × (v .significand * 2 ^ v .binade < 2 ^ 64) ⌝ }
+    requires { ⌜ (v .binade ≤ 1) × (v .significand * 2 ^ v .binade < 2 ^ wordBits) ⌝ }
     ensures { λ r. ⌜ r ≡ v .significand * 2 ^ v .binade ⌝ }
 {
     v.significand << v.binade

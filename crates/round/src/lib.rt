@@ -6,17 +6,17 @@ use rounding::RoundedSigned;
 use rounding::TieRule;
 use wide::Wide;
 ghost use mathlib.Core.Path.{_≡_};
-ghost use Prim.Native.Nat.{_+_, _-_, _/_, _%_, _<_, _≤_, _^_};
+ghost use Prim.Native.Nat.{_+_, _-_, _*_, _/_, _%_, _<_, _≤_, _^_};
 ghost use Rattle.rounding.specs.Grid.{ruleOf, location, choose, nearest};
 ghost use Rattle.rounding.specs.Round.{normalised, rounded};
 ghost use lib.IntN.{natAbs};
 ghost use Rattle.rounding.specs.Signed.{signedOf, roundedSigned};
 ghost use Rattle.rounding.specs.Whole.{padded};
-ghost use Rattle.wide.specs.Value.{halfWord, valueOf};
+ghost use Rattle.wide.specs.Value.{wordBits, halfWord, valueOf};
 
 // Where r / 2 ^ k lies between 0 and 1.
 pub fn locate(r: u64, k: u32) -> Location
-    requires { ⌜ (k < 64) × (r < 2 ^ k) ⌝ }
+    requires { ⌜ (k < wordBits) × (r < 2 ^ k) ⌝ }
     ensures { λ l. ⌜ l ≡ location r (2 ^ k) ⌝ }
 {
     if r == 0 {
@@ -34,7 +34,7 @@ pub fn locate(r: u64, k: u32) -> Location
 
 // The same for a remainder of two words.
 pub fn locate_wide(r: Wide, k: u32) -> Location
-    requires { ⌜ (k < 128) × (valueOf r < 2 ^ k) ⌝ }
+    requires { ⌜ (k < 2 * wordBits) × (valueOf r < 2 ^ k) ⌝ }
     ensures { λ l. ⌜ l ≡ location (valueOf r) (2 ^ k) ⌝ }
 {
     if wide::same(r, wide::from_word(0)) {
@@ -62,7 +62,7 @@ pub fn tie_up(q: u64, rule: TieRule) -> bool
 
 // The neighbour that is taken, q or q + 1: by the location, and at half by the rule.
 pub fn choose_neighbour(q: u64, l: Location, rule: TieRule) -> u64
-    requires { ⌜ q + 1 < 2 ^ 64 ⌝ }
+    requires { ⌜ q + 1 < 2 ^ wordBits ⌝ }
     ensures { λ r. ⌜ r ≡ choose (ruleOf rule) q l ⌝ }
 {
     match l {
@@ -84,7 +84,7 @@ pub struct Neighbour {
 
 // x / 2 ^ k to the nearest whole number.
 pub fn nearest_word(x: u64, k: u32, rule: TieRule) -> Neighbour
-    requires { ⌜ (1 ≤ k) × (k < 64) ⌝ }
+    requires { ⌜ (1 ≤ k) × (k < wordBits) ⌝ }
     ensures { λ r. ⌜ r ≡ record { taken = nearest (ruleOf rule) x (2 ^ k); location = location (x % 2 ^ k) (2 ^ k) } ⌝ }
 {
     let u = wide::power(k);
@@ -97,7 +97,7 @@ pub fn nearest_word(x: u64, k: u32, rule: TieRule) -> Neighbour
 
 // The kept digits as a significand and an exponent: the carry 2 ^ n is the next binade's first.
 pub fn normalise(kept: u64, n: u32, dropped: u32, l: Location) -> Rounded
-    requires { ⌜ (1 ≤ n) × (n < 64) × (dropped < 128) ⌝ }
+    requires { ⌜ (1 ≤ n) × (n < wordBits) × (dropped < 2 * wordBits) ⌝ }
     ensures { λ r. ⌜ r ≡ normalised n kept dropped 0 l ⌝ }
 {
     if kept == wide::power(n) {
@@ -116,7 +116,7 @@ pub fn normalise(kept: u64, n: u32, dropped: u32, l: Location) -> Rounded
 
 // A word of b digits, at most n: all of them are kept, and zeros are put behind them.
 fn widened(x: u64, b: u32, n: u32) -> Rounded
-    requires { ⌜ (n < 64) × (b ≤ n) × (x < 2 ^ b) ⌝ }
+    requires { ⌜ (n < wordBits) × (b ≤ n) × (x < 2 ^ b) ⌝ }
     ensures { λ r. ⌜ r ≡ padded n x b ⌝ }
 {
     let shift = n - b;
@@ -129,7 +129,7 @@ fn widened(x: u64, b: u32, n: u32) -> Rounded
 
 // A word to n bits.
 pub fn round_word(x: u64, n: u32, rule: TieRule) -> Rounded
-    requires { ⌜ (1 ≤ n) × (n < 64) ⌝ }
+    requires { ⌜ (1 ≤ n) × (n < wordBits) ⌝ }
     ensures { λ r. ⌜ r ≡ rounded (ruleOf rule) n x 1 ⌝ }
 {
     if x == 0 {
@@ -151,7 +151,7 @@ pub fn round_word(x: u64, n: u32, rule: TieRule) -> Rounded
 
 // A number of two words to n bits.
 pub fn round_wide(u: Wide, n: u32, rule: TieRule) -> Rounded
-    requires { ⌜ (1 ≤ n) × (n < 64) ⌝ }
+    requires { ⌜ (1 ≤ n) × (n < wordBits) ⌝ }
     ensures { λ r. ⌜ r ≡ rounded (ruleOf rule) n (valueOf u) 1 ⌝ }
 {
     let hi = u.hi;
@@ -187,7 +187,7 @@ pub fn with_sign(minus: bool, m: u64) -> i64
 
 // A signed number to n bits: the size is rounded, and the sign stays.
 pub fn round_signed(z: i64, n: u32, rule: TieRule) -> RoundedSigned
-    requires { ⌜ (1 ≤ n) × (n < 64) ⌝ }
+    requires { ⌜ (1 ≤ n) × (n < wordBits) ⌝ }
     ensures { λ r. ⌜ r ≡ roundedSigned (ruleOf rule) n z ⌝ }
 {
     let r = round_word(magnitude(z), n, rule);

@@ -7,6 +7,7 @@ use native.Mathlib.Omega.{arith}
 use lib.ListN.{length, take}
 use lib.Seq.{sets, length-sets}
 use borrow.Author.Tests.{le-ltb}
+use Rattle.wide.specs.Value.{wordBits}
 use Rattle.marks.specs.declared.Mark.{Mark}
 use Rattle.marks.specs.Answers.{none, judged, Outcome, refused, accepted}
 use Rattle.factor.specs.declared.Factor.{Factor}
@@ -55,9 +56,9 @@ addedTo t after trials words opens = record { state = after; trials = t .trials 
 
 -- room for the sums
 pub record Addable (t : Tally) (trials words opens : ℕ) : Type 0 where
-  pub tried : t .trials + trials < 2 ^ 64
-  pub failing : t .wrongs + words < 2 ^ 64
-  pub odd : t .opens + opens < 2 ^ 64
+  pub tried : t .trials + trials < 2 ^ wordBits
+  pub failing : t .wrongs + words < 2 ^ wordBits
+  pub odd : t .opens + opens < 2 ^ wordBits
   pub some : opens ≤ words
 
 module _ (t : Tally) (c : Counted t) (after : SweepState) (trials place : ℕ) (list : List ℕ) (a : Answered (t .state) after trials place list) (opens : ℕ) (e : opens ≡ odds (take place list)) where

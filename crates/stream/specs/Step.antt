@@ -4,6 +4,7 @@ use mathlib.Core.List.{List, [], _∷_, _++_}
 use Prim.Native.Nat.{ℕ, suc, _+_, _-_, _^_}
 use lib.Dec.{leb}
 use lib.ListN.{length, take, drop}
+use Rattle.wide.specs.Value.{wordBits}
 use Rattle.search.specs.declared.Place.{Place}
 use Rattle.search.specs.declared.Place.the-variants.{At, Nowhere}
 use Rattle.marks.specs.Answers.{Outcome, refused, accepted}
@@ -29,7 +30,7 @@ abbrev pub listSize : ℕ
 listSize = 64
 
 abbrev pub noCap : ℕ
-noCap = 2 ^ 64 - 1
+noCap = 2 ^ wordBits - 1
 
 -- the suspects not yet tried
 abbrev pub leftOf : SweepState → List ℕ

@@ -8,12 +8,12 @@ use Rattle.factor.specs.Context.{Context, contextOf, lowerOf, upperOf}
 use Rattle.factor.specs.ContextLaws.{fine-at}
 use Rattle.factor.specs.declared.Factor.{Factor}
 use Rattle.factor.specs.SetUp.{Sound}
-use Rattle.wide.specs.Value.{halfWord}
+use Rattle.wide.specs.Value.{wordBits, halfWord}
 use Rattle.suspects.specs.Suspects.{windowW, widening}
 use Rattle.suspects.specs.Window.{room}
 use Rattle.suspects.specs.Next.{soughtNear, halves, Askable}
 
-near-askable : (L h W D : ℕ) → 0 < W → W + D ≤ h → 2 * h ≤ halfWord → 2 ^ 64 % (2 * h) ≡ 0 → Askable (soughtNear L h W D)
+near-askable : (L h W D : ℕ) → 0 < W → W + D ≤ h → 2 * h ≤ halfWord → 2 ^ wordBits % (2 * h) ≡ 0 → Askable (soughtNear L h W D)
 near-askable L h W D some fits most divides =
     record { window = omega arith; below = omega arith; step-below = mod-lt L (omega arith); most = most; divides = divides }
 

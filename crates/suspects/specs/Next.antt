@@ -3,7 +3,7 @@
 use mathlib.Core.Path.{_≡_}
 use mathlib.Core.Bool.{Bool, true, false}
 use Prim.Native.Nat.{ℕ, _+_, _-_, _*_, _%_, _^_, _≤_, _<_}
-use Rattle.wide.specs.Value.{halfWord}
+use Rattle.wide.specs.Value.{wordBits, halfWord}
 use Rattle.search.specs.declared.Place.{Place}
 use Rattle.search.specs.declared.Place.the-variants.{At, Nowhere}
 use Rattle.search.specs.declared.Found.{Found}
@@ -63,4 +63,4 @@ pub record Askable (s : Sought) : Type 0 where
   pub below : s .to < s .modulus
   pub step-below : s .step < s .modulus
   pub most : s .modulus ≤ halfWord
-  pub divides : 2 ^ 64 % s .modulus ≡ 0
+  pub divides : 2 ^ wordBits % s .modulus ≡ 0

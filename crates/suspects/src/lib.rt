@@ -6,7 +6,7 @@ ghost use mathlib.Core.Path.{_≡_};
 ghost use Prim.Native.Nat.{_+_, _-_, _*_, _%_, _≤_, _<_, _^_};
 ghost use Rattle.factor.specs.Context.{contextOf, lowerOf, upperOf};
 ghost use Rattle.factor.specs.SetUp.{Sound};
-ghost use Rattle.wide.specs.Value.{halfWord};
+ghost use Rattle.wide.specs.Value.{wordBits, halfWord};
 ghost use Rattle.suspects.specs.Next.{soughtNear, soughtIn, nextIn, firstHigh, halves, Askable};
 
 // What is sought in a half: remainders from `from` to `to`, both included, of the multiples of the step modulo the modulus.
@@ -77,7 +77,7 @@ pub fn prepare(f: Factor) -> Halves
 
 // x times y modulo m, a divisor of 2 ^ 64: the low word of the product tells.
 fn remainder(x: u64, y: u64, m: u64) -> u64
-    requires { ⌜ (0 < m) × (2 ^ 64 % m ≡ 0) ⌝ }
+    requires { ⌜ (0 < m) × (2 ^ wordBits % m ≡ 0) ⌝ }
     ensures { λ r. ⌜ r ≡ x * y % m ⌝ }
 {
     let p = wide::product(x, y);

@@ -8,6 +8,7 @@ use native.Mathlib.Numerals.{add-one}
 use lib.Dec.{eqb, ltb}
 use lib.Pow.{pow-mono}
 use borrow.Author.Tests.{eqb-true, eqb-false, lt-ltb, le-ltb}
+use Rattle.wide.specs.Value.{wordBits}
 use Rattle.marks.specs.declared.Mark.{Mark}
 use Rattle.marks.specs.Answers.{NoneHolds}
 use Rattle.marks.specs.AnswerLaws.{or-false}
@@ -133,7 +134,7 @@ module _ {s : SweepState} {h : Halves} {cap size : ℕ} {w : Work} (k : Stepping
     step-ahead = is ∙ ap (λ (h : Halves). aheadIn h (s .last) (w .at)) (k .are) ∙ ahead-in (s .factor) (s .last) (w .at)
 
     -- the rounds can be counted
-    pub step-rounds : w .rounds + found .rounds < 2 ^ 64
+    pub step-rounds : w .rounds + found .rounds < 2 ^ wordBits
     step-rounds = rw step-ahead (k .turns)
 
     -- a suspect that is found lies in the range
@@ -148,7 +149,7 @@ module _ {s : SweepState} {h : Halves} {cap size : ℕ} {w : Work} (k : Stepping
         record { least = omega (arith, r .first-bits .least, k .from); most = omega (arith, r .last-bits .most) }
 
     -- where the call does not stop, one more can be counted
-    pub step-room : {X b : _} → found .place ≡ At X → b ≡ stop → b ≡ false → cap < 2 ^ 64 → size < 2 ^ 64 → Room w X
+    pub step-room : {X b : _} → found .place ≡ At X → b ≡ stop → b ≡ false → cap < 2 ^ wordBits → size < 2 ^ wordBits → Room w X
     step-room q told b c d =
         let g = may-go (w .trials) cap (w .place) size (sym told ∙ b) in
         record { tried = omega (arith, k .capped, g .0); placed = omega (arith, k .fits, g .1); found = omega (arith, step-found q, step-last) }

@@ -3,6 +3,7 @@ use mathlib.Core.Path.{_≡_}
 use mathlib.Core.Bool.{Bool, true, false, cond, _||_}
 use Prim.Native.Nat.{ℕ, suc, _+_, _*_, _^_, _≤_, _<_}
 use lib.Dec.{eqb, ltb}
+use Rattle.wide.specs.Value.{wordBits}
 use Rattle.marks.specs.declared.Mark.{Mark}
 use Rattle.marks.specs.declared.Mark.the-variants.{Right, Open, Wrong}
 use Rattle.marks.specs.Answers.{none, judged, NoneHolds}
@@ -95,8 +96,8 @@ resultIn w = record { trials = w .trials; rounds = w .rounds; place = w .place }
 
 -- room to count one more trial and word
 pub record Room (w : Work) (X : ℕ) : Type 0 where
-  pub tried : w .trials + 1 < 2 ^ 64
-  pub placed : w .place + 1 < 2 ^ 64
+  pub tried : w .trials + 1 < 2 ^ wordBits
+  pub placed : w .place + 1 < 2 ^ wordBits
   pub found : X < 2 ^ mostPrecision
 
 -- a step may be made: a new state over the factor and the range is not refused, the halves are those of the factor, and the counts fit
@@ -104,7 +105,7 @@ pub record Stepping (s : SweepState) (h : Halves) (cap size : ℕ) (w : Work) : 
   pub sound : NoneHolds (engine .newFaults (s .factor) (s .first) (s .last))
   pub are : h ≡ halvesOf (s .factor)
   pub from : s .first ≤ w .at
-  pub turns : w .rounds + aheadOf s (w .at) .rounds < 2 ^ 64
+  pub turns : w .rounds + aheadOf s (w .at) .rounds < 2 ^ wordBits
   pub capped : w .trials ≤ cap
   pub fits : w .place ≤ size
 

@@ -11,7 +11,7 @@ ghost use Prim.Native.Nat.{_+_, _≤_, _<_, _^_, min, max};
 ghost use lib.ListN.{length};
 ghost use Rattle.search.specs.declared.Place.the-variants.{Nowhere};
 ghost use Rattle.factor.specs.Precision.{Kept};
-ghost use Rattle.wide.specs.Value.{halfWord};
+ghost use Rattle.wide.specs.Value.{wordBits, halfWord};
 ghost use Rattle.suspects.specs.Next.{Askable};
 ghost use Rattle.marks.specs.AnswerLaws.{First};
 ghost use Rattle.calls.specs.Call.{newState, conditions, sweepCall};
@@ -267,7 +267,7 @@ fn halted(w: Work, rounds: u64, left: Place) -> Work
 
 // A word goes into the next free place.
 fn with_word(w: Work, word: u64) -> Work
-    requires { ⌜ w .place + 1 < 2 ^ 64 ⌝ }
+    requires { ⌜ w .place + 1 < 2 ^ wordBits ⌝ }
     ensures { λ r. ⌜ r ≡ withWord w word ⌝ }
 {
     let mut next = w;
