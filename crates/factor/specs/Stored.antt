@@ -1,25 +1,29 @@
 -- The parts as floats: those that are stored have exactly the values Ch and Cl. Over a format and a context. Assumes nothing.
 use mathlib.Core.Path.{_≡_, refl, sym, ap, _∙_, subst}
-use mathlib.Core.Bool.{Bool, false}
+use mathlib.Core.Bool.{Bool, false, not}
 use Prim.Native.Nat.{ℕ, suc, _+_, _-_, _*_, _^_, _≤_, _<_}
 use native.Mathlib.Nat.{le-of-lt, lt-of-not-le, eq-of-mul-eq-mul-right}
 use native.Mathlib.Decide.{decLe}
 use native.Mathlib.Omega.{arith}
+use lib.Dec.{T}
 use lib.IntN.{ℤ, pos, natAbs}
 use lib.Pow.{pow-pos}
 use lib.Ieee
-use lib.Ieee.{Float, Format, binary32, prec, emax}
+use lib.Ieee.{Float, Format, binary32, prec, emax, isNan}
 use lib.Ieee.Exact.{HasValue}
 use lib.Ieee.Scale.{round-same}
+use Rattle.marks.specs.Answers.{accepted}
 use Rattle.rounding.specs.Apart.{apart}
 use Rattle.rounding.specs.Fraction.{Fraction}
 use Rattle.rounding.specs.Ieee.{revalue}
 use Rattle.rounding.specs.RoundLaws.{HasBits}
 use Rattle.rounding.specs.Signed.{negative, signedOf}
 use Rattle.floats.specs.Narrow.{stored-exactly}
+use Rattle.floats.specs.Numbers.{value-number}
 use Rattle.factor.specs.declared.Parts.{Parts}
 use Rattle.factor.specs.declared.Applied.{Applied}
 use Rattle.factor.specs.declared.Description.{Description}
+use Rattle.factor.specs.declared.Factor.{Factor}
 use Rattle.factor.specs.Precision.{Kept}
 use Rattle.factor.specs.Context.{Context, Fine, contextAt, contextFor}
 use Rattle.factor.specs.ContextLaws.{fine-at}
@@ -27,7 +31,8 @@ use Rattle.factor.specs.Parts.{highPart, lowPart, partsAt}
 use Rattle.factor.specs.Whole.{End, whole, step}
 use Rattle.factor.specs.LowForm.{Tells}
 use Rattle.factor.specs.PartsLaws.{bottom-is, high-counts, high-is, high-least, high-most, low-counts, low-kept, low-tells, whole-of-parts}
-use Rattle.factor.specs.SetUp.{floatIn, appliedOf}
+use Rattle.factor.specs.SetUp.{floatIn, appliedOf, setUp}
+use Rattle.factor.specs.SetUpLaws.{setUp-sound}
 
 -- ---- the floats of the parts that are kept, and what is stored
 abbrev pub highFrom : Format → (n : ℕ) → Parts → Float
@@ -164,3 +169,13 @@ module _ (f : Format) (K : Context) (ok : Fine K) (held : Held f K) where
 pub applied-from : (d : Description) → Kept (d .precision) → End (contextFor d) (d .lower) → appliedOf d ≡ appliedFrom (d .precision) (d .scale) (partsAt (contextFor d) (d .lower))
 unfolding appliedOf
 applied-from d N ce = λ i. record { high = high-from binary32 (contextFor d) (fine-at N) (kept-held N) (d .lower) ce i; low = low-from binary32 (contextFor d) (fine-at N) (kept-held N) (d .lower) ce i; scale = d .scale }
+
+-- they are numbers
+pub accepted-numbers : (d : Description) (f : Factor) → setUp d ≡ accepted f → T (not (isNan (f .applied .high))) × T (not (isNan (f .applied .low)))
+accepted-numbers d f e =
+    let t = setUp-sound d f e in
+    let K = contextFor d in
+    let fine = fine-at (t .1 .precision) in
+    let held = kept-held (t .1 .precision) in
+    subst (λ (g : Factor). T (not (isNan (g .applied .high))) × T (not (isNan (g .applied .low)))) (t .0)
+    (unfold appliedOf in (value-number _ _ _ _ (stored-high binary32 K fine held (d .lower) (t .1 .lower-end)), value-number _ _ _ _ (stored-low binary32 K fine held (d .lower) (t .1 .lower-end))))

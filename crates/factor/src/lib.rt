@@ -171,7 +171,6 @@ impl Precision {
 
     // A search takes at most so many rounds.
     pub fn rounds(self) -> u64
-        requires { ⌜ Kept (self .bits) ⌝ }
         ensures { λ r. ⌜ r ≡ roundsOf (self .bits) ⌝ }
     {
         Precision::ROUNDS

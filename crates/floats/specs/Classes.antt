@@ -3,12 +3,12 @@ use mathlib.Core.Path.{_≡_, refl, sym, ap, ap₂, _∙_, subst}
 use mathlib.Core.Bool.{Bool, true, false, not, _&&_, cond, true≢false}
 use mathlib.Core.Logic.{_⊎_, inl, inr}
 use Prim.Native.Nat.{ℕ, suc, _+_, _-_, _*_, _%_, _^_, _≤_, _<_}
-use native.Mathlib.Nat.{mul-one, mul-comm, mul-pos, zero-add, zero-lt-suc, mod-lt, div-lt-iff-lt-mul}
+use native.Mathlib.Nat.{mul-one, zero-add, mod-lt}
 use native.Mathlib.Omega.{arith}
 use lib.Dec.{T, eqb}
 use lib.IntN.{ℤ, pos, _+ℤ_}
 use lib.Pow.{pow-pos}
-use lib.Ieee.{Float, nan, inf, Format, prec, emax, low, hid, ones, top, minus, up, down, odd, ofFields, ofBits, toBits, fits}
+use lib.Ieee.{Float, nan, inf, Format, binary32, binary64, prec, emax, low, hid, ones, top, minus, up, down, odd, ofFields, ofBits, toBits, fits}
 use lib.Ieee.Bits.{is-true, is-false, ofBits-toBits}
 use lib.Ieee.Fits.{two, reach, and-l, and-r}
 use lib.Ieee.Exact.{HasValue, odd-sign}
@@ -17,8 +17,22 @@ use Rattle.rounding.specs.RoundLaws.{minus-add, minus-back}
 use Rattle.rounding.specs.Ieee.{revalue}
 use Rattle.floats.specs.Fields.{signOf, fieldOf, digitsOf, endless, zeroBits, subnormal, Normal, significandOf, exponentOf}
 use Rattle.floats.specs.Powers.{in-smallest}
-use Rattle.floats.specs.Pattern.{fields-value}
+use Rattle.floats.specs.Pattern.{fields-value, field-most}
 
+-- ---- the classes of infinities and of NaN, whose pattern the toolchain writes
+pub nan-endless : (f : Format) → endless f (toBits f nan) ≡ true
+unfolding toBits
+nan-endless binary32 = refl
+nan-endless binary64 = refl
+
+pub inf-endless : (f : Format) (s : Bool) → endless f (toBits f (inf s)) ≡ true
+unfolding toBits
+inf-endless binary32 true = refl
+inf-endless binary32 false = refl
+inf-endless binary64 true = refl
+inf-endless binary64 false = refl
+
+-- ---- what the class of a pattern says of its float
 module _ (f : Format) (x : Float) (h : T (fits f x)) where
   abbrev b : ℕ
   b = toBits f x
@@ -79,10 +93,8 @@ module _ (f : Format) (x : Float) (h : T (fits f x)) where
 -- every pattern is of one of the classes
 pub normal-others : (f : Format) (b : ℕ) → endless f b ≡ false → zeroBits f b ≡ false → subnormal f b ≡ false → Normal f b
 normal-others f b n z s =
-    let H : 0 < hid f = pow-pos (prec f - 1) in
-    let hi : fieldOf f b < suc (ones f) = div-lt-iff-lt-mul H .1 (subst (λ (z : ℕ). b % top f < z) (mul-comm (hid f) (suc (ones f))) (mod-lt b (mul-pos H (zero-lt-suc (ones f))))) in
     let not-ones = eqb-false (fieldOf f b) (ones f) n in
-    record { from = go (eqb (fieldOf f b) 0) (eqb (digitsOf f b) 0) refl z s; to = omega arith }
+    record { from = go (eqb (fieldOf f b) 0) (eqb (digitsOf f b) 0) refl z s; to = omega (arith, field-most f b) }
   where
     go : (p q : Bool) → eqb (fieldOf f b) 0 ≡ p → p && q ≡ false → p && not q ≡ false → 1 ≤ fieldOf f b
     go true true e u w = absurd (true≢false u)

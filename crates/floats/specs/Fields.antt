@@ -72,7 +72,7 @@ pub record Narrow (f : Format) (n m q : ℕ) : Type 0 where
   pub deep : n ≤ suc q
   pub shallow : q ≤ emax f + n - 2
 
--- ---- the size in units of 2 ^ d times the smallest positive value: of zero, or of a number that is whole in them
+-- ---- the size in units of 2 ^ d times the smallest positive value: of zero, or of a number that is whole in them (`units-value`)
 abbrev pub unitsOf : Format → (d b : ℕ) → ℕ
 unitsOf f d b = cond (eqb (b % top f) 0) 0 (significandOf f b * 2 ^ (fieldOf f b - suc d))
 
@@ -80,7 +80,8 @@ unitsOf f d b = cond (eqb (b % top f) 0) 0 (significandOf f b * 2 ^ (fieldOf f b
 abbrev pub unitAt : Format → (E : ℕ) → ℕ
 unitAt f E = emax f - 1 - E
 
--- what code asks to count it: by its field the number is whole in the unit, or zero, and its size below 2 ^ w
+-- what code asks to count it: it is finite, by its field whole in the unit, or zero, and its size below 2 ^ w
 pub record InUnits (f : Format) (w d b : ℕ) : Type 0 where
+  pub finite : fieldOf f b < ones f
   pub from : 0 < b % top f → suc d ≤ fieldOf f b
   pub to : fieldOf f b + prec f ≤ suc (w + d)

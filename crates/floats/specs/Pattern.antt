@@ -3,7 +3,7 @@ use mathlib.Core.Path.{_≡_, refl, sym, ap, _∙_, subst}
 use mathlib.Core.Bool.{Bool, true, false, not}
 use mathlib.Core.Logic.{_⊎_, inl, inr}
 use Prim.Native.Nat.{ℕ, suc, _+_, _-_, _*_, _/_, _%_, _^_, _≤_, _<_}
-use native.Mathlib.Nat.{zero-lt-suc, mod-lt, eq-or-lt-of-le, pow-succ', lt-of-le-of-lt, lt-of-lt-of-le, lt-of-mul-lt-mul-right, mul-lt-mul-of-pos-right, mul-comm, mod-eq-of-lt}
+use native.Mathlib.Nat.{zero-lt-suc, mod-lt, div-lt-iff-lt-mul, mul-pos, eq-or-lt-of-le, pow-succ', lt-of-le-of-lt, lt-of-lt-of-le, lt-of-mul-lt-mul-right, mul-lt-mul-of-pos-right, mul-comm, mod-eq-of-lt}
 use native.Mathlib.Omega.{arith}
 use lib.Arith.{mod-mul, digits-lt, digits-div, digits-mod}
 use lib.Dec.{T}
@@ -38,6 +38,12 @@ bits-split f b =
     let H = pow-pos (prec f - 1) in
     let e : b % top f ≡ (b / hid f % suc (ones f)) * hid f + b % hid f = ap (λ (z : ℕ). b % z) (mul-comm (hid f) (suc (ones f))) ∙ mod-mul b (zero-lt-suc (ones f)) H in
     e ∙ ap (λ (z : ℕ). z * hid f + b % hid f) (sym (ap (λ (z : ℕ). z / hid f) e ∙ digits-div (b / hid f % suc (ones f)) (mod-lt b H)))
+
+-- no field is above that of the infinities
+pub field-most : (f : Format) (b : ℕ) → fieldOf f b < suc (ones f)
+field-most f b =
+    let H : 0 < hid f = pow-pos (prec f - 1) in
+    div-lt-iff-lt-mul H .1 (subst (λ (z : ℕ). b % top f < z) (mul-comm (hid f) (suc (ones f))) (mod-lt b (mul-pos H (zero-lt-suc (ones f)))))
 
 -- ---- the pattern of a sign, a field F and digits t
 module _ (f : Format) (s : Bool) (F t : ℕ) (some : t < hid f) (few : F ≤ ones f) where

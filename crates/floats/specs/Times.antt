@@ -2,8 +2,8 @@
 use mathlib.Core.Path.{_≡_, refl, sym, ap, ap₂, _∙_, subst}
 use mathlib.Core.Bool.{Bool, true, false, cond}
 use mathlib.Core.Logic.{_⊎_, inl, inr}
-use Prim.Native.Nat.{ℕ, zero, suc, _+_, _-_, _*_, _%_, _^_, _≤_, _<_}
-use native.Mathlib.Nat.{mul-pos, mul-le-mul, mul-le-mul-right, mul-lt-mul-of-pos-right, mul-mul-mul-comm, eq-of-mul-eq-mul-right, le-trans, le-of-eq, pow-succ', lt-of-not-le, lt-of-lt-of-le, le-of-suc-le-suc, mod-lt}
+use Prim.Native.Nat.{ℕ, zero, suc, _+_, _-_, _*_, _/_, _%_, _^_, _≤_, _<_}
+use native.Mathlib.Nat.{mul-assoc, zero-div, mul-pos, mul-le-mul, mul-le-mul-right, mul-lt-mul-of-pos-right, mul-mul-mul-comm, eq-of-mul-eq-mul-right, le-trans, le-of-eq, pow-succ', lt-of-not-le, lt-of-lt-of-le, le-of-suc-le-suc, mod-lt}
 use native.Mathlib.Omega.{arith}
 use lib.Dec.{eqb, lit<}
 use lib.Pow.{pow-add, pow-pos, pow-mono, shl-lt, shl-exact}
@@ -12,13 +12,13 @@ use lib.Ieee.{Float, nan, inf, fin, Format, prec, emax, low, hid, ones, top, up,
 use lib.Ieee.Exact.{HasValue, odd-sign}
 use lib.Ieee.Fits.{two, down-pos}
 use lib.Ieee.Scale.{grid, overflow, round-same}
-use borrow.Author.Tests.{eq-eqb, ne-eqb}
+use borrow.Author.Tests.{eq-eqb, ne-eqb, eqb-true, eqb-false}
 use Rattle.rounding.specs.Grid.{toEven}
 use Rattle.rounding.specs.Unit.{rn}
 use Rattle.rounding.specs.UnitLaws.{rn-same, rn-scale-whole, rn-ge, rn-whole-small}
 use Rattle.rounding.specs.Ieee.{round-value, rn-grid}
 use Rattle.floats.specs.Fields.{signOf, fieldOf, digitsOf, significandOf, unitsOf, unitAt, InUnits}
-use Rattle.floats.specs.Pattern.{digits-some, two-hid, bits-split, significand-bits}
+use Rattle.floats.specs.Pattern.{digits-some, two-hid, bits-split, field-most, fields-value, significand-bits}
 
 -- ---- a product of two values is its exact value, rounded
 mul-value : (f : Format) (x y : Float) (s t : Bool) (a c b d : ℕ) → 0 < c → 0 < d → HasValue x s a c → HasValue y t b d → mul f x y ≡ Ieee.round f (unlike s t) (a * b) (c * d)
@@ -120,14 +120,14 @@ module _ (f : Format) (w d : ℕ) (room : prec f ≤ suc (w + d)) (b u : ℕ) (s
       let none : u ≡ 0 = none-of least k in
       let nothing : u * 2 ^ d ≡ 0 = ap (λ (z : ℕ). z * 2 ^ d) none ∙ omega arith in
       let all : b % top f ≡ 0 = bits-split f b ∙ omega (arith, k, nothing, ap (λ (z : ℕ). z * hid f) e) in
-      record { fits = record { from = λ p. absurd (omega arith); to = omega (arith, room) }; units = rw (eq-eqb (b % top f) 0 all) (sym none) }
+      record { fits = record { finite = omega (arith, e); from = λ p. absurd (omega arith); to = omega (arith, room) }; units = rw (eq-eqb (b % top f) 0 all) (sym none) }
     where
       none-of : (u ≡ 0) ⊎ (hid f ≤ u) → t * 2 ^ 0 ≡ u * 2 ^ d → u ≡ 0
       none-of (inl z) k = z
       none-of (inr l) k = absurd (omega (arith, k, short, mul-le-mul l (pow-pos d)))
 
-  told-some : (k : ℕ) → fieldOf f b ≡ suc k → (hid f + t) * 2 ^ k ≡ u * 2 ^ d → Told f w d b u
-  told-some k e g = record { fits = record { from = λ p. le-trans (omega (arith, reached)) (le-of-eq (sym e)); to = omega (arith, e, few) }; units = rw (ne-eqb (b % top f) 0 not-zero) units }
+  told-some : (k : ℕ) → fieldOf f b ≡ suc k → ¬ (suc k ≡ ones f) → (hid f + t) * 2 ^ k ≡ u * 2 ^ d → Told f w d b u
+  told-some k e o g = record { fits = record { finite = omega (arith, e, o, field-most f b); from = λ p. le-trans (omega (arith, reached)) (le-of-eq (sym e)); to = omega (arith, e, few) }; units = rw (ne-eqb (b % top f) 0 not-zero) units }
     where
       some : hid f ≤ u
       some = go least
@@ -160,15 +160,15 @@ module _ (f : Format) (w d : ℕ) (room : prec f ≤ suc (w + d)) (b u : ℕ) (s
 
   told-field : (k : ℕ) → fieldOf f b ≡ suc k → HasValue (ofFields f (signOf f b) (suc k) t) sg (u * 2 ^ d) (2 ^ low f) → Told f w d b u
   unfolding ofFields
-  told-field k e h = go (eqb (suc k) (ones f)) h
+  told-field k e h = go (eqb (suc k) (ones f)) refl h
     where
       no-value : (c : Bool) → HasValue (cond c (inf (signOf f b)) nan) sg (u * 2 ^ d) (2 ^ low f) → Told f w d b u
       no-value true x = absurd x
       no-value false x = absurd x
 
-      go : (c : Bool) → HasValue (cond c (cond (eqb t 0) (inf (signOf f b)) nan) (odd (prec f) (signOf f b) (hid f + t) k (low f))) sg (u * 2 ^ d) (2 ^ low f) → Told f w d b u
-      go true x = no-value (eqb t 0) x
-      go false x = told-some k e (one-value (odd (prec f) (signOf f b) (hid f + t) k (low f)) (signOf f b) sg ((hid f + t) * 2 ^ k) (u * 2 ^ d) (2 ^ low f) (odd-sign (prec f) (signOf f b) (hid f + t) k (low f)) x)
+      go : (c : Bool) → eqb (suc k) (ones f) ≡ c → HasValue (cond c (cond (eqb t 0) (inf (signOf f b)) nan) (odd (prec f) (signOf f b) (hid f + t) k (low f))) sg (u * 2 ^ d) (2 ^ low f) → Told f w d b u
+      go true o x = no-value (eqb t 0) x
+      go false o x = told-some k e (eqb-false (suc k) (ones f) o) (one-value (odd (prec f) (signOf f b) (hid f + t) k (low f)) (signOf f b) sg ((hid f + t) * 2 ^ k) (u * 2 ^ d) (2 ^ low f) (odd-sign (prec f) (signOf f b) (hid f + t) k (low f)) x)
 
   pub told : Told f w d b u
   unfolding ofBits
@@ -191,3 +191,25 @@ module _ (f : Format) (w d b : ℕ) (h : ¬ (b % top f ≡ 0)) (i : InUnits f w 
       let short : prec f + (fieldOf f b - 1 - d) ≤ w = omega (arith, units-from, i .to) in
       let shift : fieldOf f b - 1 - d ≡ fieldOf f b - suc d = omega arith in
       shl-exact (prec f) (fieldOf f b - 1 - d) w (significand-bits f b .most) short ∙ ap (λ (z : ℕ). significandOf f b * 2 ^ z) shift ∙ rw (ne-eqb (b % top f) 0 h)
+
+-- ---- what they mean: the float is so many units, with its sign
+pub units-value : (f : Format) (w d b : ℕ) → InUnits f w d b → HasValue (ofBits f b) (signOf f b) (unitsOf f d b * 2 ^ d) (2 ^ low f)
+unfolding ofBits ofFields
+units-value f w d b i = go (eqb (b % top f) 0) refl
+  where
+    nothing : (k : ℕ) → 0 * 2 ^ k ≡ 0
+    nothing k = omega arith
+
+    go : (z : Bool) → eqb (b % top f) 0 ≡ z → HasValue (ofBits f b) (signOf f b) (cond z 0 (significandOf f b * 2 ^ (fieldOf f b - suc d)) * 2 ^ d) (2 ^ low f)
+    go true e =
+        let none = eqb-true (b % top f) 0 e in
+        let field : fieldOf f b ≡ 0 = ap (λ (z : ℕ). z / hid f) none ∙ zero-div (hid f) in
+        let digits : digitsOf f b ≡ 0 = omega (arith, bits-split f b, none) in
+        rw (field, digits) (subst (λ (z : ℕ). HasValue (odd (prec f) (signOf f b) 0 0 (low f)) (signOf f b) z (2 ^ low f)) (nothing 0 ∙ sym (nothing d)) (odd-sign (prec f) (signOf f b) 0 0 (low f)))
+    go false e =
+        let m = significandOf f b in
+        let k = fieldOf f b - 1 in
+        let from = i .from (omega (arith, eqb-false (b % top f) 0 e)) in
+        let field : fieldOf f b ≡ suc k = omega (arith, from) in
+        let same : m * 2 ^ k ≡ m * 2 ^ (fieldOf f b - suc d) * 2 ^ d = ap (λ (z : ℕ). m * 2 ^ z) (omega (arith, from)) ∙ ap (λ (z : ℕ). m * z) (pow-add 2 (fieldOf f b - suc d) d) ∙ sym (mul-assoc m (2 ^ (fieldOf f b - suc d)) (2 ^ d)) in
+        subst (λ (z : ℕ). HasValue (ofBits f b) (signOf f b) z (2 ^ low f)) same (fields-value f b (signOf f b) k (digitsOf f b) refl field refl (omega (arith, field, i .finite)))

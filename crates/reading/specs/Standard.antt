@@ -45,14 +45,14 @@ module _ (c : ℕ) (ce : End K32 c) (X : ℕ) (xb : HasBits (prec binary32) X) w
 
   -- from 1 to below 8
   from-one : y .den ≤ y .num
-  unfolding scaleOf tieRule
+  unfolding scaleOf
   from-one =
       let U = fusedUnits K32 (whole K32 c) X in
       let u : 2 ^ t ≤ U = omega (arith, fused-least K32 fine-32 c ce X (xb .most), xb .least) in
       le-of-mul-le-mul-right {k = 2 ^ t} (omega (arith, counts .count, mul-le-mul-right (y .den) u)) (pow-pos t)
 
   to-eight : y .num ≤ 8 * y .den
-  unfolding scaleOf tieRule
+  unfolding scaleOf
   to-eight =
       let U = fusedUnits K32 (whole K32 c) X in
       let u : U ≤ 8 * 2 ^ t = omega (arith, fused-near K32 fine-32 c ce X (xb .most) .0, mul-le-mul (le-of-lt (ce .to)) (le-of-lt (xb .most))) in
@@ -68,7 +68,7 @@ module _ (c : ℕ) (ce : End K32 c) (X : ℕ) (xb : HasBits (prec binary32) X) w
       most N d a b h k = omega (arith, mul-le-mul-right a h, mul-le-mul-right d k)
 
   fused-at : let v = product K32 (partsAt K32 c) X in HasValue (Ieee.round binary32 false (y .num) (y .den)) false (v .significand * 2 ^ v .binade) (hid binary32)
-  unfolding scaleOf tieRule
+  unfolding tieRule
   fused-at =
       let r = rounded tieRule (prec binary32) (y .num) (y .den) in
       let x = Ieee.round binary32 false (y .num) (y .den) in
@@ -76,7 +76,6 @@ module _ (c : ℕ) (ce : End K32 c) (X : ℕ) (xb : HasBits (prec binary32) X) w
       revalue x false _ (down (r .exponent)) (v .num) (v .den) (down-pos (r .exponent)) (product-value K32 fine-32 c ce X (xb .most) (xb .least) .1) (rounded-is-ieee binary32 false (y .num) (y .den) (counts .some) in-range)
 
   first-count : let u = first K32 (partsAt K32 c) X in (0 < u .den) × (u .num * 2 ^ t ≡ firstUnits K32 (wholeOf K32 (partsAt K32 c)) X * u .den)
-  unfolding scaleOf tieRule
   first-count =
       let u = first K32 (partsAt K32 c) X in
       let k = first-counts K32 fine-32 c ce X (xb .most) in

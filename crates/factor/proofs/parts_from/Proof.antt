@@ -1,10 +1,10 @@
 -- `factor::parts_from` meets its contract: no rest, or one that is rounded. Assumes nothing.
-use mathlib.Core.Path.{_≡_, sym, ap, ap₂, _∙_}
+use mathlib.Core.Path.{_≡_, sym, ap, ap₂, _∙_, subst}
 use Prim.Native.Nat.{ℕ, _^_, _<_}
 use native.Mathlib.Omega.{arith}
 use lib.IntN.{ℤ, pos, natAbs, _-ℤ_}
 use mir.Syntax.{w32, w64}
-use mir.Val.{toZ, ofZ}
+use mir.Val.{SFits, toZ, ofZ}
 use mir.ValLaws.{toZ-ofZ}
 use borrow.Author.Needs.{needs}
 use Rattle.rounding.specs.Signed.{roundedSigned}
@@ -79,7 +79,7 @@ module _ (c : tie.After-struct-told2) where
   fits = omega (arith, known (scaled .before) .few, a .pre .0)
 
 sub-t12 : tie.Need-sub-t12
-sub-t12 c = rw (moved c) (record { sfits = fits c })
+sub-t12 c = subst (SFits w32) (sym (moved c)) (record { sfits = fits c })
 
 cast-t13 : tie.Need-cast-t13
 cast-t13 c = rw (moved c, toZ-ofZ w32 (pos (promised (a c) .places)) (record { sfits = fits c })) (tt, record { fits = omega (arith, fits c) })

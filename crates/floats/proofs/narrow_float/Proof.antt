@@ -1,5 +1,5 @@
 -- `floats::narrow_float` meets its contract: moved up to the format's precision the significand has lost nothing. Assumes nothing.
-use mathlib.Core.Path.{_≡_, ap, _∙_}
+use mathlib.Core.Path.{_≡_, sym, ap, _∙_, subst}
 use Prim.Native.Nat.{_+_, _-_, _*_, _%_, _^_}
 use native.Mathlib.Nat.{mod-eq-of-lt}
 use native.Mathlib.Omega.{arith}
@@ -19,10 +19,10 @@ kept : (c : tie.Start) → let a = c .args in a .m * 2 ^ (prec binary32 - a .n) 
 kept c = mod-eq-of-lt (omega (arith, normal c .most))
 
 cast-float-of-2 : tie.Need-cast-float-of-2
-cast-float-of-2 c = rw (kept c) (record { fits = omega (arith, normal c .most) })
+cast-float-of-2 c = record { fits = omega (arith, kept c, normal c .most) }
 
 float-of-requires : tie.Need-float-of-requires
-float-of-requires c κs = rw (kept c) (normal c)
+float-of-requires c κs = let a = c .args in subst (Normalized binary32 (emax binary32 + a .n - 2 - a .places)) (sym (kept c)) (normal c)
 
 returns : tie.Need-returns
 returns c =
