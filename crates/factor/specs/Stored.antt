@@ -1,6 +1,6 @@
 -- The parts as floats: those that are stored have exactly the values Ch and Cl. Over a format and a context. Assumes nothing.
 use mathlib.Core.Path.{_≡_, refl, sym, ap, _∙_, subst}
-use mathlib.Core.Bool.{Bool, false, not}
+use mathlib.Core.Bool.{Bool, true, false, not}
 use Prim.Native.Nat.{ℕ, suc, _+_, _-_, _*_, _^_, _≤_, _<_}
 use native.Mathlib.Nat.{le-of-lt, lt-of-not-le, eq-of-mul-eq-mul-right}
 use native.Mathlib.Decide.{decLe}
@@ -11,6 +11,7 @@ use lib.Pow.{pow-pos}
 use lib.Ieee
 use lib.Ieee.{Float, Format, binary32, prec, emax, isNan}
 use lib.Ieee.Exact.{HasValue}
+use lib.Ieee.Fits.{round-fits}
 use lib.Ieee.Scale.{round-same}
 use Rattle.marks.specs.Answers.{accepted}
 use Rattle.rounding.specs.Apart.{apart}
@@ -19,7 +20,7 @@ use Rattle.rounding.specs.Ieee.{revalue}
 use Rattle.rounding.specs.RoundLaws.{HasBits}
 use Rattle.rounding.specs.Signed.{negative, signedOf}
 use Rattle.floats.specs.Narrow.{stored-exactly}
-use Rattle.floats.specs.Numbers.{value-number}
+use Rattle.floats.specs.Numbers.{value-number, same-number}
 use Rattle.factor.specs.declared.Parts.{Parts}
 use Rattle.factor.specs.declared.Applied.{Applied}
 use Rattle.factor.specs.declared.Description.{Description}
@@ -31,8 +32,8 @@ use Rattle.factor.specs.Parts.{highPart, lowPart, partsAt}
 use Rattle.factor.specs.Whole.{End, whole, step}
 use Rattle.factor.specs.LowForm.{Tells}
 use Rattle.factor.specs.PartsLaws.{bottom-is, high-counts, high-is, high-least, high-most, low-counts, low-kept, low-tells, whole-of-parts}
-use Rattle.factor.specs.SetUp.{floatIn, appliedOf, setUp}
-use Rattle.factor.specs.SetUpLaws.{setUp-sound}
+use Rattle.factor.specs.SetUp.{floatIn, appliedOf, factorOf, setUp, described, intact}
+use Rattle.factor.specs.SetUpLaws.{setUp-sound, intact-accepted, intact-sound}
 
 -- ---- the floats of the parts that are kept, and what is stored
 abbrev pub highFrom : Format → (n : ℕ) → Parts → Float
@@ -179,3 +180,16 @@ accepted-numbers d f e =
     let held = kept-held (t .1 .precision) in
     subst (λ (g : Factor). T (not (isNan (g .applied .high))) × T (not (isNan (g .applied .low)))) (t .0)
     (unfold appliedOf in (value-number _ _ _ _ (stored-high binary32 K fine held (d .lower) (t .1 .lower-end)), value-number _ _ _ _ (stored-low binary32 K fine held (d .lower) (t .1 .lower-end))))
+
+-- so 31 refuses a factor that stores a NaN
+pub intact-numbers : (f : Factor) → intact f ≡ true → T (not (isNan (f .applied .high))) × T (not (isNan (f .applied .low)))
+unfolding appliedOf
+intact-numbers f e =
+    let s = intact-sound f e in
+    let d = described f in
+    let h = highPart (contextFor d) (d .lower) in
+    let l = lowPart (contextFor d) (d .lower) in
+    let n = accepted-numbers d (factorOf d) (intact-accepted f e .0) in (
+      same-number binary32 (f .applied .high) (floatIn binary32 h) (round-fits binary32 (h .minus) (h .num) (h .den)) (s .high-stored) (n .0),
+      same-number binary32 (f .applied .low) (floatIn binary32 l) (round-fits binary32 (l .minus) (l .num) (l .den)) (s .low-stored) (n .1),
+    )

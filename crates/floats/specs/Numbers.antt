@@ -1,11 +1,11 @@
 -- Which floats are numbers, and which one is not. Assumes nothing.
-use mathlib.Core.Path.{_≡_, refl, sym, _∙_}
+use mathlib.Core.Path.{_≡_, refl, sym, ap, _∙_, subst}
 use mathlib.Core.Bool.{Bool, true, false, not, true≢false}
 use Prim.Native.Nat.{ℕ, _*_, _%_, _≤_, _<_}
 use lib.Dec.{T}
-use lib.Ieee.{Float, nan, inf, fin, Format, ofBits, isNan, nanBits, ne, hid, ones, top}
+use lib.Ieee.{Float, nan, inf, fin, Format, fits, toBits, ofBits, isNan, nanBits, ne, hid, ones, top}
 use lib.Ieee.Compare.{differs-from-itself, nan-differs}
-use lib.Ieee.Bits.{nanBits-is, nanBits-above}
+use lib.Ieee.Bits.{ofBits-toBits, nanBits-is, nanBits-above}
 use lib.Ieee.Exact.{HasValue}
 use borrow.Author.Tests.{lt-ltb, le-ltb}
 
@@ -24,6 +24,13 @@ unfolding isNan
 value-number nan s a c v = absurd v
 value-number (inf t) s a c v = tt
 value-number (fin t m e) s a c v = tt
+
+-- no number has a NaN's pattern
+pub same-number : (f : Format) (x y : Float) → T (fits f y) → toBits f x ≡ toBits f y → T (not (isNan y)) → T (not (isNan x))
+unfolding isNan fits
+same-number f nan y h e n = subst (λ (z : Float). T (not (isNan z))) (sym (ofBits-toBits f y h) ∙ ap (ofBits f) (sym e) ∙ ofBits-toBits f nan tt) n
+same-number f (inf s) y h e n = tt
+same-number f (fin s m g) y h e n = tt
 
 -- ---- the patterns of a NaN: above the infinities', the sign left out
 named-nan : (x : Float) → isNan x ≡ true → x ≡ nan
