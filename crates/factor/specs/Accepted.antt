@@ -1,7 +1,7 @@
 -- Ends with the same parts: they are close, and every fraction between them has these parts. Assumes nothing.
 use mathlib.Core.Path.{_≡_, refl, sym, ap, _∙_, subst}
 use mathlib.Core.Bool.{Bool, true, false}
-use Prim.Native.Nat.{ℕ, _+_, _-_, _*_, _^_, _≤_, _<_}
+use Prim.Native.Nat.{ℕ, zero, suc, _+_, _-_, _*_, _^_, _≤_, _<_}
 use native.Mathlib.Nat.{mul-le-mul-right, mul-le-mul-left, mul-lt-mul-of-pos-right, mul-pos, le-trans, le-of-eq, le-of-lt, le-antisymm, lt-of-not-le, eq-of-mul-eq-mul-right}
 use native.Mathlib.Decide.{decLe}
 use native.Mathlib.Omega.{arith}
@@ -27,6 +27,14 @@ pub record Between (K : Context) (L U : ℕ) (C : Fraction) : Type 0 where
   pub sign : C .minus ≡ false
   pub least : L * C .den ≤ C .num * 2 ^ K .E
   pub most : C .num * 2 ^ K .E ≤ U * C .den
+
+-- it is above zero, as L is
+pub between-positive : (K : Context) (L U : ℕ) → 0 < L → (C : Fraction) → Between K L U C → 0 < C .num
+between-positive K L U l C k = go (C .num) (2 ^ K .E) (le-trans (mul-pos l (k .some)) (k .least))
+  where
+    go : (a b : ℕ) → 0 < a * b → 0 < a
+    go zero b g = absurd (omega arith)
+    go (suc a) b g = omega arith
 
 module _ (K : Context) (ok : Fine K) (L U : ℕ) (le : End K L) (ue : End K U) (same : partsAt K L ≡ partsAt K U) where
   open Context K using (rule, n, E)

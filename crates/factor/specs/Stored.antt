@@ -9,7 +9,7 @@ use lib.Dec.{T}
 use lib.IntN.{ℤ, pos, natAbs}
 use lib.Pow.{pow-pos}
 use lib.Ieee
-use lib.Ieee.{Float, Format, binary32, prec, emax, isNan}
+use lib.Ieee.{Float, Format, binary32, prec, emax, isNan, fits}
 use lib.Ieee.Exact.{HasValue}
 use lib.Ieee.Fits.{round-fits}
 use lib.Ieee.Scale.{round-same}
@@ -20,19 +20,19 @@ use Rattle.rounding.specs.Ieee.{revalue}
 use Rattle.rounding.specs.RoundLaws.{HasBits}
 use Rattle.rounding.specs.Signed.{negative, signedOf}
 use Rattle.floats.specs.Narrow.{stored-exactly}
-use Rattle.floats.specs.Numbers.{value-number, same-number}
+use Rattle.floats.specs.Numbers.{value-number, same-number, same-bits}
 use Rattle.factor.specs.declared.Parts.{Parts}
 use Rattle.factor.specs.declared.Applied.{Applied}
 use Rattle.factor.specs.declared.Description.{Description}
 use Rattle.factor.specs.declared.Factor.{Factor}
 use Rattle.factor.specs.Precision.{Kept}
-use Rattle.factor.specs.Context.{Context, Fine, contextAt, contextFor}
+use Rattle.factor.specs.Context.{Context, Fine, contextAt, contextFor, contextOf, lowerOf}
 use Rattle.factor.specs.ContextLaws.{fine-at}
 use Rattle.factor.specs.Parts.{highPart, lowPart, partsAt}
 use Rattle.factor.specs.Whole.{End, whole, step}
 use Rattle.factor.specs.LowForm.{Tells}
 use Rattle.factor.specs.PartsLaws.{bottom-is, high-counts, high-is, high-least, high-most, low-counts, low-kept, low-tells, whole-of-parts}
-use Rattle.factor.specs.SetUp.{floatIn, appliedOf, factorOf, setUp, described, intact}
+use Rattle.factor.specs.SetUp.{floatIn, appliedOf, factorOf, setUp, described, intact, Sound}
 use Rattle.factor.specs.SetUpLaws.{setUp-sound, intact-accepted, intact-sound}
 
 -- ---- the floats of the parts that are kept, and what is stored
@@ -193,3 +193,36 @@ intact-numbers f e =
       same-number binary32 (f .applied .high) (floatIn binary32 h) (round-fits binary32 (h .minus) (h .num) (h .den)) (s .high-stored) (n .0),
       same-number binary32 (f .applied .low) (floatIn binary32 l) (round-fits binary32 (l .minus) (l .num) (l .den)) (s .low-stored) (n .1),
     )
+
+-- ---- what a sound factor stores, in floats of the format: exactly Ch and Cl
+module _ (f : Factor) (s : Sound f) where
+  storable-parts : Storable (contextOf f) (f .parts)
+  storable-parts = subst (Storable (contextOf f)) (sym (s .parts)) (storable (contextOf f) (fine-at (s .precision)) (lowerOf f) (s .lower-end))
+
+  pub high-number : T (fits binary32 (f .applied .high)) → HasValue (f .applied .high) false (f .parts .high) (2 ^ (f .precision .bits - 1))
+  unfolding appliedOf
+  high-number h =
+      let K = contextOf f in
+      let ok = fine-at (s .precision) in
+      let held = kept-held (s .precision) in
+      let x = highPart K (lowerOf f) in
+      let is = same-bits binary32 (f .applied .high) (floatIn binary32 x) h (round-fits binary32 (x .minus) (x .num) (x .den)) (s .high-stored) ∙ high-from binary32 K ok held (lowerOf f) (s .lower-end) ∙ ap (highFrom binary32 (K .n)) (sym (s .parts)) in
+      subst (λ (z : Float). HasValue z false (f .parts .high) (2 ^ (f .precision .bits - 1))) (sym is) (high-held binary32 K ok held (f .parts) storable-parts)
+
+  pub low-number : T (fits binary32 (f .applied .low)) → HasValue (f .applied .low) (negative (f .parts .low)) (natAbs (f .parts .low)) (2 ^ f .parts .places)
+  unfolding appliedOf
+  low-number h =
+      let K = contextOf f in
+      let ok = fine-at (s .precision) in
+      let held = kept-held (s .precision) in
+      let x = lowPart K (lowerOf f) in
+      let is = same-bits binary32 (f .applied .low) (floatIn binary32 x) h (round-fits binary32 (x .minus) (x .num) (x .den)) (s .low-stored) ∙ low-from binary32 K ok held (lowerOf f) (s .lower-end) ∙ ap (lowFrom binary32) (sym (s .parts)) in
+      subst (λ (z : Float). HasValue z (negative (f .parts .low)) (natAbs (f .parts .low)) (2 ^ f .parts .places)) (sym is) (low-held binary32 K ok held (f .parts) storable-parts)
+
+-- and what set-up stores are floats of the format
+pub accepted-fits : (d : Description) (f : Factor) → setUp d ≡ accepted f → T (fits binary32 (f .applied .high)) × T (fits binary32 (f .applied .low))
+accepted-fits d f e =
+    let h = highPart (contextFor d) (d .lower) in
+    let l = lowPart (contextFor d) (d .lower) in
+    subst (λ (g : Factor). T (fits binary32 (g .applied .high)) × T (fits binary32 (g .applied .low))) (setUp-sound d f e .0)
+    (unfold appliedOf in (round-fits binary32 (h .minus) (h .num) (h .den), round-fits binary32 (l .minus) (l .num) (l .den)))

@@ -32,6 +32,10 @@ same-number f nan y h e n = subst (λ (z : Float). T (not (isNan z))) (sym (ofBi
 same-number f (inf s) y h e n = tt
 same-number f (fin s m g) y h e n = tt
 
+-- two floats of a format with the same bits are the same
+pub same-bits : (f : Format) (x y : Float) → T (fits f x) → T (fits f y) → toBits f x ≡ toBits f y → x ≡ y
+same-bits f x y h k e = sym (ofBits-toBits f x h) ∙ ap (ofBits f) e ∙ ofBits-toBits f y k
+
 -- ---- the patterns of a NaN: above the infinities', the sign left out
 named-nan : (x : Float) → isNan x ≡ true → x ≡ nan
 unfolding isNan

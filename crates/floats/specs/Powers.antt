@@ -1,12 +1,12 @@
 -- 2 ^ z for an integer z, in natural numbers and in units of a format's smallest value. Assumes nothing.
-use mathlib.Core.Path.{_≡_, refl, sym, ap, _∙_}
+use mathlib.Core.Path.{_≡_, refl, sym, ap, ap₂, _∙_}
 use mathlib.Core.Bool.{Bool, true, false}
-use Prim.Native.Nat.{ℕ, suc, _+_, _-_, _*_, _^_, _≤_}
-use native.Mathlib.Nat.{mul-one, one-mul}
+use Prim.Native.Nat.{ℕ, suc, _+_, _-_, _*_, _^_, _≤_, _<_}
+use native.Mathlib.Nat.{mul-one, one-mul, eq-of-mul-eq-mul-right}
 use native.Mathlib.Omega.{arith}
 use lib.Dec.{ltb, lit≤}
-use lib.IntN.{ℤ, pos, negsuc, natAbs, subℕ, _+ℤ_, pos-ne-negsuc}
-use lib.Pow.{pow-add}
+use lib.IntN.{ℤ, pos, negsuc, natAbs, subℕ, _+ℤ_, +ℤ-assoc, +ℤ-comm, pos-ne-negsuc}
+use lib.Pow.{pow-add, pow-pos}
 use lib.Ieee.{Format, binary32, binary64, emax, prec, low, hid, up, down}
 use lib.Ieee.Fits.{two, reach}
 use borrow.Author.Tests.{ltb-false, le-ltb}
@@ -26,6 +26,30 @@ sub-le m k j e = rw (le-ltb m k (omega arith)) (ap pos (omega arith))
 up-down : (z : ℤ) (m j : ℕ) → z +ℤ pos m ≡ pos j → up z * 2 ^ m ≡ 2 ^ j * down z
 up-down (pos k) m j e = sym (pow-add 2 k m) ∙ ap (λ (z : ℕ). 2 ^ z) (ap natAbs e) ∙ sym (mul-one (2 ^ j))
 up-down (negsuc k) m j e = one-mul (2 ^ m) ∙ ap (λ (z : ℕ). 2 ^ z) (sub-pos m (suc k) j e) ∙ pow-add 2 j (suc k)
+
+-- 2 ^ e * 2 ^ k is 2 ^ (e + k)
+whole-from : (z : ℤ) → (m : ℕ) × (j : ℕ) × (z +ℤ pos m ≡ pos j)
+whole-from (pos a) = (0, a, ap pos (omega arith))
+whole-from (negsuc a) = (suc a, 0, sub-le (suc a) (suc a) 0 (omega arith))
+
+pub powers-add : (e k : ℤ) → up e * up k * down (e +ℤ k) ≡ up (e +ℤ k) * (down e * down k)
+powers-add e k =
+    let x = whole-from e in
+    let y = whole-from k in
+    regroup (up e) (up k) (up (e +ℤ k)) (down e) (down k) (down (e +ℤ k)) (2 ^ x .0) (2 ^ y .0) (2 ^ x .1) (2 ^ y .1) (2 ^ (x .0 + y .0)) (2 ^ (x .1 + y .1)) (pow-pos (x .0 + y .0)) (pow-add 2 (x .0) (y .0)) (pow-add 2 (x .1) (y .1))
+    (up-down e (x .0) (x .1) (x .2)) (up-down k (y .0) (y .1) (y .2))
+    (up-down (e +ℤ k) (x .0 + y .0) (x .1 + y .1) (both e k (pos (x .0)) (pos (y .0)) ∙ ap₂ (λ (p q : ℤ). p +ℤ q) (x .2) (y .2)))
+  where
+    both : (a b c d : ℤ) → a +ℤ b +ℤ (c +ℤ d) ≡ a +ℤ c +ℤ (b +ℤ d)
+    both a b c d =
+        +ℤ-assoc a b (c +ℤ d)
+        ∙ ap (λ (z : ℤ). a +ℤ z) (sym (+ℤ-assoc b c d) ∙ ap (λ (z : ℤ). z +ℤ d) (+ℤ-comm b c) ∙ +ℤ-assoc c b d)
+        ∙ sym (+ℤ-assoc a c (b +ℤ d))
+
+    regroup : (u v w a b c M N P K MN PK : ℕ) → 0 < MN → MN ≡ M * N → PK ≡ P * K → u * M ≡ P * a → v * N ≡ K * b → w * MN ≡ PK * c → u * v * c ≡ w * (a * b)
+    regroup u v w a b c M N P K MN PK some m j e f g =
+        eq-of-mul-eq-mul-right MN some (u * v * c) (w * (a * b))
+        (omega (arith, ap (λ (z : ℕ). u * v * c * z) m, ap (λ (z : ℕ). z * (v * N * c)) e, ap (λ (z : ℕ). z * (P * a * c)) f, ap (λ (z : ℕ). z * (a * b)) g, ap (λ (z : ℕ). z * (c * a * b)) j))
 
 -- ---- S / hid * 2 ^ B * 2 ^ z is S * 2 ^ j times the smallest positive value
 pub in-smallest : (f : Format) (S B : ℕ) (z : ℤ) (j : ℕ) → z +ℤ pos (B + (emax f - 1)) ≡ pos j → S * 2 ^ B * up z * 2 ^ low f ≡ S * 2 ^ j * (hid f * down z)

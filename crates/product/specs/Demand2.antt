@@ -1,35 +1,41 @@
--- Demand 2 for every accepted factor and every significand in range: what the parts and the two steps are, and what the mark tells of every fraction between the ends.
+-- Demand 2 for every factor that set-up accepted or 31 lets through and every significand in range (`demand-2`): what the parts and the two steps are, and
+-- what the mark tells of every fraction between the ends. Of readings it is said in `reading`.
 -- Assumes nothing.
 use mathlib.Core.Path.{_≡_, sym, ap, _∙_, subst}
-use Prim.Native.Nat.{ℕ, zero, suc, _-_, _*_, _^_, _≤_, _<_}
+use mathlib.Core.Bool.{true, false, not}
+use Prim.Native.Nat.{ℕ, _-_, _*_, _^_, _≤_, _<_}
 use native.Mathlib.Nat.{mul-pos, le-trans, le-of-lt, eq-of-mul-eq-mul-right}
 use native.Mathlib.Omega.{arith}
 use lib.Pow.{pow-pos}
 use lib.IntN.{natAbs}
 use lib.Ieee.{up}
 use Rattle.marks.specs.declared.Mark.{Mark}
-use Rattle.marks.specs.AnswerLaws.{of-answer}
+use Rattle.marks.specs.Answers.{accepted}
+use Rattle.marks.specs.AnswerLaws.{of-answer, pass, end, accepts}
 use Rattle.rounding.specs.Round.{rounded}
 use Rattle.rounding.specs.RoundLaws.{HasBits}
 use Rattle.rounding.specs.Standard.{RoundsTo, rounds-to}
 use Rattle.rounding.specs.Fraction.{Fraction, times, less, RN, Same}
 use Rattle.factor.specs.declared.Parts.{Parts}
+use Rattle.factor.specs.declared.Description.{Description}
 use Rattle.factor.specs.declared.Factor.{Factor}
+use Rattle.factor.specs.Precision.{significandOut}
 use Rattle.factor.specs.Parts.{partsAt, highPart, lowPart}
 use Rattle.factor.specs.Context.{Context, Fine, contextOf, lowerOf, upperOf}
 use Rattle.factor.specs.ContextLaws.{fine-at}
 use Rattle.factor.specs.PartsLaws.{high-counts, low-counts}
-use Rattle.factor.specs.Accepted.{Between, high-everywhere, rest-counts-C, low-everywhere}
+use Rattle.factor.specs.Accepted.{Between, between-positive, high-everywhere, rest-counts-C, low-everywhere}
 use Rattle.factor.specs.Stored.{high-over, low-over, low-sign}
 use Rattle.factor.specs.Whole.{End}
-use Rattle.factor.specs.SetUp.{Sound}
+use Rattle.factor.specs.SetUp.{setUp, intact, Sound}
+use Rattle.factor.specs.SetUpLaws.{intact-sound, accepted-intact}
 use Rattle.product.specs.declared.Product.{Product}
 use Rattle.product.specs.Product.{argument, high, low, first, fused, second, product, productBy, valueOf}
 use Rattle.product.specs.Marks.{markBy, SaysBy}
 use Rattle.product.specs.ProductLaws.{fused-some, product-is, product-value}
 use Rattle.product.specs.MarkLaws.{mark-says, mark-only}
 use Rattle.product.specs.Answer.{conditions, marked, multiplied, Tells}
-use Rattle.product.specs.AnswerLaws.{let-through}
+use Rattle.product.specs.AnswerLaws.{significand-in, let-through}
 
 -- RN of x is x rounded to nearest in the sense of IEEE 754-2019, 4.3.1: it has n bits, no number of n bits is nearer, and half way between two the rule decides
 abbrev pub ToNearest : Context → Fraction → Type 0
@@ -70,7 +76,7 @@ module _ (f : Factor) (s : Sound f) (C : Fraction) (k : Between (contextOf f) (l
       let lc = low-counts K ok L le in
       let high-C : Fraction = RN (K .rule) (K .n) C in
       let rest : Fraction = less C high-C in
-      let some : 0 < C .num = positive C k (le .from) in
+      let some = between-positive K L U (le-trans (pow-pos (K .E)) (le .from)) C k in
       subst (λ (p : Parts). PartsTell K p C) (sym (s .parts))
       (record {
         high-is = same-trans high-C (highPart K L) (high (K .n) (partsAt K L)) (hc .some) (high-everywhere K ok L U le ue (s .same) C k) (hc .sign, high-over K ok L le);
@@ -78,13 +84,6 @@ module _ (f : Factor) (s : Sound f) (C : Fraction) (k : Between (contextOf f) (l
         low-is = same-trans (RN (K .rule) (K .n) rest) (lowPart K L) (low (partsAt K L)) (lc .some) (low-everywhere K ok L U le ue (s .same) C k) (low-sign K ok L le, low-over K ok L le);
         low-nearest = λ h. rounds-to (K .rule) (K .n) (ok .some) (rest .num) (rest .den) h (rest-counts-C K ok L U le ue (s .same) C k .some);
       })
-    where
-      pos-of : (a b : ℕ) → 0 < a * b → 0 < a
-      pos-of zero b g = absurd (omega arith)
-      pos-of (suc a) b g = omega arith
-
-      positive : (C : Fraction) → Between (contextOf f) (lowerOf f) (upperOf f) C → 2 ^ contextOf f .E ≤ lowerOf f → 0 < C .num
-      positive C k h = pos-of (C .num) (2 ^ contextOf f .E) (le-trans (mul-pos (le-trans (pow-pos (contextOf f .E)) h) (k .some)) (k .least))
 
 -- ---- the steps
 
@@ -149,3 +148,30 @@ unfolding multiplied
 answer-tells f X =
     of-answer (Tells f X) (conditions f X) (marked f X (productBy f X)) (λ k. tt)
     (λ h. let t = let-through f X h in mark-tells f (t .0) X (t .1))
+
+-- ---- demand 2, from the entry points
+pub record Demand2 (f : Factor) : Type 0 where
+  -- the parts are those of every fraction between the ends
+  pub parts : (C : Fraction) → Between (contextOf f) (lowerOf f) (upperOf f) C → PartsTell (contextOf f) (f .parts) C
+  -- every significand that 17 lets through is answered with its two steps' product and a mark
+  pub answers : (X : ℕ) → significandOut (f .precision .bits) X ≡ false → multiplied f X ≡ accepted (marked f X (productBy f X))
+  pub steps : (X : ℕ) → significandOut (f .precision .bits) X ≡ false → TwoSteps (contextOf f) (f .parts) X
+  -- which says what is true of every fraction between the ends, and no other mark does
+  pub marks : (X : ℕ) → significandOut (f .precision .bits) X ≡ false → SaysBy f X (productBy f X) (markBy f X (productBy f X))
+  pub alone : (X : ℕ) → significandOut (f .precision .bits) X ≡ false → (m : Mark) → SaysBy f X (productBy f X) m → markBy f X (productBy f X) ≡ m
+
+-- of every factor that 31 lets through
+pub demand-2 : (f : Factor) → intact f ≡ true → Demand2 f
+demand-2 f i =
+    let s = intact-sound f i in
+    record {
+      parts = parts-tell f s;
+      answers = λ X h. unfold multiplied in sym (accepts (pass (ap not i) (pass h end)) (marked f X (productBy f X)));
+      steps = λ X h. two-steps f s X (significand-in (f .precision .bits) X h);
+      marks = λ X h. mark-tells f s X (significand-in (f .precision .bits) X h);
+      alone = λ X h. mark-alone f s X (significand-in (f .precision .bits) X h);
+    }
+
+-- and so of every one that set-up accepted
+pub demand-2-accepted : (d : Description) (f : Factor) → setUp d ≡ accepted f → Demand2 f
+demand-2-accepted d f e = demand-2 f (accepted-intact d f e)

@@ -9,6 +9,7 @@ use lib.Pow.{pow-add, pow-pos}
 use borrow.Author.Tests.{ltb-true, ltb-false, eqb-true, eqb-false, le-ltb, eq-eqb}
 use Rattle.marks.specs.declared.Mark.{Mark}
 use Rattle.marks.specs.declared.Mark.the-variants.{Right, Open, Wrong}
+use Rattle.marks.specs.SaysLaws.{says-only}
 use Rattle.rounding.specs.Digits.{pow-half}
 use Rattle.rounding.specs.Unit.{rn}
 use Rattle.rounding.specs.UnitLaws.{rn-mono, rn-fixed}
@@ -20,7 +21,7 @@ use Rattle.product.specs.declared.Product.{Product}
 use Rattle.product.specs.Product.{argument, valueOf}
 use Rattle.product.specs.Units.{units, markUnits}
 use Rattle.product.specs.ProductLaws.{value-counts}
-use Rattle.product.specs.Marks.{exact, mark, Gives, Says}
+use Rattle.product.specs.Marks.{exact, mark, Gives, SaysAt}
 
 -- right exactly if v is both
 pub right-units : (a b v : ℕ) → a ≡ v → b ≡ v → markUnits a b v ≡ Right
@@ -148,7 +149,7 @@ module _ (K : Context) (P : 0 < K .n) (L U X : ℕ) (v : Product) where
     v-rounds : rounds C-v ≡ N
     v-rounds = ap (λ (z : ℕ). rn rule n z (X * 2 ^ E)) (omega arith) ∙ fixed (X * 2 ^ E) (mul-pos x0 (pow-pos E))
 
-    says-units : Says K L U X v (markUnits a b N)
+    says-units : SaysAt K L U X v (markUnits a b N)
     says-units = go (ltb N a) (ltb b N) (eqb a N) (eqb b N) refl refl refl refl
       where
         L-gives : a ≡ N → Gives K X v (over L E)
@@ -163,7 +164,7 @@ module _ (K : Context) (P : 0 < K .n) (L U X : ℕ) (v : Product) where
         U-not : (b ≡ N → ⊥) → ¬ Gives K X v (over U E)
         U-not e g = e (sym (end-rounds U) ∙ given (over U E) at-U g)
 
-        go : (p q r s : Bool) → ltb N a ≡ p → ltb b N ≡ q → eqb a N ≡ r → eqb b N ≡ s → Says K L U X v (cond p Wrong (cond q Wrong (cond (r && s) Right Open)))
+        go : (p q r s : Bool) → ltb N a ≡ p → ltb b N ≡ q → eqb a N ≡ r → eqb b N ≡ s → SaysAt K L U X v (cond p Wrong (cond q Wrong (cond (r && s) Right Open)))
         go true q r s e f g h = λ C k z. omega (arith, ltb-true N a e, from-L C k, given C k z)
         go false true r s e f g h = λ C k z. omega (arith, ltb-true b N f, to-U C k, given C k z)
         go false false true true e f g h = λ C k. gives C k (omega (arith, eqb-true a N g, eqb-true b N h, from-L C k, to-U C k))
@@ -174,20 +175,9 @@ module _ (K : Context) (P : 0 < K .n) (L U X : ℕ) (v : Product) where
             ((C-v, k, gives C-v k v-rounds), (over L E, at-L, L-not (eqb-false a N g)))
 
     -- the mark says so
-    pub mark-says : Says K L U X v (mark K L U X v)
-    mark-says = subst (Says K L U X v) (sym mark-units) says-units
+    pub mark-says : SaysAt K L U X v (mark K L U X v)
+    mark-says = subst (SaysAt K L U X v) (sym mark-units) says-units
 
     -- and it is the only one that does
-    pub mark-only : (m : Mark) → Says K L U X v m → mark K L U X v ≡ m
-    mark-only m s = go (mark K L U X v) m mark-says s
-      where
-        go : (x y : Mark) → Says K L U X v x → Says K L U X v y → x ≡ y
-        go Right Right p q = refl
-        go Right Open p q = absurd (q .1 .2 (p (q .1 .0) (q .1 .1)))
-        go Right Wrong p q = absurd (q (over L E) at-L (p (over L E) at-L))
-        go Open Right p q = absurd (p .1 .2 (q (p .1 .0) (p .1 .1)))
-        go Open Open p q = refl
-        go Open Wrong p q = absurd (q (p .0 .0) (p .0 .1) (p .0 .2))
-        go Wrong Right p q = absurd (p (over L E) at-L (q (over L E) at-L))
-        go Wrong Open p q = absurd (p (q .0 .0) (q .0 .1) (q .0 .2))
-        go Wrong Wrong p q = refl
+    pub mark-only : (m : Mark) → SaysAt K L U X v m → mark K L U X v ≡ m
+    mark-only m s = says-only (Between K L U) (Gives K X v) (over L E) at-L (mark K L U X v) m mark-says s

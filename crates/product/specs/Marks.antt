@@ -3,6 +3,7 @@ use mathlib.Core.Bool.{_&&_, cond}
 use Prim.Native.Nat.{ℕ}
 use Rattle.marks.specs.declared.Mark.{Mark}
 use Rattle.marks.specs.declared.Mark.the-variants.{Right, Open, Wrong}
+use Rattle.marks.specs.Says.{Says}
 use Rattle.rounding.specs.Fraction.{Fraction, over, times, RN, Same, below, equal}
 use Rattle.factor.specs.declared.Factor.{Factor}
 use Rattle.factor.specs.Context.{Context, contextOf, lowerOf, upperOf}
@@ -30,12 +31,9 @@ module _ (K : Context) where
   abbrev pub Gives : ℕ → Product → Fraction → Type 0
   Gives X v C = Same (exact X C) (valueOf n v)
 
-  -- right: every fraction between the ends gives v; wrong: none does; open: one does and another does not
-  abbrev pub Says : (L U X : ℕ) → Product → Mark → Type 0
-  Says L U X v Right = (C : Fraction) → Between K L U C → Gives X v C
-  Says L U X v Wrong = (C : Fraction) → Between K L U C → ¬ Gives X v C
-  Says L U X v Open =
-      ((C : Fraction) × Between K L U C × Gives X v C) × ((C : Fraction) × Between K L U C × ¬ Gives X v C)
+  -- what a mark says of every fraction between the ends
+  abbrev pub SaysAt : (L U X : ℕ) → Product → Mark → Type 0
+  SaysAt L U X v m = Says (Between K L U) (Gives X v) m
 
 -- ---- of a factor, by its own context and ends
 -- the mark of a value by a factor's own precision and ends
@@ -44,4 +42,4 @@ markBy f X v = mark (contextOf f) (lowerOf f) (upperOf f) X v
 
 -- between a factor's own ends
 abbrev pub SaysBy : Factor → ℕ → Product → Mark → Type 0
-SaysBy f X v m = Says (contextOf f) (lowerOf f) (upperOf f) X v m
+SaysBy f X v m = SaysAt (contextOf f) (lowerOf f) (upperOf f) X v m

@@ -1,14 +1,14 @@
 -- u1 as one binary32 multiplication: on [1, 2) the product of the stored low part and x is RN(Cl * x), and its bits tell it in whole numbers. Assumes nothing.
-use mathlib.Core.Path.{_≡_, sym, ap, _∙_, subst}
+use mathlib.Core.Path.{_≡_, sym, subst}
 use mathlib.Core.Bool.{false}
 use Prim.Native.Nat.{ℕ, _*_, _^_, _<_}
 use native.Mathlib.Omega.{arith}
-use lib.Dec.{T, lit<, lit≤}
+use lib.Dec.{lit<, lit≤}
 use lib.IntN.{natAbs}
-use lib.Ieee.{Float, binary32, prec, emax, low, hid, mul, ofBits, toBits, fits}
+use lib.Ieee.{Float, binary32, prec, emax, low, hid, mul, ofBits, toBits}
 use lib.Ieee.Bits.{ofBits-toBits}
 use lib.Ieee.Exact.{HasValue}
-use lib.Ieee.Fits.{round-fits, mul-fits}
+use lib.Ieee.Fits.{mul-fits}
 use Rattle.rounding.specs.RoundLaws.{HasBits}
 use Rattle.rounding.specs.Signed.{negative}
 use Rattle.wide.specs.Value.{wordBits}
@@ -16,14 +16,12 @@ use Rattle.floats.specs.Fields.{unitAt}
 use Rattle.floats.specs.Times.{product-value, product-least, Told, told}
 use Rattle.factor.specs.declared.Factor.{Factor}
 use Rattle.factor.specs.Precision.{scaleOf}
-use Rattle.factor.specs.Context.{Context, Fine, tieRule, contextAt, contextOf, lowerOf}
+use Rattle.factor.specs.Context.{Context, Fine, tieRule, contextAt}
 use Rattle.factor.specs.ContextLaws.{kept-of, fine-at}
-use Rattle.factor.specs.Parts.{lowPart}
 use Rattle.factor.specs.Whole.{Whole, wholeOf}
-use Rattle.factor.specs.SetUp.{Sound, appliedOf, described}
-use Rattle.factor.specs.Stored.{Storable, storable, lowFrom, low-from, low-held, kept-held}
+use Rattle.factor.specs.SetUp.{Sound}
 use Rattle.product.specs.Units.{firstUnits, PartsAtEnd}
-use Rattle.product.specs.SoundLaws.{sound-fine, sound-parts}
+use Rattle.product.specs.SoundLaws.{sound-parts}
 use Rattle.product.specs.StepLaws.{low-value, first-lt}
 
 -- ---- the context of readings
@@ -49,23 +47,6 @@ module _ (f : Factor) (s : Sound f) (n : f .precision .bits ≡ prec binary32) w
 
   at : PartsAtEnd K32 (f .parts)
   at = subst (λ (b : ℕ). PartsAtEnd (contextAt b) (f .parts)) n (sound-parts f s)
-
-  -- ---- the stored low part is Cl, that is s / 2 ^ q
-  pub low-number : T (fits binary32 (f .applied .low)) → HasValue (f .applied .low) (negative (f .parts .low)) m (2 ^ q)
-  unfolding appliedOf
-  low-number h =
-      let K = contextOf f in
-      let ok = sound-fine f s in
-      let held = kept-held (s .precision) in
-      let L = lowerOf f in
-      let stored = appliedOf (described f) .low in
-      let is : f .applied .low ≡ lowFrom binary32 (f .parts) =
-      sym (ofBits-toBits binary32 (f .applied .low) h)
-      ∙ ap (ofBits binary32) (s .low-stored)
-      ∙ ofBits-toBits binary32 stored (round-fits binary32 (lowPart K L .minus) (lowPart K L .num) (lowPart K L .den))
-      ∙ low-from binary32 K ok held L (s .lower-end)
-      ∙ ap (lowFrom binary32) (sym (s .parts)) in
-      subst (λ (z : Float). HasValue z (negative (f .parts .low)) m (2 ^ q)) (sym is) (low-held binary32 K ok held (f .parts) (subst (Storable K) (sym (s .parts)) (storable K ok L (s .lower-end))))
 
   -- ---- one binary32 multiplication of the stored low part and x is u1
   module _ (X : ℕ) (xb : HasBits (prec binary32) X) (x y : Float) (low-is : HasValue x (negative (f .parts .low)) m (2 ^ q)) (x-is : HasValue y false X (hid binary32)) where

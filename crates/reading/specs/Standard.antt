@@ -26,10 +26,11 @@ use Rattle.factor.specs.Parts.{partsAt}
 use Rattle.factor.specs.Whole.{End, Whole, whole, wholeOf}
 use Rattle.factor.specs.PartsLaws.{whole-of-parts}
 use Rattle.factor.specs.SetUp.{Sound}
+use Rattle.factor.specs.Stored.{low-number}
 use Rattle.product.specs.Product.{first, fused, product, productBy, valueOf}
 use Rattle.product.specs.Units.{firstUnits, fusedUnits}
 use Rattle.product.specs.ProductLaws.{first-counts, fused-counts, fused-least, fused-near, product-value}
-use Rattle.reading.specs.FirstLaws.{K32, fine-32, near-32, low-number, first-float}
+use Rattle.reading.specs.FirstLaws.{K32, fine-32, near-32, first-float}
 
 -- ---- at an end c
 -- the unit of a product is 2 ^ - t
@@ -98,7 +99,7 @@ module _ (f : Factor) (s : Sound f) (n : f .precision .bits ≡ prec binary32) (
       let k : (0 < u1 .den) × (u1 .num * 2 ^ t ≡ u * u1 .den) =
       subst (λ (p : Parts). (0 < first K32 p X .den) × (first K32 p X .num * 2 ^ t ≡ firstUnits K32 (wholeOf K32 p) X * first K32 p X .den)) (sym parts-32) (first-count (lowerOf f) end-32 X xb) in
       subst (λ b. HasValue w b (u1 .num) (u1 .den)) (sym (unlike-plus _))
-      (revalue w _ (u * 2 ^ unitAt binary32 (K32 .E)) (2 ^ low binary32) (u1 .num) (u1 .den) (pow-pos (low binary32)) (regroup u (u1 .num) (u1 .den) (2 ^ unitAt binary32 (K32 .E)) (2 ^ t) (2 ^ low binary32) (unit-is binary32 (K32 .E) near-32) (k .1)) (first-float f s n X xb (f .applied .low) y (low-number f s n h) v))
+      (revalue w _ (u * 2 ^ unitAt binary32 (K32 .E)) (2 ^ low binary32) (u1 .num) (u1 .den) (pow-pos (low binary32)) (regroup u (u1 .num) (u1 .den) (2 ^ unitAt binary32 (K32 .E)) (2 ^ t) (2 ^ low binary32) (unit-is binary32 (K32 .E) near-32) (k .1)) (first-float f s n X xb (f .applied .low) y (low-number f s h) v))
     where
       regroup : (u N d A B U : ℕ) → U ≡ B * A → N * B ≡ u * d → u * A * d ≡ N * U
       regroup u N d A B U t e = let x : N * U ≡ N * (B * A) = ap (λ (z : ℕ). N * z) t in let z : N * B * A ≡ u * d * A = ap (λ (z : ℕ). z * A) e in omega (arith, x, z)

@@ -1,14 +1,15 @@
 -- Signed fractions counted in a unit: sums, products and RN of them are those of whole numbers. Assumes nothing.
 use mathlib.Core.Path.{_≡_, refl, sym, ap, ap₂, _∙_}
 use mathlib.Core.Bool.{Bool, true, false, not}
-use Prim.Native.Nat.{ℕ, _+_, _*_, _^_, _≤_, _<_}
-use native.Mathlib.Nat.{mul-assoc, eq-of-mul-eq-mul-right, mul-pos, mul-lt-mul-of-pos-right, mul-le-mul-right, le-of-mul-le-mul-right, lt-of-mul-lt-mul-right}
+use Prim.Native.Nat.{ℕ, suc, _+_, _*_, _^_, _≤_, _<_}
+use native.Mathlib.Nat.{mul-assoc, eq-of-mul-eq-mul-right, mul-pos, mul-lt-mul-of-pos-right, mul-le-mul-right, mul-le-mul-left, le-of-lt, le-of-mul-le-mul-right, lt-of-mul-lt-mul-right}
 use native.Mathlib.Decide.{decLt, ℕ-discrete}
 use native.Mathlib.Omega.{arith}
 use lib.Dec.{ltb, eqb}
-use lib.Pow.{pow-pos}
-use lib.Ieee.{minus, unlike}
-use lib.Ieee.Digits.{minus-val}
+use lib.IntN.{ℤ, pos, negsuc}
+use lib.Pow.{pow-add, pow-pos, pow-mono}
+use lib.Ieee.{size, minus, up, down, unlike}
+use lib.Ieee.Digits.{size-lt, minus-val}
 use lib.Ieee.Fits.{down-pos}
 use borrow.Author.Tests.{lt-ltb, le-ltb, eq-eqb, ne-eqb}
 use Rattle.rounding.specs.Apart.{apart, apart-mul}
@@ -54,6 +55,41 @@ RN-counts-fraction rule n P t e m a x E fine k =
       sign = k .sign;
       count = rounded-value rule n P (x .num) (x .den) t a e (k .some) E (mul-assoc (x .num) (2 ^ t) e ∙ k .count) fine;
     }
+
+-- y is x times 2 ^ z in size
+abbrev pub Scaled : ℤ → Fraction → Fraction → Type 0
+Scaled z x y = y .num * (x .den * down z) ≡ x .num * up z * y .den
+
+module _ (rule : Rule) (n : ℕ) (P : 0 < n) (x y : Fraction) (X : 0 < x .num) (D : 0 < x .den) (Y : 0 < y .den) where
+  -- 2 ^ z being 2 ^ a / 2 ^ b, both are counted by the same number
+  scaled-by : (z : ℤ) (a b : ℕ) → up z * 2 ^ b ≡ 2 ^ a * down z → Scaled z x y → Scaled z (RN rule n x) (RN rule n y)
+  scaled-by z a b w e =
+      let s = n + size (x .den) in
+      let N = x .num * 2 ^ (s + a) in
+      let fine = enough (x .num) (x .den) s a X (omega (arith, mul-le-mul-left (2 ^ n) (le-of-lt (size-lt (x .den))), pow-add 2 n (size (x .den)))) in
+      let cx : Counts (2 ^ (s + a) * x .den) (x .minus) N x = record { unit = mul-pos (pow-pos (s + a)) D; some = D; sign = refl; count = omega arith } in
+      let cy : Counts (2 ^ (s + b) * x .den) (y .minus) N y = record { unit = mul-pos (pow-pos (s + b)) D; some = Y; sign = refl; count = shifted (y .num) (y .den) (x .num) (x .den) (2 ^ s) (2 ^ a) (2 ^ b) (up z) (down z) (2 ^ (s + a)) (2 ^ (s + b)) (down-pos z) (pow-add 2 s a) (pow-add 2 s b) w e } in
+      let rx = RN-counts-fraction rule n P (s + a) (x .den) (x .minus) N x D fine cx in
+      let ry = RN-counts-fraction rule n P (s + b) (x .den) (y .minus) N y D fine cy in
+      unshifted (RN rule n y .num) (RN rule n y .den) (RN rule n x .num) (RN rule n x .den) (rn rule n N (x .den)) (2 ^ s) (2 ^ a) (2 ^ b) (up z) (down z) (2 ^ (s + a)) (2 ^ (s + b)) (ry .unit) (pow-add 2 s a) (pow-add 2 s b) w (rx .count) (ry .count)
+    where
+      enough : (M d s a : ℕ) → 0 < M → 2 ^ n * d ≤ 2 ^ s → 2 ^ n * d ≤ 2 * (M * 2 ^ (s + a))
+      enough M d s a m h = omega (arith, h, pow-mono {i = s} {j = s + a} (omega arith), mul-le-mul-right (2 ^ (s + a)) m)
+
+      shifted : (N d M e S A B u v SA SB : ℕ) → 0 < v → SA ≡ S * A → SB ≡ S * B → u * B ≡ A * v → N * (e * v) ≡ M * u * d → N * (SB * e) ≡ M * SA * d
+      shifted N d M e S A B u v SA SB some p q w h =
+          eq-of-mul-eq-mul-right v some (N * (SB * e)) (M * SA * d)
+          (omega (arith, ap (λ (k : ℕ). N * e * v * k) q, ap (λ (k : ℕ). M * d * v * k) p, ap (λ (k : ℕ). k * (S * B)) h, ap (λ (k : ℕ). k * (M * d * S)) w))
+
+      unshifted : (N d M e c S A B u v SA SB : ℕ) → 0 < SB → SA ≡ S * A → SB ≡ S * B → u * B ≡ A * v → M * SA ≡ c * e → N * SB ≡ c * d → N * (e * v) ≡ M * u * d
+      unshifted N d M e c S A B u v SA SB G p q w g h =
+          eq-of-mul-eq-mul-right SB G (N * (e * v)) (M * u * d)
+          (omega (arith, ap (λ (k : ℕ). k * (e * v)) h, ap (λ (k : ℕ). k * (v * d)) g, ap (λ (k : ℕ). M * u * d * k) q, ap (λ (k : ℕ). M * d * v * k) p, ap (λ (k : ℕ). k * (M * d * S)) w))
+
+  -- with exponents unbounded RN goes along with powers of two
+  pub RN-scaled : (z : ℤ) → Scaled z x y → Scaled z (RN rule n x) (RN rule n y)
+  RN-scaled (pos a) = scaled-by (pos a) a 0 refl
+  RN-scaled (negsuc b) = scaled-by (negsuc b) 0 (suc b) (omega arith)
 
 -- RN is symmetric in sign
 pub RN-negated : (rule : Rule) (n : ℕ) (x : Fraction) → RN rule n (negated x) ≡ negated (RN rule n x)
@@ -107,6 +143,9 @@ joined-den true true a b d = refl
 joined-den true false a b d = refl
 joined-den false true a b d = refl
 joined-den false false a b d = refl
+
+pub plus-some : (x y : Fraction) → 0 < x .den → 0 < y .den → 0 < plus x y .den
+plus-some x y X Y = rw (joined-den (x .minus) (y .minus) (x .num * y .den) (y .num * x .den) (x .den * y .den)) (mul-pos X Y)
 
 pub ltb-scale : (a b c : ℕ) → 0 < c → ltb (a * c) (b * c) ≡ ltb a b
 ltb-scale a b c C = go (decLt a b)
@@ -176,6 +215,17 @@ pub counts-unique : (T : ℕ) (m : Bool) (a b : ℕ) (x y : Fraction) → Counts
 counts-unique T m a b x y c d s =
     eq-of-mul-eq-mul-right (x .den * y .den) (mul-pos (c .some) (d .some)) a b
     (omega (arith, ap (λ (z : ℕ). z * y .den) (c .count), ap (λ (z : ℕ). z * x .den) (d .count), ap (λ (z : ℕ). z * T) (s .1)))
+
+-- sums of the same are the same
+pub plus-same : (x y a b : Fraction) → 0 < x .den → 0 < y .den → 0 < a .den → 0 < b .den → Same x a → Same y b → Same (plus x y) (plus a b)
+plus-same x y a b X Y A B p q =
+    let T = x .den * y .den in
+    let U = mul-pos X Y in
+    counts-same T _ _ (plus x y) (plus a b)
+    (plus-counts T (x .num * y .den) (y .num * x .den) (x .minus) (y .minus) x y (record { unit = U; some = X; sign = refl; count = omega arith }) (record { unit = U; some = Y; sign = refl; count = omega arith }))
+    (plus-counts T (x .num * y .den) (y .num * x .den) (x .minus) (y .minus) a b
+    (record { unit = U; some = A; sign = sym (p .0); count = omega (arith, ap (λ (z : ℕ). z * y .den) (p .1)) })
+    (record { unit = U; some = B; sign = sym (q .0); count = omega (arith, ap (λ (z : ℕ). z * x .den) (q .1)) }))
 
 module _ (T a b : ℕ) (x y : Fraction) (c : Counts T false a x) (d : Counts T false b y) where
   left : x .num * y .den * T ≡ a * (x .den * y .den)

@@ -64,6 +64,15 @@ revalue (fin t m e) s a c b d p h v = (
       (mul-right-comm (m * up e) d c ∙ ap (λ (x : ℕ). x * d) (v .1) ∙ mul-right-comm a (down e) d ∙ ap (λ (x : ℕ). x * down e) h ∙ mul-right-comm b c (down e)),
 )
 
+-- a float has one value
+pub one-value : (x : Float) (s t : Bool) (a c b d : ℕ) → HasValue x s a c → HasValue x t b d → (s ≡ t) × (a * d ≡ b * c)
+one-value nan s t a c b d v w = absurd v
+one-value (inf u) s t a c b d v w = absurd v
+one-value (fin u m e) s t a c b d v w = (
+  sym (v .0) ∙ w .0,
+  eq-of-mul-eq-mul-right (down e) (down-pos e) (a * d) (b * c) (omega (arith, ap (λ (z : ℕ). z * d) (v .1), ap (λ (z : ℕ). z * c) (w .1))),
+)
+
 pub round-value : (f : Format) (s : Bool) (a c : ℕ) → grid f a c < overflow f → HasValue (Ieee.round f s a c) s (grid f a c) (2 ^ low f)
 round-value f s a c h =
     subst (λ (z : Float). HasValue z s (grid f a c) (2 ^ low f)) (sym (round-is f s a c)) (units-val f s (Order.kept (prec f) (a * 2 ^ low f) c) (drop (prec f) (a * 2 ^ low f) c) h)

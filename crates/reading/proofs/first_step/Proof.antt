@@ -21,7 +21,8 @@ use Rattle.factor.specs.Precision.{scaleOf}
 use Rattle.factor.specs.Context.{contextAt}
 use Rattle.factor.specs.Whole.{wholeOf}
 use Rattle.product.specs.Units.{firstUnits}
-use Rattle.reading.specs.FirstLaws.{K32, low-number, first-float, first-told}
+use Rattle.factor.specs.Stored.{low-number}
+use Rattle.reading.specs.FirstLaws.{K32, first-float, first-told}
 use Rattle.reading.proofs.first_step.Statement.{statement}
 use Rattle.reading.proofs.first_step.Tie as tie
 
@@ -37,7 +38,7 @@ module _ (c : tie.After-narrow-float) where
 
   -- the stored low part, and x from 1 to below 2
   low-is : HasValue (f .applied .low) (negative (f .parts .low)) (natAbs (f .parts .low)) (2 ^ f .parts .places)
-  low-is = let fit : T (fits binary32 (f .applied .low)) = search needs in low-number f (a .pre .0) (a .pre .1) fit
+  low-is = let fit : T (fits binary32 (f .applied .low)) = search needs in low-number f (a .pre .0) fit
 
   x-is : HasValue (c .narrow-float .result) false (a .args .x) (hid binary32)
   x-is =
