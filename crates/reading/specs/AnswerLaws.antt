@@ -1,31 +1,21 @@
--- Readings that are let through to their product, what they are answered with, and that every product is plus zero or an exact normal number. Assumes nothing.
+-- Readings that are let through to their product, and what they are answered with. Assumes nothing.
 use mathlib.Core.Path.{_≡_, refl, sym, ap, _∙_, subst}
-use mathlib.Core.Bool.{Bool, true, false, cond, not, _&&_}
-use mathlib.Core.Logic.{_⊎_, inl, inr}
-use mathlib.Core.List.{[], _∷_}
-use Prim.Native.Nat.{ℕ, _+_, _*_, _^_}
+use mathlib.Core.Bool.{Bool, true, false, cond}
+use Prim.Native.Nat.{ℕ}
 use native.Mathlib.Omega.{arith}
-use lib.IntN.{ℤ, pos, _+ℤ_}
-use lib.Ieee.{Float, binary32, prec, hid, toBits, up, down}
-use lib.Ieee.Exact.{HasValue}
+use lib.Ieee.{Float, binary32, prec, toBits}
 use borrow.Author.Tests.{eqb-true, not-false}
 use Rattle.marks.specs.declared.Mark.{Mark}
-use Rattle.marks.specs.Answers.{NoneHolds, Outcome, refused, accepted, answer, Marked}
-use Rattle.marks.specs.AnswerLaws.{pass, end, accepts, rest-answers, none-apart, only-accepted, refused-first, of-answer}
-use Rattle.rounding.specs.RoundLaws.{HasBits}
-use Rattle.floats.specs.Fields.{plusZero, signOf, zeroBits, Normal, significandOf}
-use Rattle.floats.specs.Pattern.{significand-bits}
+use Rattle.marks.specs.Answers.{NoneHolds, refused, accepted, answer}
+use Rattle.marks.specs.AnswerLaws.{pass, end, accepts, rest-answers, only-accepted, refused-first}
+use Rattle.floats.specs.Fields.{plusZero, zeroBits, Normal, significandOf}
 use Rattle.floats.specs.Classes.{normal-others}
 use Rattle.factor.specs.declared.Factor.{Factor}
 use Rattle.factor.specs.SetUp.{intact}
-use Rattle.factor.specs.SetUpLaws.{intact-sound}
 use Rattle.product.specs.declared.Product.{Product}
 use Rattle.product.specs.Product.{productBy}
-use Rattle.product.specs.SoundLaws.{sound-product}
 use Rattle.reading.specs.declared.Taken.{Taken}
-use Rattle.reading.specs.Reading.{unreadable, zero, normal, kindOf, numberOf, raised, outside, finished, conditions, numbered, answered, applied, takenOf}
-use Rattle.reading.specs.Exponents.{let-through}
-use Rattle.reading.specs.ReadingLaws.{number-value, number-normal}
+use Rattle.reading.specs.Reading.{unreadable, zero, normal, kindOf, finished, answered, applied, takenOf}
 
 -- ---- readings that are let through to their product
 module _ (f : Factor) (b : ℕ) (h : NoneHolds (unreadable f b)) where
@@ -91,42 +81,3 @@ module _ (f : Factor) (x : Float) (t : Taken) (is : takenOf t ≡ answer (unread
   pub taken-refused : (k : ℕ) → t ≡ Taken.Refused k → refused k ≡ applied f x
   unfolding applied answered
   taken-refused k e = refused-first (unreadable f c) _ _ _ k (sym (ap takenOf e) ∙ is)
-
--- ---- the product of a normal reading b: exactly sign * u2 * 2 ^ (e + k), and a normal number
-pub record Exactly (f : Factor) (b : ℕ) (y : Float) : Type 0 where
-  pub value : HasValue y (signOf binary32 b) (productBy f (significandOf binary32 b) .significand * 2 ^ productBy f (significandOf binary32 b) .binade * up (raised f b)) (hid binary32 * down (raised f b))
-  pub normal : Normal binary32 (toBits binary32 y)
-
-module _ (f : Factor) (i : intact f ≡ true) (n : f .precision .bits ≡ prec binary32) (b : ℕ) where
-  abbrev v : Product
-  v = productBy f (significandOf binary32 b)
-
-  v-bits : HasBits (prec binary32) (v .significand)
-  v-bits = subst (λ (n : ℕ). HasBits n (v .significand)) n (sound-product f (intact-sound f i) (significandOf binary32 b) (subst (λ (n : ℕ). HasBits n (significandOf binary32 b)) (sym n) (significand-bits binary32 b)) .bits)
-
-  pub number-exactly : outside f b v ≡ false → Exactly f b (numberOf binary32 (signOf binary32 b) v (raised f b))
-  number-exactly h =
-      let t = let-through binary32 (raised f b +ℤ pos (v .binade)) h in
-      record { value = number-value binary32 (signOf binary32 b) v (raised f b) v-bits (t .0) (t .1) (t .2) (t .3); normal = number-normal binary32 (signOf binary32 b) v (raised f b) v-bits (t .0) (t .1) (t .2) (t .3) }
-
--- what an answer's product is: of a zero plus zero, and right; of any other reading exact; a refusal has none
-abbrev pub ProductOf : Factor → ℕ → Outcome (Marked Float) → Type 0
-ProductOf f b (refused k) = Unit {0}
-ProductOf f b (accepted a) = ((zeroBits binary32 b ≡ true) × (a .mark ≡ Mark.Right) × (a .value ≡ plusZero)) ⊎ ((zeroBits binary32 b ≡ false) × Exactly f b (a .value))
-
-pub applied-product : (f : Factor) (x : Float) → ProductOf f (toBits binary32 x) (applied f x)
-unfolding applied answered
-applied-product f x = of-answer (ProductOf f b) (conditions f b v) (numbered f b v) (λ k. tt) (λ h. go (zeroBits binary32 b) refl h)
-  where
-    b : ℕ
-    b = toBits binary32 x
-
-    v : Product
-    v = productBy f (significandOf binary32 b)
-
-    go : (z : Bool) → zeroBits binary32 b ≡ z → NoneHolds (conditions f b v) → ProductOf f b (accepted (numbered f b v))
-    go true z h = rw z (inl (refl, refl, refl))
-    go false z h =
-        let t = none-apart (unreadable f b) ((23, not (zeroBits binary32 b) && outside f b v) ∷ []) h in
-        let o : outside f b v ≡ false = rw z at (t .1 .0) in
-        rw z (inr (refl, number-exactly f (is-intact f b (t .0)) (precision-is f b (t .0)) b o))

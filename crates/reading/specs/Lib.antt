@@ -5,5 +5,6 @@ pub mod FirstLaws
 pub mod ReadingLaws
 pub mod AnswerLaws
 pub mod Standard
+pub mod Demand2
 pub mod FromProduct
 pub mod Examples

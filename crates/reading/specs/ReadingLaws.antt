@@ -1,4 +1,4 @@
--- The product of a reading as a float: exactly sign * u2 * 2 ^ (e + k), and a normal number. Assumes nothing.
+-- A value with a sign and an exponent put on, as a float: exact, and a normal number. Of a reading's product it is said in `Demand2.antt`. Assumes nothing.
 use mathlib.Core.Path.{_≡_, sym, _∙_, subst}
 use mathlib.Core.Bool.{Bool}
 use Prim.Native.Nat.{ℕ, suc, _+_, _-_, _*_, _^_, _≤_, _<_}

@@ -1,21 +1,22 @@
--- Both steps in the standard's own operations: u1 is the binary32 product of the stored low part and x, and u2 is IEEE 754-2019's fusedMultiplyAdd,
--- the exact Ch * x + u1 rounded once to binary32. Assumes nothing.
+-- Both steps in the standard's own operations, on the values of the stored parts: u1 is the binary32 product of the stored low part and x, and u2 is
+-- IEEE 754-2019's fusedMultiplyAdd of the stored high part, x and u1: their exact sum of product and u1, rounded once to binary32. Assumes nothing.
 use mathlib.Core.Path.{_≡_, sym, ap, _∙_, subst}
-use mathlib.Core.Bool.{false}
+use mathlib.Core.Bool.{Bool, false}
 use Prim.Native.Nat.{ℕ, _+_, _-_, _*_, _^_, _≤_, _<_}
-use native.Mathlib.Nat.{mul-le-mul, mul-le-mul-right, le-of-mul-le-mul-right, le-of-lt}
+use native.Mathlib.Nat.{mul-pos, mul-le-mul, mul-le-mul-right, le-of-mul-le-mul-right, le-of-lt}
 use native.Mathlib.Omega.{arith}
 use lib.Dec.{T, lit≤}
 use lib.Pow.{pow-pos}
 use lib.Ieee
-use lib.Ieee.{Float, binary32, prec, emax, low, hid, mul, down, fits}
+use lib.Ieee.{Float, binary32, prec, emax, hid, mul, down, unlike, fits}
 use lib.Ieee.Exact.{HasValue}
 use lib.Ieee.Fits.{down-pos}
+use lib.Ieee.Scale.{round-same}
 use Rattle.rounding.specs.Round.{rounded}
 use Rattle.rounding.specs.RoundLaws.{HasBits}
-use Rattle.rounding.specs.Fraction.{Fraction}
-use Rattle.rounding.specs.FractionLaws.{Counts}
-use Rattle.rounding.specs.Ieee.{revalue, InRange, rounded-is-ieee}
+use Rattle.rounding.specs.Fraction.{Fraction, times, plus, Same}
+use Rattle.rounding.specs.FractionLaws.{Counts, plus-some, plus-same}
+use Rattle.rounding.specs.Ieee.{revalue, one-value, InRange, rounded-is-ieee}
 use Rattle.floats.specs.Fields.{unitAt}
 use Rattle.floats.specs.Times.{unlike-plus, unit-is}
 use Rattle.factor.specs.declared.Factor.{Factor}
@@ -25,12 +26,27 @@ use Rattle.factor.specs.Context.{tieRule, contextAt, lowerOf}
 use Rattle.factor.specs.Parts.{partsAt}
 use Rattle.factor.specs.Whole.{End, Whole, whole, wholeOf}
 use Rattle.factor.specs.PartsLaws.{whole-of-parts}
-use Rattle.factor.specs.SetUp.{Sound}
-use Rattle.factor.specs.Stored.{low-number}
-use Rattle.product.specs.Product.{first, fused, product, productBy, valueOf}
+use Rattle.factor.specs.SetUp.{floatIn, Sound}
+use Rattle.factor.specs.Stored.{high-number, low-number}
+use Rattle.product.specs.Product.{argument, high, low, first, fused, product, productBy, valueOf}
 use Rattle.product.specs.Units.{firstUnits, fusedUnits}
 use Rattle.product.specs.ProductLaws.{first-counts, fused-counts, fused-least, fused-near, product-value}
 use Rattle.reading.specs.FirstLaws.{K32, fine-32, near-32, first-float}
+
+-- a float has the value q
+abbrev pub Is : Float → Fraction → Type 0
+Is x q = HasValue x (q .minus) (q .num) (q .den)
+
+-- what both steps are, by what is stored: y is x as a float
+pub record StoredSteps (f : Factor) (X : ℕ) (y : Float) : Type 0 where
+  -- the stored parts are Ch and Cl
+  pub high-is : Is (f .applied .high) (high (prec binary32) (f .parts))
+  pub low-is : Is (f .applied .low) (low (f .parts))
+  -- one binary32 multiplication of the stored low part is u1
+  pub first-is : Is (mul binary32 (f .applied .low) y) (first K32 (f .parts) X)
+  -- and the value h of the stored high part, times x, and the value u of that multiplication added, exactly and rounded once, is the product
+  pub second-is : (h u : Fraction) → 0 < h .den → 0 < u .den → Is (f .applied .high) h → Is (mul binary32 (f .applied .low) y) u
+      → Is (floatIn binary32 (plus (times h (argument (prec binary32) X)) u)) (valueOf (prec binary32) (productBy f X))
 
 -- ---- at an end c
 -- the unit of a product is 2 ^ - t
@@ -60,7 +76,7 @@ module _ (c : ℕ) (ce : End K32 c) (X : ℕ) (xb : HasBits (prec binary32) X) w
       le-of-mul-le-mul-right {k = 2 ^ t} (omega (arith, counts .count, mul-le-mul-right (y .den) u)) (pow-pos t)
 
   in-range : InRange binary32 (y .num) (y .den)
-  in-range = record { from = least (y .num) (y .den) (hid binary32) (2 ^ low binary32) from-one (lit≤ tt); to = most (y .num) (y .den) (2 ^ low binary32) ((2 ^ prec binary32 - 1) * 2 ^ (2 * emax binary32 - 1)) to-eight (lit≤ tt) }
+  in-range = record { from = least (y .num) (y .den) (hid binary32) (2 ^ Ieee.low binary32) from-one (lit≤ tt); to = most (y .num) (y .den) (2 ^ Ieee.low binary32) ((2 ^ prec binary32 - 1) * 2 ^ (2 * emax binary32 - 1)) to-eight (lit≤ tt) }
     where
       least : (N d a b : ℕ) → d ≤ N → a ≤ b → a * d ≤ N * b
       least N d a b h k = omega (arith, mul-le-mul h k)
@@ -99,7 +115,7 @@ module _ (f : Factor) (s : Sound f) (n : f .precision .bits ≡ prec binary32) (
       let k : (0 < u1 .den) × (u1 .num * 2 ^ t ≡ u * u1 .den) =
       subst (λ (p : Parts). (0 < first K32 p X .den) × (first K32 p X .num * 2 ^ t ≡ firstUnits K32 (wholeOf K32 p) X * first K32 p X .den)) (sym parts-32) (first-count (lowerOf f) end-32 X xb) in
       subst (λ b. HasValue w b (u1 .num) (u1 .den)) (sym (unlike-plus _))
-      (revalue w _ (u * 2 ^ unitAt binary32 (K32 .E)) (2 ^ low binary32) (u1 .num) (u1 .den) (pow-pos (low binary32)) (regroup u (u1 .num) (u1 .den) (2 ^ unitAt binary32 (K32 .E)) (2 ^ t) (2 ^ low binary32) (unit-is binary32 (K32 .E) near-32) (k .1)) (first-float f s n X xb (f .applied .low) y (low-number f s h) v))
+      (revalue w _ (u * 2 ^ unitAt binary32 (K32 .E)) (2 ^ Ieee.low binary32) (u1 .num) (u1 .den) (pow-pos (Ieee.low binary32)) (regroup u (u1 .num) (u1 .den) (2 ^ unitAt binary32 (K32 .E)) (2 ^ t) (2 ^ Ieee.low binary32) (unit-is binary32 (K32 .E) near-32) (k .1)) (first-float f s n X xb (f .applied .low) y (low-number f s h) v))
     where
       regroup : (u N d A B U : ℕ) → U ≡ B * A → N * B ≡ u * d → u * A * d ≡ N * U
       regroup u N d A B U t e = let x : N * U ≡ N * (B * A) = ap (λ (z : ℕ). N * z) t in let z : N * B * A ≡ u * d * A = ap (λ (z : ℕ). z * A) e in omega (arith, x, z)
@@ -109,3 +125,41 @@ module _ (f : Factor) (s : Sound f) (n : f .precision .bits ≡ prec binary32) (
   fused-is =
       subst (λ (b : ℕ). HasValue (Ieee.round binary32 false (fused K32 (f .parts) X .num) (fused K32 (f .parts) X .den)) false (product (contextAt b) (f .parts) X .significand * 2 ^ product (contextAt b) (f .parts) X .binade) (hid binary32)) (sym n)
       (subst (λ (p : Parts). HasValue (Ieee.round binary32 false (fused K32 p X .num) (fused K32 p X .den)) false (product K32 p X .significand * 2 ^ product K32 p X .binade) (hid binary32)) (sym parts-32) (fused-at (lowerOf f) end-32 X xb))
+
+  module _ (high-fits : T (fits binary32 (f .applied .high))) (low-fits : T (fits binary32 (f .applied .low))) (y : Float) (x-is : HasValue y false X (hid binary32)) where
+    abbrev p : Parts
+    p = f .parts
+
+    abbrev x : Fraction
+    x = argument (prec binary32) X
+
+    abbrev exact : Fraction
+    exact = fused K32 p X
+
+    stored-high : Is (f .applied .high) (high (prec binary32) p)
+    stored-high = subst (λ (b : ℕ). HasValue (f .applied .high) false (p .high) (2 ^ (b - 1))) n (high-number f s high-fits)
+
+    exact-sign : exact .minus ≡ false
+    exact-sign = subst (λ (q : Parts). fused K32 q X .minus ≡ false) (sym parts-32) (counts (lowerOf f) end-32 X xb .sign)
+
+    first-some : 0 < first K32 p X .den
+    first-some = subst (λ (q : Parts). 0 < first K32 q X .den) (sym parts-32) (first-count (lowerOf f) end-32 X xb .0)
+
+    second : (h u : Fraction) → 0 < h .den → 0 < u .den → Is (f .applied .high) h → Is (mul binary32 (f .applied .low) y) u → Is (floatIn binary32 (plus (times h x) u)) (valueOf (prec binary32) (productBy f X))
+    second h u H U v w =
+        let z = plus (times h x) u in
+        let den : 0 < times h x .den = mul-pos H (pow-pos (prec binary32 - 1)) in
+        let den-exact : 0 < times (high (prec binary32) p) x .den = mul-pos (pow-pos (prec binary32 - 1)) (pow-pos (prec binary32 - 1)) in
+        let hs = one-value (f .applied .high) (h .minus) false (h .num) (h .den) (p .high) (hid binary32) v stored-high in
+        let us : Same u (first K32 p X) = one-value (mul binary32 (f .applied .low) y) (u .minus) _ (u .num) (u .den) _ _ w (first-is y low-fits x-is) in
+        let same : Same z exact = plus-same (times h x) u (times (high (prec binary32) p) x) (first K32 p X) den U den-exact first-some (by-x (h .minus) (h .num) (h .den) (p .high) (hid binary32) X hs) us in
+        let is : floatIn binary32 z ≡ Ieee.round binary32 false (exact .num) (exact .den) =
+        ap (λ (b : Bool). Ieee.round binary32 b (z .num) (z .den)) (same .0 ∙ exact-sign)
+        ∙ round-same binary32 false (z .num) (z .den) (exact .num) (exact .den) (plus-some (times h x) u den U) (plus-some (times (high (prec binary32) p) x) (first K32 p X) den-exact first-some) (same .1) in
+        subst (λ (q : Float). Is q (valueOf (prec binary32) (productBy f X))) (sym is) fused-is
+      where
+        by-x : (m : Bool) (N d H A X : ℕ) → (m ≡ false) × (N * A ≡ H * d) → (unlike m false ≡ unlike false false) × (N * X * (A * A) ≡ H * X * (d * A))
+        by-x m N d H A X e = (ap (λ (b : Bool). unlike b false) (e .0), omega (arith, ap (λ (z : ℕ). z * (X * A)) (e .1)))
+
+    pub stored-steps : StoredSteps f X y
+    stored-steps = record { high-is = stored-high; low-is = low-number f s low-fits; first-is = first-is y low-fits x-is; second-is = second }

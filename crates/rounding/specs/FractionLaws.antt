@@ -37,11 +37,14 @@ pub counts-finer : (T c : ℕ) → 0 < c → (m : Bool) (a : ℕ) (x : Fraction)
 counts-finer T c C m a x k = record { unit = mul-pos (k .unit) C; some = k .some; sign = k .sign; count = omega (arith, ap (λ (z : ℕ). z * c) (k .count)) }
 
 -- ---- RN
+pub RN-some : (rule : Rule) (n : ℕ) (x : Fraction) → 0 < RN rule n x .den
+RN-some rule n x = down-pos (rounded rule n (x .num) (x .den) .exponent)
+
 pub RN-counts : (rule : Rule) (n : ℕ) → 0 < n → (t : ℕ) (m : Bool) (a : ℕ) (x : Fraction) → Counts (2 ^ t) m a x → Counts (2 ^ t) m (rn rule n a 1) (RN rule n x)
 RN-counts rule n P t m a x k =
     record {
       unit = pow-pos t;
-      some = down-pos (rounded rule n (x .num) (x .den) .exponent);
+      some = RN-some rule n x;
       sign = k .sign;
       count = rounded-whole rule n P (x .num) (x .den) t a (k .some) (k .count);
     }
@@ -51,7 +54,7 @@ pub RN-counts-fraction : (rule : Rule) (n : ℕ) → 0 < n → (t e : ℕ) (m : 
 RN-counts-fraction rule n P t e m a x E fine k =
     record {
       unit = pow-pos t;
-      some = down-pos (rounded rule n (x .num) (x .den) .exponent);
+      some = RN-some rule n x;
       sign = k .sign;
       count = rounded-value rule n P (x .num) (x .den) t a e (k .some) E (mul-assoc (x .num) (2 ^ t) e ∙ k .count) fine;
     }

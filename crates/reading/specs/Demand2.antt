@@ -1,0 +1,203 @@
+-- Demand 2 of readings (`reading-tells`), for every factor and every reading: the answer is the two steps' product with sign and exponent put on, exactly, and its
+-- mark tells of every fraction C between the ends whether C * 2 ^ k times the reading rounds to it. Assumes nothing.
+use mathlib.Core.Path.{_≡_, refl, sym, ap, _∙_, subst}
+use mathlib.Core.Bool.{Bool, true, false, not, _&&_}
+use mathlib.Core.Logic.{_⊎_, inl, inr}
+use mathlib.Core.List.{[], _∷_}
+use Prim.Native.Nat.{ℕ, _-_, _*_, _^_, _<_}
+use native.Mathlib.Nat.{mul-pos, le-trans, eq-of-mul-eq-mul-right}
+use native.Mathlib.Omega.{arith}
+use lib.Dec.{T}
+use lib.IntN.{ℤ, pos, _+ℤ_}
+use lib.Pow.{pow-pos}
+use lib.Ieee.{Float, binary32, prec, hid, toBits, up, down, unlike, fits}
+use lib.Ieee.Exact.{HasValue}
+use lib.Ieee.Fits.{up-pos, down-pos, two, two-le-pos}
+use Rattle.marks.specs.declared.Mark.{Mark}
+use Rattle.marks.specs.Answers.{NoneHolds, Outcome, refused, accepted, Marked}
+use Rattle.marks.specs.AnswerLaws.{none-apart, of-answer}
+use Rattle.marks.specs.Says.{Says}
+use Rattle.marks.specs.SaysLaws.{says-alike}
+use Rattle.rounding.specs.RoundLaws.{HasBits}
+use Rattle.rounding.specs.Fraction.{Fraction, over, power, times, RN, Same}
+use Rattle.rounding.specs.FractionLaws.{RN-some, Scaled, RN-scaled}
+use Rattle.rounding.specs.Ieee.{revalue, one-value}
+use Rattle.floats.specs.Fields.{plusZero, signOf, zeroBits, Normal, significandOf, exponentOf}
+use Rattle.floats.specs.Powers.{powers-add}
+use Rattle.floats.specs.Pattern.{significand-bits}
+use Rattle.floats.specs.Classes.{normal-value}
+use Rattle.factor.specs.declared.Factor.{Factor}
+use Rattle.factor.specs.Context.{contextOf, lowerOf, upperOf}
+use Rattle.factor.specs.Accepted.{Between, between-positive}
+use Rattle.factor.specs.SetUp.{intact, Sound}
+use Rattle.factor.specs.SetUpLaws.{intact-sound}
+use Rattle.product.specs.declared.Product.{Product}
+use Rattle.product.specs.Product.{argument, productBy, valueOf}
+use Rattle.product.specs.Marks.{Gives, markBy}
+use Rattle.product.specs.SoundLaws.{sound-product}
+use Rattle.product.specs.Demand2.{mark-tells, mark-alone}
+use Rattle.reading.specs.Reading.{unreadable, numberOf, raised, outside, conditions, numbered, answered, applied}
+use Rattle.reading.specs.Exponents.{let-through}
+use Rattle.reading.specs.ReadingLaws.{number-value, number-normal}
+use Rattle.reading.specs.AnswerLaws.{is-intact, precision-is, is-normal}
+use Rattle.reading.specs.Standard.{Is, StoredSteps, stored-steps}
+
+-- ---- what is said
+-- a normal reading as a number, by its bits b
+abbrev pub readingAt : ℕ → Fraction
+readingAt b = record { minus = signOf binary32 b; num = significandOf binary32 b * up (exponentOf binary32 b); den = hid binary32 * down (exponentOf binary32 b) }
+
+-- C * 2 ^ k times the reading
+abbrev pub exact : Factor → ℕ → Fraction → Fraction
+exact f b C = times (times C (power (f .applied .scale))) (readingAt b)
+
+-- rounded as a binary32 number with unbounded exponents it is y
+abbrev pub GivesNumber : Factor → ℕ → Float → Fraction → Type 0
+GivesNumber f b y C = Is y (RN (contextOf f .rule) (prec binary32) (exact f b C))
+
+-- what a mark says of y and every fraction between the ends
+abbrev pub SaysOf : Factor → ℕ → Float → Mark → Type 0
+SaysOf f b y m = Says (Between (contextOf f) (lowerOf f) (upperOf f)) (GivesNumber f b y) m
+
+-- u2 of the reading's significand
+abbrev pub secondOf : Factor → ℕ → Product
+secondOf f b = productBy f (significandOf binary32 b)
+
+-- what the answer a to a reading with the bits b tells, unless it is a zero
+pub record Tells (f : Factor) (b : ℕ) (a : Marked Float) : Type 0 where
+  -- the reading is a normal number
+  pub reading : (x : Float) → T (fits binary32 x) → toBits binary32 x ≡ b → Is x (readingAt b)
+  -- both steps are those of its significand and of the stored parts' own values
+  pub steps : T (fits binary32 (f .applied .high)) → T (fits binary32 (f .applied .low)) → (y : Float) → HasValue y false (significandOf binary32 b) (hid binary32) → StoredSteps f (significandOf binary32 b) y
+  -- the answer is sign * u2 * 2 ^ (e + k), exactly, and a normal number
+  pub value : let v = secondOf f b in HasValue (a .value) (signOf binary32 b) (v .significand * 2 ^ v .binade * up (raised f b)) (hid binary32 * down (raised f b))
+  pub normal : Normal binary32 (toBits binary32 (a .value))
+  -- its mark says what is true of every fraction between the ends, sign and scale on, and no other mark does
+  pub says : SaysOf f b (a .value) (a .mark)
+  pub alone : (m : Mark) → SaysOf f b (a .value) m → a .mark ≡ m
+
+-- of every answer: a zero is answered with plus zero, right; a refusal tells nothing
+abbrev pub AnswerTells : Factor → ℕ → Outcome (Marked Float) → Type 0
+AnswerTells f b (refused k) = Unit {0}
+AnswerTells f b (accepted a) = ((zeroBits binary32 b ≡ true) × (a .mark ≡ Mark.Right) × (a .value ≡ plusZero)) ⊎ ((zeroBits binary32 b ≡ false) × Tells f b a)
+
+-- ---- sign and scale change nothing of what a mark says
+module _ (f : Factor) (b : ℕ) (v : Product) (y : Float) (is : HasValue y (signOf binary32 b) (v .significand * 2 ^ v .binade * up (raised f b)) (hid binary32 * down (raised f b))) (C : Fraction) (positive : 0 < C .num) (some : 0 < C .den) (sign : C .minus ≡ false) where
+  abbrev z : ℤ
+  z = raised f b
+
+  -- C * x rounded, and C * 2 ^ k times the reading rounded
+  abbrev r : Fraction
+  r = RN (contextOf f .rule) (prec binary32) (times C (argument (prec binary32) (significandOf binary32 b)))
+
+  abbrev q : Fraction
+  q = RN (contextOf f .rule) (prec binary32) (exact f b C)
+
+  scaled : Scaled z r q
+  scaled =
+      let e = exponentOf binary32 b in
+      let k = f .applied .scale in
+      RN-scaled (contextOf f .rule) (prec binary32) (two-le-pos (prec binary32) (two binary32)) (times C (argument (prec binary32) (significandOf binary32 b))) (exact f b C)
+      (mul-pos positive (le-trans (pow-pos (prec binary32 - 1)) (significand-bits binary32 b .least)))
+      (mul-pos some (pow-pos (prec binary32 - 1)))
+      (mul-pos (mul-pos some (down-pos k)) (mul-pos (pow-pos (prec binary32 - 1)) (down-pos e)))
+      z
+      (regroup (C .num) (C .den) (significandOf binary32 b) (hid binary32) (up e) (up k) (up (e +ℤ k)) (down e) (down k) (down (e +ℤ k)) (powers-add e k))
+    where
+      regroup : (N d X H u v w a c g : ℕ) → u * v * g ≡ w * (a * c) → N * v * (X * u) * (d * H * g) ≡ N * X * w * (d * c * (H * a))
+      regroup N d X H u v w a c g e = omega (arith, ap (λ (t : ℕ). t * (N * X * d * H)) e)
+
+  q-sign : signOf binary32 b ≡ q .minus
+  q-sign = sym (ap (λ (m : Bool). unlike (unlike m false) (signOf binary32 b)) sign ∙ own (signOf binary32 b))
+    where
+      own : (s : Bool) → unlike (unlike false false) s ≡ s
+      own true = refl
+      own false = refl
+
+  pub to-reading : Same r (valueOf (prec binary32) v) → GivesNumber f b y C
+  to-reading e =
+      subst (λ (s : Bool). HasValue y s (q .num) (q .den)) q-sign
+      (revalue y (signOf binary32 b) _ _ (q .num) (q .den) (mul-pos (pow-pos (prec binary32 - 1)) (down-pos z))
+      (meet (v .significand * 2 ^ v .binade) (hid binary32) (up z) (down z) (q .num) (q .den) (r .num) (r .den) (RN-some (contextOf f .rule) (prec binary32) (times C (argument (prec binary32) (significandOf binary32 b)))) (e .1) scaled) is)
+    where
+      meet : (N H u c Q d R g : ℕ) → 0 < g → R * H ≡ N * g → Q * (g * c) ≡ R * u * d → N * u * d ≡ Q * (H * c)
+      meet N H u c Q d R g G e w = eq-of-mul-eq-mul-right g G (N * u * d) (Q * (H * c)) (omega (arith, ap (λ (t : ℕ). t * (u * d)) e, ap (λ (t : ℕ). t * H) w))
+
+  pub from-reading : GivesNumber f b y C → Same r (valueOf (prec binary32) v)
+  from-reading g = (
+    ap (λ (m : Bool). unlike m false) sign,
+    meet (v .significand * 2 ^ v .binade) (hid binary32) (up z) (down z) (q .num) (q .den) (r .num) (r .den) (mul-pos (up-pos z) (RN-some (contextOf f .rule) (prec binary32) (exact f b C))) (one-value y _ _ _ _ (q .num) (q .den) is g .1) scaled,
+  )
+    where
+      meet : (N H u c Q d R g : ℕ) → 0 < u * d → N * u * d ≡ Q * (H * c) → Q * (g * c) ≡ R * u * d → R * H ≡ N * g
+      meet N H u c Q d R g G e w = eq-of-mul-eq-mul-right (u * d) G (R * H) (N * g) (omega (arith, ap (λ (t : ℕ). t * g) e, ap (λ (t : ℕ). t * H) w))
+
+-- ---- a reading that is let through, and not a zero
+module _ (f : Factor) (b : ℕ) (h : NoneHolds (unreadable f b)) (nonzero : zeroBits binary32 b ≡ false) (o : outside f b (secondOf f b) ≡ false) where
+  abbrev X : ℕ
+  X = significandOf binary32 b
+
+  abbrev v : Product
+  v = secondOf f b
+
+  abbrev y : Float
+  y = numberOf binary32 (signOf binary32 b) v (raised f b)
+
+  sound : Sound f
+  sound = intact-sound f (is-intact f b h)
+
+  n : f .precision .bits ≡ prec binary32
+  n = precision-is f b h
+
+  x-bits : HasBits (f .precision .bits) X
+  x-bits = subst (λ (k : ℕ). HasBits k X) (sym n) (significand-bits binary32 b)
+
+  v-bits : HasBits (prec binary32) (v .significand)
+  v-bits = subst (λ (k : ℕ). HasBits k (v .significand)) n (sound-product f sound X x-bits .bits)
+
+  y-value : HasValue y (signOf binary32 b) (v .significand * 2 ^ v .binade * up (raised f b)) (hid binary32 * down (raised f b))
+  y-value = let t = let-through binary32 (raised f b +ℤ pos (v .binade)) o in number-value binary32 (signOf binary32 b) v (raised f b) v-bits (t .0) (t .1) (t .2) (t .3)
+
+  y-normal : Normal binary32 (toBits binary32 y)
+  y-normal = let t = let-through binary32 (raised f b +ℤ pos (v .binade)) o in number-normal binary32 (signOf binary32 b) v (raised f b) v-bits (t .0) (t .1) (t .2) (t .3)
+
+  abbrev Ends : Fraction → Type 0
+  Ends C = Between (contextOf f) (lowerOf f) (upperOf f) C
+
+  above-zero : (C : Fraction) → Ends C → 0 < C .num
+  above-zero C k = between-positive (contextOf f) (lowerOf f) (upperOf f) (le-trans (pow-pos (contextOf f .E)) (sound .lower-end .from)) C k
+
+  to : (C : Fraction) → Ends C → Gives (contextOf f) X v C → GivesNumber f b y C
+  to C k g = to-reading f b v y y-value C (above-zero C k) (k .some) (k .sign) (subst (λ (m : ℕ). Same (RN (contextOf f .rule) m (times C (argument m X))) (valueOf m v)) n g)
+
+  from : (C : Fraction) → Ends C → GivesNumber f b y C → Gives (contextOf f) X v C
+  from C k g = subst (λ (m : ℕ). Same (RN (contextOf f .rule) m (times C (argument m X))) (valueOf m v)) (sym n) (from-reading f b v y y-value C (above-zero C k) (k .some) (k .sign) g)
+
+  tells : Tells f b (record { mark = markBy f X v; value = y })
+  tells =
+      record {
+        reading = λ x fit e. subst (λ (c : ℕ). Is x (readingAt c)) e (normal-value binary32 x fit (subst (Normal binary32) (sym e) (is-normal f b h nonzero)));
+        steps = λ i j y w. stored-steps f sound n X (significand-bits binary32 b) i j y w;
+        value = y-value;
+        normal = y-normal;
+        says = says-alike Ends (Gives (contextOf f) X v) (GivesNumber f b y) to from (markBy f X v) (mark-tells f sound X x-bits);
+        alone = λ m s. mark-alone f sound X x-bits m (says-alike Ends (GivesNumber f b y) (Gives (contextOf f) X v) from to m s);
+      }
+
+-- every answer to a reading tells the truth, whatever the factor and the reading
+pub reading-tells : (f : Factor) (x : Float) → AnswerTells f (toBits binary32 x) (applied f x)
+unfolding applied answered
+reading-tells f x = of-answer (AnswerTells f b) (conditions f b v) (numbered f b v) (λ k. tt) (λ h. go (zeroBits binary32 b) refl h)
+  where
+    b : ℕ
+    b = toBits binary32 x
+
+    v : Product
+    v = secondOf f b
+
+    go : (z : Bool) → zeroBits binary32 b ≡ z → NoneHolds (conditions f b v) → AnswerTells f b (accepted (numbered f b v))
+    go true z h = rw z (inl (refl, refl, refl))
+    go false z h =
+        let t = none-apart (unreadable f b) ((23, not (zeroBits binary32 b) && outside f b v) ∷ []) h in
+        let o : outside f b v ≡ false = rw z at (t .1 .0) in
+        rw z (inr (refl, tells f b (t .0) z o))
