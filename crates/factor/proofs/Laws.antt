@@ -10,7 +10,7 @@ use Rattle.rounding.specs.Round.{rounded}
 use Rattle.rounding.specs.RoundLaws.{shifted, rounded-same, rounded-scale}
 use Rattle.rounding.specs.Signed.{negative, signedOf, roundedSigned}
 use Rattle.factor.specs.Context.{Context, Fine}
-use Rattle.factor.specs.Whole.{partsFrom}
+use Rattle.factor.specs.UnitParts.{partsFrom}
 use Rattle.factor.specs.LowForm.{low-form}
 
 -- a - (b + a) is - b

@@ -15,11 +15,11 @@ use Rattle.rounding.specs.GridLaws.{nearest-mono}
 use Rattle.rounding.specs.Unit.{rn}
 use Rattle.rounding.specs.UnitLaws.{rn-mono, rn-scale-whole, rn-whole-small, rn-fixed}
 use Rattle.rounding.specs.Fraction.{Fraction, less, RN, Same}
-use Rattle.rounding.specs.FractionLaws.{Counts, RN-counts, RN-counts-fraction, less-counts, counts-finer, counts-same}
+use Rattle.rounding.specs.FractionLaws.{InUnits, RN-in-units, RN-in-units-fraction, less-in-units, units-finer, units-same}
 use Rattle.factor.specs.Context.{Context, Fine}
 use Rattle.factor.specs.Parts.{highPart, lowPart, partsAt}
-use Rattle.factor.specs.Whole.{End, Whole, step, plusOrMinus, whole, worth, wholeOf}
-use Rattle.factor.specs.PartsLaws.{top-is, width-is, worth-near, high-counts, low-counts, rn-high, whole-of-parts}
+use Rattle.factor.specs.UnitParts.{End, UnitParts, step, plusOrMinus, unitParts, worth, unitPartsOf}
+use Rattle.factor.specs.PartsLaws.{top-is, width-is, worth-near, high-in-units, low-in-units, rn-high, units-of-parts}
 
 -- a fraction C with L ≤ C * 2 ^ E ≤ U
 pub record Between (K : Context) (L U : ℕ) (C : Fraction) : Type 0 where
@@ -40,13 +40,13 @@ module _ (K : Context) (ok : Fine K) (L U : ℕ) (le : End K L) (ue : End K U) (
   open Context K using (rule, n, E)
   open Fine ok using (some as P, room as F)
 
-  pub whole-same : whole K L ≡ whole K U
-  whole-same = whole-of-parts K ok L le ∙ ap (wholeOf K) same ∙ sym (whole-of-parts K ok U ue)
+  pub unit-parts-same : unitParts K L ≡ unitParts K U
+  unit-parts-same = units-of-parts K ok L le ∙ ap (unitPartsOf K) same ∙ sym (units-of-parts K ok U ue)
 
   -- ---- the ends are close
   pub close : U ≤ L + 2 ^ (E - 2 * n)
   close =
-      let e = ap (worth K) whole-same in
+      let e = ap (worth K) unit-parts-same in
       omega (arith, worth-near K ok L le .0, worth-near K ok L le .1, worth-near K ok U ue .0, worth-near K ok U ue .1)
 
   -- D ≤ W
@@ -60,8 +60,8 @@ module _ (K : Context) (ok : Fine K) (L U : ℕ) (le : End K L) (ue : End K U) (
 
   -- ---- a fraction between them, num / den of the unit 2 ^ - E
   module _ (num den : ℕ) (d : 0 < den) (l : L * den ≤ num) (u : num ≤ U * den) where
-    abbrev p : Whole
-    p = whole K L
+    abbrev p : UnitParts
+    p = unitParts K L
 
     abbrev t : ℕ
     t = p .high * step K
@@ -70,16 +70,16 @@ module _ (K : Context) (ok : Fine K) (L U : ℕ) (le : End K L) (ue : End K U) (
     high-between : rn rule n num den ≡ t
     high-between =
         le-antisymm
-        (le-trans (rn-mono rule n P num den U 1 d (omega arith) (omega arith)) (le-of-eq (rn-high K ok U ue ∙ ap (λ (w : Whole). w .high * step K) (sym whole-same))))
+        (le-trans (rn-mono rule n P num den U 1 d (omega arith) (omega arith)) (le-of-eq (rn-high K ok U ue ∙ ap (λ (w : UnitParts). w .high * step K) (sym unit-parts-same))))
         (le-trans (le-of-eq (sym (rn-high K ok L le))) (rn-mono rule n P L 1 num den (omega arith) d (omega arith)))
 
     minus-U : ltb U t ≡ p .minus
-    unfolding whole
-    minus-U = ap (λ (w : Whole). ltb U (w .high * step K)) whole-same ∙ sym (ap (λ (w : Whole). w .minus) whole-same)
+    unfolding unitParts
+    minus-U = ap (λ (w : UnitParts). ltb U (w .high * step K)) unit-parts-same ∙ sym (ap (λ (w : UnitParts). w .minus) unit-parts-same)
 
     low-U : rn rule n (apart U t) 1 ≡ p .low
-    unfolding whole
-    low-U = ap (λ (w : Whole). rn rule n (apart U (w .high * step K)) 1) whole-same ∙ sym (ap (λ (w : Whole). w .low) whole-same)
+    unfolding unitParts
+    low-U = ap (λ (w : UnitParts). rn rule n (apart U (w .high * step K)) 1) unit-parts-same ∙ sym (ap (λ (w : UnitParts). w .low) unit-parts-same)
 
     -- in a finer unit, 2 ^ - (E + s)
     scaled : (a b e f s : ℕ) → 0 < e → 0 < f → a * f ≤ b * e → rn rule n (a * 2 ^ s) e ≤ rn rule n (b * 2 ^ s) f
@@ -122,11 +122,11 @@ module _ (K : Context) (ok : Fine K) (L U : ℕ) (le : End K L) (ue : End K U) (
         nearer v y = let e : t + apart L t ≡ L = omega arith in omega (arith, ap (λ (z : ℕ). z * den) e)
 
     minus-between : ltb num (t * den) ≡ p .minus
-    unfolding whole
+    unfolding unitParts
     minus-between = by-sign (ltb L t) refl minus-U 0 .0
 
     low-between : (s : ℕ) → rn rule n (apart num (t * den) * 2 ^ s) den ≡ p .low * 2 ^ s
-    unfolding whole
+    unfolding unitParts
     low-between s = by-sign (ltb L t) refl minus-U s .1 refl
 
   -- ---- Ch is RN(C) and Cl is RN(C - Ch) for every fraction C between the ends
@@ -137,39 +137,39 @@ module _ (K : Context) (ok : Fine K) (L U : ℕ) (le : End K L) (ue : End K U) (
     abbrev D : ℕ
     D = C .den
 
-    C-counts : Counts (2 ^ E * D) false N C
-    C-counts = record { unit = mul-pos (pow-pos E) (k .some); some = k .some; sign = k .sign; count = omega arith }
+    C-in-units : InUnits (2 ^ E * D) false N C
+    C-in-units = record { unit = mul-pos (pow-pos E) (k .some); some = k .some; sign = k .sign; count = omega arith }
 
     fine : 2 ^ n * D ≤ 2 * N
     fine =
         let w : 2 ^ n ≤ 2 ^ E = pow-mono {i = n} {j = E} (omega arith) in
         omega (arith, k .least, mul-le-mul-right D (le .from), mul-le-mul-right D w)
 
-    high-counts-C : Counts (2 ^ E) false (p N D (k .some) (k .least) (k .most) .high * step K) (RN rule n C)
-    high-counts-C = subst (λ (z : ℕ). Counts (2 ^ E) false z (RN rule n C)) (high-between N D (k .some) (k .least) (k .most)) (RN-counts-fraction rule n P E D false N C (k .some) fine C-counts)
+    high-in-units-C : InUnits (2 ^ E) false (p N D (k .some) (k .least) (k .most) .high * step K) (RN rule n C)
+    high-in-units-C = subst (λ (z : ℕ). InUnits (2 ^ E) false z (RN rule n C)) (high-between N D (k .some) (k .least) (k .most)) (RN-in-units-fraction rule n P E D false N C (k .some) fine C-in-units)
 
     pub high-everywhere : Same (RN rule n C) (highPart K L)
-    high-everywhere = counts-same (2 ^ E) false (whole K L .high * step K) (RN rule n C) (highPart K L) high-counts-C (high-counts K ok L le)
+    high-everywhere = units-same (2 ^ E) false (unitParts K L .high * step K) (RN rule n C) (highPart K L) high-in-units-C (high-in-units K ok L le)
 
     abbrev T : ℕ
-    T = whole K L .high * step K
+    T = unitParts K L .high * step K
 
     abbrev A : ℕ
     A = apart N (T * D)
 
     abbrev m : Bool
-    m = whole K L .minus
+    m = unitParts K L .minus
 
     abbrev l : ℕ
-    l = whole K L .low
+    l = unitParts K L .low
 
     abbrev rest-C : Fraction
     rest-C = less C (RN rule n C)
 
-    pub rest-counts-C : Counts (2 ^ E * D) m A rest-C
-    rest-counts-C =
-        subst (λ (b : Bool). Counts (2 ^ E * D) b A rest-C) (minus-between N D (k .some) (k .least) (k .most))
-        (less-counts (2 ^ E * D) N (T * D) C (RN rule n C) C-counts (counts-finer (2 ^ E) D (k .some) false T (RN rule n C) high-counts-C))
+    pub rest-in-units-C : InUnits (2 ^ E * D) m A rest-C
+    rest-in-units-C =
+        subst (λ (b : Bool). InUnits (2 ^ E * D) b A rest-C) (minus-between N D (k .some) (k .least) (k .most))
+        (less-in-units (2 ^ E * D) N (T * D) C (RN rule n C) C-in-units (units-finer (2 ^ E) D (k .some) false T (RN rule n C) high-in-units-C))
 
     low-is : (s : ℕ) → rn rule n (A * 2 ^ s) D ≡ l * 2 ^ s
     low-is = low-between N D (k .some) (k .least) (k .most)
@@ -177,22 +177,22 @@ module _ (K : Context) (ok : Fine K) (L U : ℕ) (le : End K L) (ue : End K U) (
     -- C is Ch
     none-left : A ≡ 0 → Same (RN rule n rest-C) (lowPart K L)
     none-left e =
-        let c = rest-counts-C in
+        let c = rest-in-units-C in
         let z : rest-C .num ≡ 0 = eq-of-mul-eq-mul-right (2 ^ E * D) (c .unit) (rest-C .num) 0 (omega (arith, c .count, ap (λ (x : ℕ). x * rest-C .den) e)) in
-        let a : Counts (2 ^ E) m 0 rest-C = record { unit = pow-pos E; some = c .some; sign = c .sign; count = ap (λ (x : ℕ). x * 2 ^ E) z ∙ omega arith } in
+        let a : InUnits (2 ^ E) m 0 rest-C = record { unit = pow-pos E; some = c .some; sign = c .sign; count = ap (λ (x : ℕ). x * 2 ^ E) z ∙ omega arith } in
         let w : rn rule n (A * 2 ^ 0) D ≡ 0 * 2 ^ 0 = ap (λ (x : ℕ). rn rule n x D) (omega arith) ∙ rn-fixed rule n P 0 0 D (k .some) (omega arith) in
         let b : l ≡ rn rule n 0 1 = omega (arith, low-is 0, w, rn-whole-small rule n P 0 (omega arith)) in
-        counts-same (2 ^ E) m l (RN rule n rest-C) (lowPart K L) (subst (λ (x : ℕ). Counts (2 ^ E) m x (RN rule n rest-C)) (sym b) (RN-counts rule n P E m 0 rest-C a)) (low-counts K ok L le)
+        units-same (2 ^ E) m l (RN rule n rest-C) (lowPart K L) (subst (λ (x : ℕ). InUnits (2 ^ E) m x (RN rule n rest-C)) (sym b) (RN-in-units rule n P E m 0 rest-C a)) (low-in-units K ok L le)
 
     some-left : 0 < A → Same (RN rule n rest-C) (lowPart K L)
     some-left h =
         let s = n + size D in
         let w : 2 ^ E * D * 2 ^ s ≡ 2 ^ (E + s) * D = omega (arith, ap (λ (x : ℕ). x * D) (pow-add 2 E s)) in
-        let a : Counts (2 ^ (E + s) * D) m (A * 2 ^ s) rest-C = subst (λ (x : ℕ). Counts x m (A * 2 ^ s) rest-C) w (counts-finer (2 ^ E * D) (2 ^ s) (pow-pos s) m A rest-C rest-counts-C) in
+        let a : InUnits (2 ^ (E + s) * D) m (A * 2 ^ s) rest-C = subst (λ (x : ℕ). InUnits x m (A * 2 ^ s) rest-C) w (units-finer (2 ^ E * D) (2 ^ s) (pow-pos s) m A rest-C rest-in-units-C) in
         let g : 2 ^ n * D ≤ 2 * (A * 2 ^ s) = omega (arith, mul-le-mul-left (2 ^ n) (le-of-lt (size-lt D)), pow-add 2 n (size D), mul-le-mul-right (2 ^ s) h) in
-        let b : Counts (2 ^ (E + s)) m (l * 2 ^ s) (RN rule n rest-C) = subst (λ (x : ℕ). Counts (2 ^ (E + s)) m x (RN rule n rest-C)) (low-is s) (RN-counts-fraction rule n P (E + s) D m (A * 2 ^ s) rest-C (k .some) g a) in
-        let c : Counts (2 ^ (E + s)) m (l * 2 ^ s) (lowPart K L) = subst (λ (x : ℕ). Counts x m (l * 2 ^ s) (lowPart K L)) (sym (pow-add 2 E s)) (counts-finer (2 ^ E) (2 ^ s) (pow-pos s) m l (lowPart K L) (low-counts K ok L le)) in
-        counts-same (2 ^ (E + s)) m (l * 2 ^ s) (RN rule n rest-C) (lowPart K L) b c
+        let b : InUnits (2 ^ (E + s)) m (l * 2 ^ s) (RN rule n rest-C) = subst (λ (x : ℕ). InUnits (2 ^ (E + s)) m x (RN rule n rest-C)) (low-is s) (RN-in-units-fraction rule n P (E + s) D m (A * 2 ^ s) rest-C (k .some) g a) in
+        let c : InUnits (2 ^ (E + s)) m (l * 2 ^ s) (lowPart K L) = subst (λ (x : ℕ). InUnits x m (l * 2 ^ s) (lowPart K L)) (sym (pow-add 2 E s)) (units-finer (2 ^ E) (2 ^ s) (pow-pos s) m l (lowPart K L) (low-in-units K ok L le)) in
+        units-same (2 ^ (E + s)) m (l * 2 ^ s) (RN rule n rest-C) (lowPart K L) b c
 
     pub low-everywhere : Same (RN rule n rest-C) (lowPart K L)
     low-everywhere = go (decLe A 0)
@@ -205,15 +205,15 @@ module _ (K : Context) (ok : Fine K) (L U : ℕ) (le : End K L) (ue : End K U) (
 module _ (K : Context) (P : 0 < K .n) (a b : ℕ) (ab : a ≤ b) where
   open Context K using (rule, n, E)
 
-  pub high-mono : whole K a .high ≤ whole K b .high
-  unfolding whole
+  pub high-mono : unitParts K a .high ≤ unitParts K b .high
+  unfolding unitParts
   high-mono = nearest-mono rule a (step K) b (step K) (pow-pos (E + 1 - n)) (pow-pos (E + 1 - n)) (mul-le-mul-right (step K) ab)
 
-  pub low-mono : whole K a .high ≡ whole K b .high → worth K (whole K a) ≤ worth K (whole K b)
-  unfolding whole
+  pub low-mono : unitParts K a .high ≡ unitParts K b .high → worth K (unitParts K a) ≤ worth K (unitParts K b)
+  unfolding unitParts
   low-mono e =
-      let t = whole K a .high * step K in
-      subst (λ (h : ℕ). worth K (whole K a) ≤ plusOrMinus (ltb b (h * step K)) (h * step K) (rn rule n (apart b (h * step K)) 1)) e (go t (ltb a t) (ltb b t) refl refl)
+      let t = unitParts K a .high * step K in
+      subst (λ (h : ℕ). worth K (unitParts K a) ≤ plusOrMinus (ltb b (h * step K)) (h * step K) (rn rule n (apart b (h * step K)) 1)) e (go t (ltb a t) (ltb b t) refl refl)
     where
       round-mono : (x y : ℕ) → x ≤ y → rn rule n x 1 ≤ rn rule n y 1
       round-mono x y h = rn-mono rule n P x 1 y 1 (omega arith) (omega arith) (omega arith)

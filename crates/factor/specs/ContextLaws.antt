@@ -2,12 +2,12 @@
 use mathlib.Core.Path.{refl}
 use Prim.Native.Nat.{ℕ, _≤_}
 use native.Mathlib.Omega.{arith}
-use Rattle.factor.specs.Precision.{leastPrecision, mostPrecision, scaleOf, Kept}
+use Rattle.factor.specs.Precision.{leastPrecision, mostPrecision, scaleOf, ValidPrecision}
 use Rattle.factor.specs.Context.{Fine, contextAt}
 
-pub kept-of : {n : ℕ} → leastPrecision ≤ n → n ≤ mostPrecision → Kept n
+pub valid-of : {n : ℕ} → leastPrecision ≤ n → n ≤ mostPrecision → ValidPrecision n
 unfolding scaleOf
-kept-of a b = record { least = a; most = b; scale = refl }
+valid-of a b = record { least = a; most = b; scale = refl }
 
-pub fine-at : {n : ℕ} → Kept n → Fine (contextAt n)
+pub fine-at : {n : ℕ} → ValidPrecision n → Fine (contextAt n)
 fine-at k = record { some = omega arith; room = omega arith }

@@ -3,7 +3,7 @@ pub mod Precision
 pub mod Context
 pub mod ContextLaws
 pub mod Parts
-pub mod Whole
+pub mod UnitParts
 pub mod LowForm
 pub mod PartsLaws
 pub mod Accepted

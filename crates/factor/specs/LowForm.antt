@@ -15,7 +15,7 @@ use Rattle.rounding.specs.RoundLaws.{HasBits, rounded-bits, rounded-whole}
 use Rattle.rounding.specs.Signed.{negative, signedOf}
 use Rattle.factor.specs.declared.Parts.{Parts}
 use Rattle.factor.specs.Context.{Context, Fine}
-use Rattle.factor.specs.Whole.{partsFrom}
+use Rattle.factor.specs.UnitParts.{partsFrom}
 
 -- ---- sign and size
 pub size-of : (b : Bool) (m : ℕ) → natAbs (signedOf b m) ≡ m

@@ -18,14 +18,14 @@ use Rattle.rounding.specs.declared.Rounded.{Rounded}
 use Rattle.rounding.specs.Round.{rounded}
 use Rattle.rounding.specs.RoundLaws.{rounded-same}
 use Rattle.rounding.specs.Fraction.{over}
-use Rattle.rounding.specs.FractionLaws.{Counts, over-counts, RN-counts, less-counts}
+use Rattle.rounding.specs.FractionLaws.{InUnits, over-in-units, RN-in-units, less-in-units}
 use Rattle.rounding.specs.Signed.{negative, signedOf}
 use Rattle.factor.specs.declared.Parts.{Parts}
 pub use Rattle.factor.specs.LowForm.{top-is, width-is}
 use Rattle.factor.specs.LowForm.{size-of, sign-of, keep-sign, Tells, from-tells}
 use Rattle.factor.specs.Context.{Context, Fine}
 use Rattle.factor.specs.Parts.{highPart, rest, lowPart, partsAt}
-use Rattle.factor.specs.Whole.{End, Whole, step, plusOrMinus, whole, worth, wholeOf, partsFrom}
+use Rattle.factor.specs.UnitParts.{End, UnitParts, step, plusOrMinus, unitParts, worth, unitPartsOf, partsFrom}
 
 -- ---- the powers of two: W = 2 ^ (E - n) is half a step
 module _ (K : Context) (ok : Fine K) where
@@ -51,20 +51,20 @@ module _ (K : Context) (ok : Fine K) (c : ℕ) (ce : End K c) where
   abbrev Q : ℕ
   Q = 2 ^ (E - 2 * n)
 
-  abbrev p : Whole
-  p = whole K c
+  abbrev p : UnitParts
+  p = unitParts K c
 
   pub high-most : p .high ≤ 2 ^ n
-  unfolding whole
+  unfolding unitParts
   high-most = nearest-le rule c G (2 ^ n) (pow-pos (E + 1 - n)) (omega (arith, ce .to, ap (λ (z : ℕ). 2 ^ n * z) (step-is K ok), top-is K ok, pow-succ' 2 E))
 
   pub high-least : 2 ^ (n - 1) ≤ p .high
-  unfolding whole
+  unfolding unitParts
   high-least = nearest-ge rule c G (2 ^ (n - 1)) (pow-pos (E + 1 - n)) (omega (arith, ce .from, bottom-is K ok))
 
   -- |C - Ch| is at most 2 ^ - n
   pub high-near : (c ≤ p .high * G + W) × (p .high * G ≤ c + W)
-  unfolding whole
+  unfolding unitParts
   high-near = let r = nearest-is rule c G (pow-pos (E + 1 - n)) in let s = step-is K ok in (omega (arith, r .high), omega (arith, r .low))
 
   pub rest-le : apart c (p .high * G) ≤ W
@@ -74,13 +74,13 @@ module _ (K : Context) (ok : Fine K) (c : ℕ) (ce : End K c) where
   high-from = omega (arith, mul-le-mul-right G high-least, bottom-is K ok)
 
   pub low-most : p .low ≤ W
-  unfolding whole
+  unfolding unitParts
   low-most =
       le-trans (rn-le rule n P (apart c (p .high * G)) 1 (2 ^ n) (E - 2 * n) (omega arith) (le-of-eq refl) (omega (arith, rest-le, width-is K ok))) (le-of-eq (sym (width-is K ok)))
 
   -- Cl is within 2 ^ - (2 * n + 1) of C - Ch
   pub low-near : (2 * p .low ≤ 2 * apart c (p .high * G) + Q) × (2 * apart c (p .high * G) ≤ 2 * p .low + Q)
-  unfolding whole
+  unfolding unitParts
   low-near =
       let r = rn-error rule n P (apart c (p .high * G)) 1 (E - 2 * n) (omega arith) (omega (arith, rest-le, width-is K ok, pow-add 2 n (E - 2 * n))) in
       (omega (arith, r .0), omega (arith, r .1))
@@ -90,7 +90,7 @@ module _ (K : Context) (ok : Fine K) (c : ℕ) (ce : End K c) where
 
   -- so Ch + Cl is within 2 ^ - (2 * n + 1) of C
   pub worth-near : (2 * worth K p ≤ 2 * c + Q) × (2 * c ≤ 2 * worth K p + Q)
-  unfolding whole
+  unfolding unitParts
   worth-near = go (ltb c (p .high * G)) refl
     where
       go : (b : Bool) → ltb c (p .high * G) ≡ b → (2 * plusOrMinus b (p .high * G) (p .low) ≤ 2 * c + Q) × (2 * c ≤ 2 * plusOrMinus b (p .high * G) (p .low) + Q)
@@ -106,29 +106,29 @@ module _ (K : Context) (ok : Fine K) (c : ℕ) (ce : End K c) where
 
   -- ---- these are document 01's parts
   pub rn-high : rn rule n c 1 ≡ p .high * G
-  unfolding whole
+  unfolding unitParts
   rn-high =
       let k = E + 1 - n in
       let a : 2 ^ (n + k) ≡ 2 * 2 ^ E = ap (λ (z : ℕ). 2 ^ z) (omega arith) ∙ pow-succ' 2 E in
       rn-at rule n P c 1 k (omega arith) (omega (arith, ce .from)) (omega (arith, ce .to, pow-succ' 2 E)) ∙ ap (λ (z : ℕ). nearest rule c z * 2 ^ k) (omega arith)
 
-  pub high-counts : Counts (2 ^ E) false (p .high * G) (highPart K c)
-  high-counts = subst (λ (z : ℕ). Counts (2 ^ E) false z (highPart K c)) rn-high (RN-counts rule n P E false c (over c E) (over-counts c E))
+  pub high-in-units : InUnits (2 ^ E) false (p .high * G) (highPart K c)
+  high-in-units = subst (λ (z : ℕ). InUnits (2 ^ E) false z (highPart K c)) rn-high (RN-in-units rule n P E false c (over c E) (over-in-units c E))
 
-  pub rest-counts : Counts (2 ^ E) (p .minus) (apart c (p .high * G)) (rest K c)
-  unfolding whole
-  rest-counts = less-counts (2 ^ E) c (p .high * G) (over c E) (highPart K c) (over-counts c E) high-counts
+  pub rest-in-units : InUnits (2 ^ E) (p .minus) (apart c (p .high * G)) (rest K c)
+  unfolding unitParts
+  rest-in-units = less-in-units (2 ^ E) c (p .high * G) (over c E) (highPart K c) (over-in-units c E) high-in-units
 
-  pub low-counts : Counts (2 ^ E) (p .minus) (p .low) (lowPart K c)
-  unfolding whole
-  low-counts = RN-counts rule n P E (p .minus) (apart c (p .high * G)) (rest K c) rest-counts
+  pub low-in-units : InUnits (2 ^ E) (p .minus) (p .low) (lowPart K c)
+  unfolding unitParts
+  low-in-units = RN-in-units rule n P E (p .minus) (apart c (p .high * G)) (rest K c) rest-in-units
 
   -- ---- the high significand
   pub high-is : partsAt K c .high ≡ p .high
   unfolding partsAt
   high-is =
       let x = highPart K c in
-      let k = high-counts in
+      let k = high-in-units in
       let b = bottom-is K ok in
       let e : x .num * 2 ^ (n - 1) ≡ p .high * x .den = eq-of-mul-eq-mul-right G (pow-pos (E + 1 - n)) (x .num * 2 ^ (n - 1)) (p .high * x .den) (omega (arith, k .count, ap (λ (z : ℕ). x .num * z) b)) in
       ap (λ (z : ℕ). z / x .den) e ∙ mul-div-cancel (p .high) (k .some)
@@ -145,7 +145,7 @@ module _ (K : Context) (ok : Fine K) (c : ℕ) (ce : End K c) where
   unfolding partsAt partsFrom
   parts-from =
       let d = rest K c in
-      let k = rest-counts in
+      let k = rest-in-units in
       let r : rounded rule n (d .num) (d .den) ≡ rounded rule n R (2 ^ E) = rounded-same rule n P (d .num) (d .den) R (2 ^ E) (k .some) (pow-pos E) (k .count) in
       let size : R ≡ natAbs (signedOf (p .minus) R) = sym (size-of (p .minus) R) in
       let t : rounded rule n (d .num) (d .den) ≡ rounded rule n (natAbs (signedOf (p .minus) R)) (2 ^ E) = r ∙ ap (λ (z : ℕ). rounded rule n z (2 ^ E)) size in
@@ -156,7 +156,7 @@ module _ (K : Context) (ok : Fine K) (c : ℕ) (ce : End K c) where
       λ i. record { high = high-is i; low = low i; places = natAbs (t i .exponent) }
 
   rest-size : p .low ≡ rn rule n (natAbs (signedOf (p .minus) R)) 1
-  unfolding whole
+  unfolding unitParts
   rest-size = ap (λ (z : ℕ). rn rule n z 1) (sym (size-of (p .minus) R))
 
   rest-bound : natAbs (signedOf (p .minus) R) ≤ W
@@ -164,7 +164,7 @@ module _ (K : Context) (ok : Fine K) (c : ℕ) (ce : End K c) where
 
   -- no rest is not negative
   sign-is : p .minus ≡ negative (signedOf (p .minus) R)
-  unfolding whole
+  unfolding unitParts
   sign-is = go (ltb c (p .high * G)) refl
     where
       go : (b : Bool) → ltb c (p .high * G) ≡ b → b ≡ negative (signedOf b R)
@@ -172,12 +172,12 @@ module _ (K : Context) (ok : Fine K) (c : ℕ) (ce : End K c) where
       go false e = refl
 
   -- so the parts that are kept tell the whole numbers
-  pub whole-of-parts : p ≡ wholeOf K s
-  whole-of-parts =
+  pub units-of-parts : p ≡ unitPartsOf K s
+  units-of-parts =
       let f = from-tells K ok (p .high) (signedOf (p .minus) R) rest-bound in
-      join p (partsFrom K (p .high) (signedOf (p .minus) R)) (f .high) (sign-is ∙ f .sign) (rest-size ∙ f .size) ∙ ap (wholeOf K) (sym parts-from)
+      join p (partsFrom K (p .high) (signedOf (p .minus) R)) (f .high) (sign-is ∙ f .sign) (rest-size ∙ f .size) ∙ ap (unitPartsOf K) (sym parts-from)
     where
-      join : (x : Whole) (y : Parts) → y .high ≡ x .high → x .minus ≡ negative (y .low) → x .low ≡ natAbs (y .low) * 2 ^ E / 2 ^ y .places → x ≡ wholeOf K y
+      join : (x : UnitParts) (y : Parts) → y .high ≡ x .high → x .minus ≡ negative (y .low) → x .low ≡ natAbs (y .low) * 2 ^ E / 2 ^ y .places → x ≡ unitPartsOf K y
       join x y a b d i = record { high = sym a i; minus = b i; low = d i }
 
   -- s / 2 ^ places is the low part

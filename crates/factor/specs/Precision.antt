@@ -9,7 +9,7 @@ use Rattle.factor.specs.declared.Precision.{Precision}
 use Rattle.factor.specs.declared.PrecisionAnswer.{PrecisionAnswer}
 use Rattle.factor.specs.declared.PrecisionAnswer.the-variants.{Accepted, Refused}
 
--- the scale E of the ends: an end c stands for c / 2 ^ E. It stays shut: its number is known from `Kept`
+-- the scale E of the ends: an end c stands for c / 2 ^ E. It stays shut: its number is known from `ValidPrecision`
 unfoldable pub scaleOf : ℕ → ℕ
 scaleOf n = 62
 
@@ -36,7 +36,7 @@ abbrev pub precisionOut : ℕ → Bool
 precisionOut n = ltb n leastPrecision || ltb mostPrecision n
 
 -- what is known of a precision that was accepted
-pub record Kept (n : ℕ) : Type 0 where
+pub record ValidPrecision (n : ℕ) : Type 0 where
   pub least : leastPrecision ≤ n
   pub most : n ≤ mostPrecision
   pub scale : scaleOf n ≡ 62

@@ -17,10 +17,10 @@ use Rattle.factor.specs.declared.Applied.{Applied}
 use Rattle.factor.specs.declared.Factor.{Factor}
 use Rattle.factor.specs.declared.SetUp.{SetUp}
 use Rattle.factor.specs.declared.SetUp.the-variants.{Accepted, Refused}
-use Rattle.factor.specs.Precision.{Kept, precisionOut}
+use Rattle.factor.specs.Precision.{ValidPrecision, precisionOut}
 use Rattle.factor.specs.Context.{Context, contextFor, contextOf, lowerOf, upperOf}
 use Rattle.factor.specs.Parts.{highPart, lowPart, partsAt}
-use Rattle.factor.specs.Whole.{End}
+use Rattle.factor.specs.UnitParts.{End}
 
 -- ---- the conditions
 -- 12: an end not 2 ^ E to 2 ^ (E + 1) - 1
@@ -105,7 +105,7 @@ intact f = given f (setUp (described f))
 
 -- ---- what is known of a factor that was accepted
 pub record Sound (f : Factor) : Type 0 where
-  pub precision : Kept (f .precision .bits)
+  pub precision : ValidPrecision (f .precision .bits)
   pub lower-end : End (contextOf f) (lowerOf f)
   pub upper-end : End (contextOf f) (upperOf f)
   pub ordered : lowerOf f ≤ upperOf f

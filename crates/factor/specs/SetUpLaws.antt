@@ -12,11 +12,11 @@ use Rattle.floats.specs.Fields.{sameFloat}
 use Rattle.factor.specs.declared.Description.{Description}
 use Rattle.factor.specs.declared.Parts.{Parts}
 use Rattle.factor.specs.declared.Factor.{Factor}
-use Rattle.factor.specs.Precision.{leastPrecision, mostPrecision, Kept, precisionOut}
+use Rattle.factor.specs.Precision.{leastPrecision, mostPrecision, ValidPrecision, precisionOut}
 use Rattle.factor.specs.Context.{Context, contextFor}
-use Rattle.factor.specs.ContextLaws.{kept-of}
+use Rattle.factor.specs.ContextLaws.{valid-of}
 use Rattle.factor.specs.Parts.{partsAt}
-use Rattle.factor.specs.Whole.{End}
+use Rattle.factor.specs.UnitParts.{End}
 use Rattle.factor.specs.SetUp.{endOut, sameHigh, sameZ, sameLow, appliedOf, factorOf, conditions, setUp, sameFactor, given, described, intact, Sound}
 
 -- ---- tests
@@ -42,8 +42,8 @@ pub end-in : (K : Context) (c : ℕ) → endOut K c ≡ false → End K c
 end-in K c e = let t = or-false (ltb c (2 ^ K .E)) (leb (2 ^ suc (K .E)) c) e in record { from = ltb-false c (2 ^ K .E) (t .0); to = leb-false (2 ^ suc (K .E)) c (t .1) }
 
 -- a precision that 11 lets through
-pub kept-in : (n : ℕ) → precisionOut n ≡ false → Kept n
-kept-in n e = let t = or-false (ltb n leastPrecision) (ltb mostPrecision n) e in kept-of (ltb-false n leastPrecision (t .0)) (ltb-false mostPrecision n (t .1))
+pub valid-in : (n : ℕ) → precisionOut n ≡ false → ValidPrecision n
+valid-in n e = let t = or-false (ltb n leastPrecision) (ltb mostPrecision n) e in valid-of (ltb-false n leastPrecision (t .0)) (ltb-false mostPrecision n (t .1))
 
 -- ---- set-up gave f
 pub setUp-sound : (d : Description) (f : Factor) → setUp d ≡ accepted f → (factorOf d ≡ f) × Sound (factorOf d)
@@ -57,7 +57,7 @@ setUp-sound d f e =
         let K = contextFor d in
         let ends = or-false (endOut K (d .lower)) (endOut K (d .upper)) (h .1 .0) in
         record {
-          precision = kept-in (d .precision) (h .0);
+          precision = valid-in (d .precision) (h .0);
           lower-end = end-in K (d .lower) (ends .0);
           upper-end = end-in K (d .upper) (ends .1);
           ordered = ltb-false (d .upper) (d .lower) (h .1 .1 .0);

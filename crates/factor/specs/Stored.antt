@@ -25,13 +25,13 @@ use Rattle.factor.specs.declared.Parts.{Parts}
 use Rattle.factor.specs.declared.Applied.{Applied}
 use Rattle.factor.specs.declared.Description.{Description}
 use Rattle.factor.specs.declared.Factor.{Factor}
-use Rattle.factor.specs.Precision.{Kept}
+use Rattle.factor.specs.Precision.{ValidPrecision}
 use Rattle.factor.specs.Context.{Context, Fine, contextAt, contextFor, contextOf, lowerOf}
 use Rattle.factor.specs.ContextLaws.{fine-at}
 use Rattle.factor.specs.Parts.{highPart, lowPart, partsAt}
-use Rattle.factor.specs.Whole.{End, whole, step}
+use Rattle.factor.specs.UnitParts.{End, unitParts, step}
 use Rattle.factor.specs.LowForm.{Tells}
-use Rattle.factor.specs.PartsLaws.{bottom-is, high-counts, high-is, high-least, high-most, low-counts, low-kept, low-tells, whole-of-parts}
+use Rattle.factor.specs.PartsLaws.{bottom-is, high-in-units, high-is, high-least, high-most, low-in-units, low-kept, low-tells, units-of-parts}
 use Rattle.factor.specs.SetUp.{floatIn, appliedOf, factorOf, setUp, described, intact, Sound}
 use Rattle.factor.specs.SetUpLaws.{setUp-sound, intact-accepted, intact-sound}
 
@@ -68,7 +68,7 @@ module _ (K : Context) (ok : Fine K) (c : ℕ) (ce : End K c) where
   pub high-over : highPart K c .num * 2 ^ (n - 1) ≡ p .high * highPart K c .den
   high-over =
       let x = highPart K c in
-      let k = high-counts K ok c ce in
+      let k = high-in-units K ok c ce in
       let b = bottom-is K ok in
       eq-of-mul-eq-mul-right (step K) (pow-pos (E + 1 - n)) (x .num * 2 ^ (n - 1)) (p .high * x .den)
       (omega (arith, k .count, ap (λ (z : ℕ). x .num * z) b, ap (λ (z : ℕ). z * step K * x .den) (high-is K ok c ce)))
@@ -77,21 +77,21 @@ module _ (K : Context) (ok : Fine K) (c : ℕ) (ce : End K c) where
   pub low-over : lowPart K c .num * 2 ^ p .places ≡ natAbs (p .low) * lowPart K c .den
   low-over =
       let x = lowPart K c in
-      let k = low-counts K ok c ce in
+      let k = low-in-units K ok c ce in
       eq-of-mul-eq-mul-right (2 ^ E) (pow-pos E) (x .num * 2 ^ p .places) (natAbs (p .low) * x .den)
       (omega (arith, ap (λ (z : ℕ). z * 2 ^ p .places) (k .count), ap (λ (z : ℕ). z * x .den) (low-kept K ok c ce)))
 
   pub low-sign : lowPart K c .minus ≡ negative (p .low)
-  low-sign = low-counts K ok c ce .sign ∙ ap (λ w. w .minus) (whole-of-parts K ok c ce)
+  low-sign = low-in-units K ok c ce .sign ∙ ap (λ w. w .minus) (units-of-parts K ok c ce)
 
   pub storable : Storable K p
   storable =
       let t = low-tells K ok c ce in
-      let z = natAbs (signedOf (whole K c .minus) (apart c (whole K c .high * step K))) in
+      let z = natAbs (signedOf (unitParts K c .minus) (apart c (unitParts K c .high * step K))) in
       let h = high-is K ok c ce in
       go (decLe z 0) t h
     where
-      go : {h l : ℕ} {z : ℤ} → Dec (natAbs z ≤ 0) → Tells K h z l p → p .high ≡ whole K c .high → Storable K p
+      go : {h l : ℕ} {z : ℤ} → Dec (natAbs z ≤ 0) → Tells K h z l p → p .high ≡ unitParts K c .high → Storable K p
       go (yes y) t h =
           let e = t .none (omega arith) in
           record {
@@ -112,8 +112,8 @@ pub record Held (f : Format) (K : Context) : Type 0 where
   pub short : K .n ≤ prec f
   pub near : K .E < emax f
 
-pub kept-held : {n : ℕ} → Kept n → Held binary32 (contextAt n)
-kept-held N = record { short = N .most; near = omega (arith, N .scale) }
+pub valid-held : {n : ℕ} → ValidPrecision n → Held binary32 (contextAt n)
+valid-held N = record { short = N .most; near = omega (arith, N .scale) }
 
 module _ (f : Format) (K : Context) (ok : Fine K) (held : Held f K) where
   open Context K using (n)
@@ -144,14 +144,14 @@ module _ (f : Format) (K : Context) (ok : Fine K) (held : Held f K) where
 
     pub high-from : floatIn f h ≡ highFrom f n (partsAt K c)
     high-from =
-        let k = high-counts K ok c ce in
+        let k = high-in-units K ok c ce in
         ap (λ (b : Bool). Ieee.round f b (h .num) (h .den)) (k .sign) ∙ round-same f false (h .num) (h .den) (partsAt K c .high) (2 ^ (n - 1)) (k .some) (pow-pos (n - 1)) (high-over K ok c ce)
 
     pub low-from : floatIn f l ≡ lowFrom f (partsAt K c)
     low-from =
         let p = partsAt K c in
         ap (λ (b : Bool). Ieee.round f b (l .num) (l .den)) (low-sign K ok c ce)
-        ∙ round-same f (negative (p .low)) (l .num) (l .den) (natAbs (p .low)) (2 ^ p .places) (low-counts K ok c ce .some) (pow-pos (p .places)) (low-over K ok c ce)
+        ∙ round-same f (negative (p .low)) (l .num) (l .den) (natAbs (p .low)) (2 ^ p .places) (low-in-units K ok c ce .some) (pow-pos (p .places)) (low-over K ok c ce)
 
     pub stored-high : HasValue (floatIn f h) false (h .num) (h .den)
     stored-high =
@@ -167,9 +167,9 @@ module _ (f : Format) (K : Context) (ok : Fine K) (held : Held f K) where
         (revalue (lowFrom f p) (negative (p .low)) (natAbs (p .low)) (2 ^ p .places) (l .num) (l .den) (pow-pos (p .places)) (sym (low-over K ok c ce)) (low-held p (storable K ok c ce))))
 
 -- ---- what set-up stores
-pub applied-from : (d : Description) → Kept (d .precision) → End (contextFor d) (d .lower) → appliedOf d ≡ appliedFrom (d .precision) (d .scale) (partsAt (contextFor d) (d .lower))
+pub applied-from : (d : Description) → ValidPrecision (d .precision) → End (contextFor d) (d .lower) → appliedOf d ≡ appliedFrom (d .precision) (d .scale) (partsAt (contextFor d) (d .lower))
 unfolding appliedOf
-applied-from d N ce = λ i. record { high = high-from binary32 (contextFor d) (fine-at N) (kept-held N) (d .lower) ce i; low = low-from binary32 (contextFor d) (fine-at N) (kept-held N) (d .lower) ce i; scale = d .scale }
+applied-from d N ce = λ i. record { high = high-from binary32 (contextFor d) (fine-at N) (valid-held N) (d .lower) ce i; low = low-from binary32 (contextFor d) (fine-at N) (valid-held N) (d .lower) ce i; scale = d .scale }
 
 -- they are numbers
 pub accepted-numbers : (d : Description) (f : Factor) → setUp d ≡ accepted f → T (not (isNan (f .applied .high))) × T (not (isNan (f .applied .low)))
@@ -177,7 +177,7 @@ accepted-numbers d f e =
     let t = setUp-sound d f e in
     let K = contextFor d in
     let fine = fine-at (t .1 .precision) in
-    let held = kept-held (t .1 .precision) in
+    let held = valid-held (t .1 .precision) in
     subst (λ (g : Factor). T (not (isNan (g .applied .high))) × T (not (isNan (g .applied .low)))) (t .0)
     (unfold appliedOf in (value-number _ _ _ _ (stored-high binary32 K fine held (d .lower) (t .1 .lower-end)), value-number _ _ _ _ (stored-low binary32 K fine held (d .lower) (t .1 .lower-end))))
 
@@ -204,7 +204,7 @@ module _ (f : Factor) (s : Sound f) where
   high-number h =
       let K = contextOf f in
       let ok = fine-at (s .precision) in
-      let held = kept-held (s .precision) in
+      let held = valid-held (s .precision) in
       let x = highPart K (lowerOf f) in
       let is = same-bits binary32 (f .applied .high) (floatIn binary32 x) h (round-fits binary32 (x .minus) (x .num) (x .den)) (s .high-stored) ∙ high-from binary32 K ok held (lowerOf f) (s .lower-end) ∙ ap (highFrom binary32 (K .n)) (sym (s .parts)) in
       subst (λ (z : Float). HasValue z false (f .parts .high) (2 ^ (f .precision .bits - 1))) (sym is) (high-held binary32 K ok held (f .parts) storable-parts)
@@ -214,7 +214,7 @@ module _ (f : Factor) (s : Sound f) where
   low-number h =
       let K = contextOf f in
       let ok = fine-at (s .precision) in
-      let held = kept-held (s .precision) in
+      let held = valid-held (s .precision) in
       let x = lowPart K (lowerOf f) in
       let is = same-bits binary32 (f .applied .low) (floatIn binary32 x) h (round-fits binary32 (x .minus) (x .num) (x .den)) (s .low-stored) ∙ low-from binary32 K ok held (lowerOf f) (s .lower-end) ∙ ap (lowFrom binary32) (sym (s .parts)) in
       subst (λ (z : Float). HasValue z (negative (f .parts .low)) (natAbs (f .parts .low)) (2 ^ f .parts .places)) (sym is) (low-held binary32 K ok held (f .parts) storable-parts)

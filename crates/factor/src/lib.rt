@@ -11,9 +11,9 @@ ghost use lib.IntN.{natAbs};
 ghost use Rattle.wide.specs.Value.{halfWord};
 ghost use Rattle.rounding.specs.Apart.{apart};
 ghost use Rattle.rounding.specs.Signed.{negative, signedOf};
-ghost use Rattle.factor.specs.Precision.{Kept, scaleOf, roundsOf, precisionOut, newPrecision, precisionSays, leastOf, mostOf};
+ghost use Rattle.factor.specs.Precision.{ValidPrecision, scaleOf, roundsOf, precisionOut, newPrecision, precisionSays, leastOf, mostOf};
 ghost use Rattle.factor.specs.Context.{contextAt};
-ghost use Rattle.factor.specs.Whole.{End, partsFrom};
+ghost use Rattle.factor.specs.UnitParts.{End, partsFrom};
 ghost use Rattle.factor.specs.Parts.{partsAt};
 ghost use Rattle.factor.specs.SetUp.{endOut, scaleOut, sameLow, sameApplied, sameFactor, setUp, outcomeOf, intact};
 ghost use Rattle.factor.specs.Stored.{LowStorable, Storable, appliedFrom};
@@ -97,7 +97,7 @@ impl Precision {
 
     // The least significand, 2 ^ (n - 1).
     pub fn least(self) -> u64
-        requires { ⌜ Kept (self .bits) ⌝ }
+        requires { ⌜ ValidPrecision (self .bits) ⌝ }
         ensures { λ r. ⌜ r ≡ leastOf (self .bits) ⌝ }
     {
         let n = self.bits;
@@ -106,7 +106,7 @@ impl Precision {
 
     // The largest significand, 2 ^ n - 1.
     pub fn most(self) -> u64
-        requires { ⌜ Kept (self .bits) ⌝ }
+        requires { ⌜ ValidPrecision (self .bits) ⌝ }
         ensures { λ r. ⌜ r ≡ mostOf (self .bits) ⌝ }
     {
         let n = self.bits;
@@ -115,7 +115,7 @@ impl Precision {
 
     // The scale E of the ends, which are whole numbers over 2 ^ E.
     pub fn scale(self) -> u32
-        requires { ⌜ Kept (self .bits) ⌝ }
+        requires { ⌜ ValidPrecision (self .bits) ⌝ }
         ensures { λ r. ⌜ r ≡ scaleOf (self .bits) ⌝ }
     {
         Precision::SCALE
@@ -123,7 +123,7 @@ impl Precision {
 
     // Digits dropped of a product below 2, counted in the unit 2 ^ - (E + n - 1).
     pub fn low_dropped(self) -> u32
-        requires { ⌜ Kept (self .bits) ⌝ }
+        requires { ⌜ ValidPrecision (self .bits) ⌝ }
         ensures { λ r. ⌜ r ≡ scaleOf (self .bits) ⌝ }
     {
         self.scale()
@@ -131,7 +131,7 @@ impl Precision {
 
     // And of one from 2 on.
     pub fn high_dropped(self) -> u32
-        requires { ⌜ Kept (self .bits) ⌝ }
+        requires { ⌜ ValidPrecision (self .bits) ⌝ }
         ensures { λ r. ⌜ r ≡ scaleOf (self .bits) + 1 ⌝ }
     {
         self.scale() + 1
@@ -139,7 +139,7 @@ impl Precision {
 
     // The least end, 2 ^ E, which stands for 1.
     pub fn least_end(self) -> u64
-        requires { ⌜ Kept (self .bits) ⌝ }
+        requires { ⌜ ValidPrecision (self .bits) ⌝ }
         ensures { λ r. ⌜ r ≡ 2 ^ scaleOf (self .bits) ⌝ }
     {
         wide::power(self.scale())
@@ -147,23 +147,23 @@ impl Precision {
 
     // The number past the largest end, 2 ^ (E + 1), which stands for 2.
     pub fn past_end(self) -> u64
-        requires { ⌜ Kept (self .bits) ⌝ }
+        requires { ⌜ ValidPrecision (self .bits) ⌝ }
         ensures { λ r. ⌜ r ≡ 2 ^ suc (scaleOf (self .bits)) ⌝ }
     {
         wide::power(self.high_dropped())
     }
 
     // The exponent of the high significand's step in the unit of the ends, E + 1 - n.
-    pub fn step(self) -> u32
-        requires { ⌜ Kept (self .bits) ⌝ }
+    pub fn step_exponent(self) -> u32
+        requires { ⌜ ValidPrecision (self .bits) ⌝ }
         ensures { λ r. ⌜ r ≡ scaleOf (self .bits) + 1 - self .bits ⌝ }
     {
         self.scale() + 1 - self.bits
     }
 
     // The exponent of the window W, E - n.
-    pub fn window(self) -> u32
-        requires { ⌜ Kept (self .bits) ⌝ }
+    pub fn window_exponent(self) -> u32
+        requires { ⌜ ValidPrecision (self .bits) ⌝ }
         ensures { λ r. ⌜ r ≡ scaleOf (self .bits) - self .bits ⌝ }
     {
         self.scale() - self.bits
@@ -190,7 +190,7 @@ fn rest_of(end: u64, whole: u64) -> i64
 
 // The parts from the high significand and the rest: the low part is the rest rounded, its exact sign kept.
 fn parts_from(p: Precision, high: u64, rest: i64) -> Parts
-    requires { ⌜ Kept (p .bits) × (natAbs rest ≤ 2 ^ (scaleOf (p .bits) - p .bits)) ⌝ }
+    requires { ⌜ ValidPrecision (p .bits) × (natAbs rest ≤ 2 ^ (scaleOf (p .bits) - p .bits)) ⌝ }
     ensures { λ r. ⌜ r ≡ partsFrom (contextAt (p .bits)) high rest ⌝ }
 {
     let n = p.bits;
@@ -212,10 +212,10 @@ fn parts_from(p: Precision, high: u64, rest: i64) -> Parts
 
 // The parts at one end.
 pub fn parts_at(p: Precision, end: u64) -> Parts
-    requires { ⌜ Kept (p .bits) × End (contextAt (p .bits)) end ⌝ }
+    requires { ⌜ ValidPrecision (p .bits) × End (contextAt (p .bits)) end ⌝ }
     ensures { λ r. ⌜ r ≡ partsAt (contextAt (p .bits)) end ⌝ }
 {
-    let k = p.step();
+    let k = p.step_exponent();
     let near = round::nearest_word(end, k, TieRule::ToEven);
     let high = near.taken;
     parts_from(p, high, rest_of(end, high << k))
@@ -223,7 +223,7 @@ pub fn parts_at(p: Precision, end: u64) -> Parts
 
 // The low part as a binary32 number; a zero low part is plus zero.
 fn low_float(n: u32, low: i64, places: u32) -> f32
-    requires { ⌜ Kept n × LowStorable (contextAt n) low places ⌝ }
+    requires { ⌜ ValidPrecision n × LowStorable (contextAt n) low places ⌝ }
     ensures { λ r. ⌜ r ≡ Ieee.round binary32 (negative low) (natAbs low) (2 ^ places) ⌝ }
 {
     let size = round::magnitude(low);
@@ -235,7 +235,7 @@ fn low_float(n: u32, low: i64, places: u32) -> f32
 
 // What a handheld applies, from the parts.
 fn stored_parts(p: Precision, parts: Parts, scale: i32) -> Applied
-    requires { ⌜ Kept (p .bits) × Storable (contextAt (p .bits)) parts ⌝ }
+    requires { ⌜ ValidPrecision (p .bits) × Storable (contextAt (p .bits)) parts ⌝ }
     ensures { λ r. ⌜ r ≡ appliedFrom (p .bits) scale parts ⌝ }
 {
     let n = p.bits;
@@ -246,7 +246,7 @@ fn stored_parts(p: Precision, parts: Parts, scale: i32) -> Applied
 
 // Refusal 12: an end not 2 ^ E to 2 ^ (E + 1) - 1.
 fn end_out(p: Precision, end: u64) -> bool
-    requires { ⌜ Kept (p .bits) ⌝ }
+    requires { ⌜ ValidPrecision (p .bits) ⌝ }
     ensures { λ r. ⌜ r ≡ endOut (contextAt (p .bits)) end ⌝ }
 {
     if end < p.least_end() {
@@ -277,7 +277,7 @@ fn same_low(p: Parts, q: Parts) -> bool
 
 // Refusal 12: one end or the other.
 fn ends_out(p: Precision, lower: u64, upper: u64) -> bool
-    requires { ⌜ Kept (p .bits) ⌝ }
+    requires { ⌜ ValidPrecision (p .bits) ⌝ }
     ensures { λ r. ⌜ r ≡ endOut (contextAt (p .bits)) lower || endOut (contextAt (p .bits)) upper ⌝ }
 {
     if end_out(p, lower) {

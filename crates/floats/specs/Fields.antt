@@ -10,11 +10,11 @@ use lib.Ieee.{Float, fin, Format, prec, emax, low, hid, ones, top, minus, toBits
 abbrev pub signOf : Format → ℕ → Bool
 signOf f b = leb (top f) b
 
-abbrev pub fieldOf : Format → ℕ → ℕ
-fieldOf f b = b % top f / hid f
+abbrev pub biasedExponent : Format → ℕ → ℕ
+biasedExponent f b = b % top f / hid f
 
-abbrev pub digitsOf : Format → ℕ → ℕ
-digitsOf f b = b % hid f
+abbrev pub trailingSignificand : Format → ℕ → ℕ
+trailingSignificand f b = b % hid f
 
 -- the pattern of a sign above the other bits
 abbrev pub signAbove : Format → Bool → ℕ → ℕ
@@ -30,28 +30,28 @@ sameFloat f x y = eqb (toBits f x) (toBits f y)
 
 -- ---- the classes
 -- infinite or NaN
-abbrev pub endless : Format → ℕ → Bool
-endless f b = eqb (fieldOf f b) (ones f)
+abbrev pub infiniteOrNaN : Format → ℕ → Bool
+infiniteOrNaN f b = eqb (biasedExponent f b) (ones f)
 
 -- zero, of either sign
 abbrev pub zeroBits : Format → ℕ → Bool
-zeroBits f b = eqb (fieldOf f b) 0 && eqb (digitsOf f b) 0
+zeroBits f b = eqb (biasedExponent f b) 0 && eqb (trailingSignificand f b) 0
 
 -- subnormal, zero not being one
 abbrev pub subnormal : Format → ℕ → Bool
-subnormal f b = eqb (fieldOf f b) 0 && not (eqb (digitsOf f b) 0)
+subnormal f b = eqb (biasedExponent f b) 0 && not (eqb (trailingSignificand f b) 0)
 
 -- normal: none of these
 pub record Normal (f : Format) (b : ℕ) : Type 0 where
-  pub from : 1 ≤ fieldOf f b
-  pub to : fieldOf f b < ones f
+  pub from : 1 ≤ biasedExponent f b
+  pub to : biasedExponent f b < ones f
 
 -- a normal number is significand / hid * 2 ^ exponent, with the sign: the significand is that of x in [1, 2)
 abbrev pub significandOf : Format → ℕ → ℕ
-significandOf f b = hid f + digitsOf f b
+significandOf f b = hid f + trailingSignificand f b
 
 abbrev pub exponentOf : Format → ℕ → ℤ
-exponentOf f b = minus (fieldOf f b) (emax f)
+exponentOf f b = minus (biasedExponent f b) (emax f)
 
 -- ---- the float of a sign, an exponent k and a significand m: m * 2 ^ k times the format's smallest positive value
 abbrev pub floatOf : Format → Bool → (k m : ℕ) → Float
@@ -74,14 +74,14 @@ pub record Narrow (f : Format) (n m q : ℕ) : Type 0 where
 
 -- ---- the size in units of 2 ^ d times the smallest positive value: of zero, or of a number that is whole in them (`units-value`)
 abbrev pub unitsOf : Format → (d b : ℕ) → ℕ
-unitsOf f d b = cond (eqb (b % top f) 0) 0 (significandOf f b * 2 ^ (fieldOf f b - suc d))
+unitsOf f d b = cond (eqb (b % top f) 0) 0 (significandOf f b * 2 ^ (biasedExponent f b - suc d))
 
 -- a product of l / 2 ^ E and X / hid is whole in the unit 2 ^ - (E + prec - 1): that is 2 ^ unitAt times the smallest positive value
 abbrev pub unitAt : Format → (E : ℕ) → ℕ
 unitAt f E = emax f - 1 - E
 
 -- what code asks to count it: it is finite, by its field whole in the unit, or zero, and its size below 2 ^ w
-pub record InUnits (f : Format) (w d b : ℕ) : Type 0 where
-  pub finite : fieldOf f b < ones f
-  pub from : 0 < b % top f → suc d ≤ fieldOf f b
-  pub to : fieldOf f b + prec f ≤ suc (w + d)
+pub record WholeInUnits (f : Format) (w d b : ℕ) : Type 0 where
+  pub finite : biasedExponent f b < ones f
+  pub from : 0 < b % top f → suc d ≤ biasedExponent f b
+  pub to : biasedExponent f b + prec f ≤ suc (w + d)

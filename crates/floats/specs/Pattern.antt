@@ -18,7 +18,7 @@ use borrow.Author.Tests.{le-leb, lt-leb, ne-eqb}
 use Rattle.rounding.specs.Digits.{pow-half}
 use Rattle.rounding.specs.Ieee.{round-itself, value-unique}
 use Rattle.rounding.specs.RoundLaws.{HasBits}
-use Rattle.floats.specs.Fields.{signOf, fieldOf, digitsOf, significandOf, signAbove, Normal, floatOf, Normalized}
+use Rattle.floats.specs.Fields.{signOf, biasedExponent, trailingSignificand, significandOf, signAbove, Normal, floatOf, Normalized}
 use Rattle.floats.specs.Numbers.{value-number}
 
 pub digits-some : (f : Format) → 0 < prec f
@@ -28,20 +28,20 @@ pub two-hid : (f : Format) → 2 ^ prec f ≡ 2 * hid f
 two-hid f = pow-half (prec f) (digits-some f)
 
 -- ---- a pattern by its fields
-pub fields-value : (f : Format) (b : ℕ) (s : Bool) (x t : ℕ) → signOf f b ≡ s → fieldOf f b ≡ suc x → digitsOf f b ≡ t → suc x < ones f → HasValue (ofBits f b) s ((hid f + t) * 2 ^ x) (2 ^ low f)
+pub fields-value : (f : Format) (b : ℕ) (s : Bool) (x t : ℕ) → signOf f b ≡ s → biasedExponent f b ≡ suc x → trailingSignificand f b ≡ t → suc x < ones f → HasValue (ofBits f b) s ((hid f + t) * 2 ^ x) (2 ^ low f)
 unfolding ofBits ofFields
 fields-value f b s x t p q r h = rw (p, q, r, ne-eqb (suc x) (ones f) (λ e. omega arith)) (odd-sign (prec f) s (hid f + t) x (low f))
 
 -- below the sign it is its field and its digits
-pub bits-split : (f : Format) (b : ℕ) → b % top f ≡ fieldOf f b * hid f + digitsOf f b
+pub bits-split : (f : Format) (b : ℕ) → b % top f ≡ biasedExponent f b * hid f + trailingSignificand f b
 bits-split f b =
     let H = pow-pos (prec f - 1) in
     let e : b % top f ≡ (b / hid f % suc (ones f)) * hid f + b % hid f = ap (λ (z : ℕ). b % z) (mul-comm (hid f) (suc (ones f))) ∙ mod-mul b (zero-lt-suc (ones f)) H in
     e ∙ ap (λ (z : ℕ). z * hid f + b % hid f) (sym (ap (λ (z : ℕ). z / hid f) e ∙ digits-div (b / hid f % suc (ones f)) (mod-lt b H)))
 
 -- no field is above that of the infinities
-pub field-most : (f : Format) (b : ℕ) → fieldOf f b < suc (ones f)
-field-most f b =
+pub biased-most : (f : Format) (b : ℕ) → biasedExponent f b < suc (ones f)
+biased-most f b =
     let H : 0 < hid f = pow-pos (prec f - 1) in
     div-lt-iff-lt-mul H .1 (subst (λ (z : ℕ). b % top f < z) (mul-comm (hid f) (suc (ones f))) (mod-lt b (mul-pos H (zero-lt-suc (ones f)))))
 
@@ -67,7 +67,7 @@ module _ (f : Format) (s : Bool) (F t : ℕ) (some : t < hid f) (few : F ≤ one
       go true = le-leb (top f) (top f + (F * hid f + t)) (omega arith)
       go false = lt-leb (top f) (F * hid f + t) below-top
 
-  field-is : fieldOf f b ≡ F
+  field-is : biasedExponent f b ≡ F
   field-is = ap (λ (z : ℕ). z / hid f) (go s) ∙ digits-div F some
     where
       one : (a c : ℕ) → a + c ≡ 1 * a + c
@@ -77,13 +77,13 @@ module _ (f : Format) (s : Bool) (F t : ℕ) (some : t < hid f) (few : F ≤ one
       go true = ap (λ (z : ℕ). z % top f) (one (top f) (F * hid f + t)) ∙ digits-mod 1 below-top
       go false = mod-eq-of-lt below-top
 
-  digits-is : digitsOf f b ≡ t
+  digits-is : trailingSignificand f b ≡ t
   digits-is = go s
     where
       joined : (h o F t : ℕ) → h * o + (F * h + t) ≡ (o + F) * h + t
       joined h o F t = omega arith
 
-      go : (s : Bool) → digitsOf f (signAbove f s (F * hid f + t)) ≡ t
+      go : (s : Bool) → trailingSignificand f (signAbove f s (F * hid f + t)) ≡ t
       go true = ap (λ (z : ℕ). z % hid f) (joined (hid f) (suc (ones f)) F t) ∙ digits-mod (suc (ones f) + F) some
       go false = digits-mod F some
 
@@ -137,13 +137,13 @@ module _ (f : Format) (s : Bool) (k m : ℕ) (n : Normalized f k m) where
   pattern-same : pattern ≡ signAbove f s (F * hid f + put .t)
   pattern-same = ap (signAbove f s) (put .same)
 
-  field : fieldOf f pattern ≡ F
-  field = ap (fieldOf f) pattern-same ∙ field-is f s F (put .t) (put .some) few
+  field : biasedExponent f pattern ≡ F
+  field = ap (biasedExponent f) pattern-same ∙ field-is f s F (put .t) (put .some) few
 
   pattern-value : HasValue (ofBits f pattern) s (m * 2 ^ k) (2 ^ low f)
   pattern-value =
       subst (λ (z : ℕ). HasValue (ofBits f pattern) s z (2 ^ low f)) (put .value)
-      (fields-value f pattern s (put .x) (put .t) (ap (signOf f) pattern-same ∙ sign-is f s F (put .t) (put .some) few) field (ap (digitsOf f) pattern-same ∙ digits-is f s F (put .t) (put .some) few) (put .free))
+      (fields-value f pattern s (put .x) (put .t) (ap (signOf f) pattern-same ∙ sign-is f s F (put .t) (put .some) few) field (ap (trailingSignificand f) pattern-same ∙ digits-is f s F (put .t) (put .some) few) (put .free))
 
   pub pattern-number : T (not (nanBits f pattern))
   unfolding nanBits
@@ -169,7 +169,7 @@ module _ (f : Format) (s : Bool) (k m : ℕ) (n : Normalized f k m) where
   float-normal =
       let small : pattern < 2 * top f = subst (λ (z : ℕ). z < 2 * top f) (sym pattern-same) (below f s F (put .t) (put .some) few) in
       let back : toBits f (floatOf f s k m) ≡ pattern = ap (toBits f) (sym pattern-is) ∙ toBits-ofBits f pattern small (value-number (ofBits f pattern) s (m * 2 ^ k) (2 ^ low f) pattern-value) in
-      let is : fieldOf f (toBits f (floatOf f s k m)) ≡ F = ap (fieldOf f) back ∙ field in
+      let is : biasedExponent f (toBits f (floatOf f s k m)) ≡ F = ap (biasedExponent f) back ∙ field in
       record { from = rw is (zero-lt-suc (put .x)); to = rw is (put .free) }
 
 -- a pattern's significand has all digits

@@ -17,8 +17,8 @@ use Rattle.rounding.specs.Grid.{toEven}
 use Rattle.rounding.specs.Unit.{rn}
 use Rattle.rounding.specs.UnitLaws.{rn-same, rn-scale-whole, rn-ge, rn-whole-small}
 use Rattle.rounding.specs.Ieee.{round-value, rn-grid}
-use Rattle.floats.specs.Fields.{signOf, fieldOf, digitsOf, significandOf, unitsOf, unitAt, InUnits}
-use Rattle.floats.specs.Pattern.{digits-some, two-hid, bits-split, field-most, fields-value, significand-bits}
+use Rattle.floats.specs.Fields.{signOf, biasedExponent, trailingSignificand, significandOf, unitsOf, unitAt, WholeInUnits}
+use Rattle.floats.specs.Pattern.{digits-some, two-hid, bits-split, biased-most, fields-value, significand-bits}
 
 -- ---- a product of two values is its exact value, rounded
 mul-value : (f : Format) (x y : Float) (s t : Bool) (a c b d : ℕ) → 0 < c → 0 < d → HasValue x s a c → HasValue y t b d → mul f x y ≡ Ieee.round f (unlike s t) (a * b) (c * d)
@@ -99,12 +99,12 @@ module _ (f : Format) (E : ℕ) (near : E < emax f) (m q l X : ℕ) (same : m * 
 
 -- ---- the bits of a float of u units, u zero or at least hid, tell u
 pub record Told (f : Format) (w d b u : ℕ) : Type 0 where
-  pub fits : InUnits f w d b
+  pub fits : WholeInUnits f w d b
   pub units : unitsOf f d b ≡ u
 
 module _ (f : Format) (w d : ℕ) (room : prec f ≤ suc (w + d)) (b u : ℕ) (sg : Bool) (v : HasValue (ofBits f b) sg (u * 2 ^ d) (2 ^ low f)) (small : u < 2 ^ w) (least : (u ≡ 0) ⊎ (hid f ≤ u)) where
   abbrev t : ℕ
-  t = digitsOf f b
+  t = trailingSignificand f b
 
   H : 0 < hid f
   H = pow-pos (prec f - 1)
@@ -113,7 +113,7 @@ module _ (f : Format) (w d : ℕ) (room : prec f ≤ suc (w + d)) (b u : ℕ) (s
   short = mod-lt b H
 
   -- no leading digit: zero
-  told-zero : fieldOf f b ≡ 0 → HasValue (ofFields f (signOf f b) 0 t) sg (u * 2 ^ d) (2 ^ low f) → Told f w d b u
+  told-zero : biasedExponent f b ≡ 0 → HasValue (ofFields f (signOf f b) 0 t) sg (u * 2 ^ d) (2 ^ low f) → Told f w d b u
   unfolding ofFields
   told-zero e h =
       let k : t * 2 ^ 0 ≡ u * 2 ^ d = one-value (odd (prec f) (signOf f b) t 0 (low f)) (signOf f b) sg (t * 2 ^ 0) (u * 2 ^ d) (2 ^ low f) (odd-sign (prec f) (signOf f b) t 0 (low f)) h in
@@ -126,8 +126,8 @@ module _ (f : Format) (w d : ℕ) (room : prec f ≤ suc (w + d)) (b u : ℕ) (s
       none-of (inl z) k = z
       none-of (inr l) k = absurd (omega (arith, k, short, mul-le-mul l (pow-pos d)))
 
-  told-some : (k : ℕ) → fieldOf f b ≡ suc k → ¬ (suc k ≡ ones f) → (hid f + t) * 2 ^ k ≡ u * 2 ^ d → Told f w d b u
-  told-some k e o g = record { fits = record { finite = omega (arith, e, o, field-most f b); from = λ p. le-trans (omega (arith, reached)) (le-of-eq (sym e)); to = omega (arith, e, few) }; units = rw (ne-eqb (b % top f) 0 not-zero) units }
+  told-some : (k : ℕ) → biasedExponent f b ≡ suc k → ¬ (suc k ≡ ones f) → (hid f + t) * 2 ^ k ≡ u * 2 ^ d → Told f w d b u
+  told-some k e o g = record { fits = record { finite = omega (arith, e, o, biased-most f b); from = λ p. le-trans (omega (arith, reached)) (le-of-eq (sym e)); to = omega (arith, e, few) }; units = rw (ne-eqb (b % top f) 0 not-zero) units }
     where
       some : hid f ≤ u
       some = go least
@@ -155,10 +155,10 @@ module _ (f : Format) (w d : ℕ) (room : prec f ≤ suc (w + d)) (b u : ℕ) (s
       not-zero : ¬ (b % top f ≡ 0)
       not-zero z = omega (arith, bits-split f b, ap (λ (z : ℕ). z * hid f) e, H)
 
-      units : (hid f + t) * 2 ^ (fieldOf f b - suc d) ≡ u
+      units : (hid f + t) * 2 ^ (biasedExponent f b - suc d) ≡ u
       units = ap (λ (z : ℕ). (hid f + t) * 2 ^ z) (omega (arith, e)) ∙ counted
 
-  told-field : (k : ℕ) → fieldOf f b ≡ suc k → HasValue (ofFields f (signOf f b) (suc k) t) sg (u * 2 ^ d) (2 ^ low f) → Told f w d b u
+  told-field : (k : ℕ) → biasedExponent f b ≡ suc k → HasValue (ofFields f (signOf f b) (suc k) t) sg (u * 2 ^ d) (2 ^ low f) → Told f w d b u
   unfolding ofFields
   told-field k e h = go (eqb (suc k) (ones f)) refl h
     where
@@ -172,9 +172,9 @@ module _ (f : Format) (w d : ℕ) (room : prec f ≤ suc (w + d)) (b u : ℕ) (s
 
   pub told : Told f w d b u
   unfolding ofBits
-  told = go (fieldOf f b) refl v
+  told = go (biasedExponent f b) refl v
     where
-      go : (F : ℕ) → fieldOf f b ≡ F → HasValue (ofFields f (signOf f b) (fieldOf f b) t) sg (u * 2 ^ d) (2 ^ low f) → Told f w d b u
+      go : (F : ℕ) → biasedExponent f b ≡ F → HasValue (ofFields f (signOf f b) (biasedExponent f b) t) sg (u * 2 ^ d) (2 ^ low f) → Told f w d b u
       go zero e h = told-zero e (subst (λ (z : ℕ). HasValue (ofFields f (signOf f b) z t) sg (u * 2 ^ d) (2 ^ low f)) e h)
       go (suc k) e h = told-field k e (subst (λ (z : ℕ). HasValue (ofFields f (signOf f b) z t) sg (u * 2 ^ d) (2 ^ low f)) e h)
 
@@ -182,34 +182,34 @@ module _ (f : Format) (w d : ℕ) (room : prec f ≤ suc (w + d)) (b u : ℕ) (s
 pub units-none : (f : Format) (d b : ℕ) → b % top f ≡ 0 → unitsOf f d b ≡ 0
 units-none f d b e = rw (eq-eqb (b % top f) 0 e)
 
-module _ (f : Format) (w d b : ℕ) (h : ¬ (b % top f ≡ 0)) (i : InUnits f w d b) where
-  pub units-from : suc d ≤ fieldOf f b
+module _ (f : Format) (w d b : ℕ) (h : ¬ (b % top f ≡ 0)) (i : WholeInUnits f w d b) where
+  pub units-from : suc d ≤ biasedExponent f b
   units-from = i .from (omega arith)
 
-  pub units-shifted : significandOf f b * 2 ^ (fieldOf f b - 1 - d) % 2 ^ w ≡ unitsOf f d b
+  pub units-shifted : significandOf f b * 2 ^ (biasedExponent f b - 1 - d) % 2 ^ w ≡ unitsOf f d b
   units-shifted =
-      let short : prec f + (fieldOf f b - 1 - d) ≤ w = omega (arith, units-from, i .to) in
-      let shift : fieldOf f b - 1 - d ≡ fieldOf f b - suc d = omega arith in
-      shl-exact (prec f) (fieldOf f b - 1 - d) w (significand-bits f b .most) short ∙ ap (λ (z : ℕ). significandOf f b * 2 ^ z) shift ∙ rw (ne-eqb (b % top f) 0 h)
+      let short : prec f + (biasedExponent f b - 1 - d) ≤ w = omega (arith, units-from, i .to) in
+      let shift : biasedExponent f b - 1 - d ≡ biasedExponent f b - suc d = omega arith in
+      shl-exact (prec f) (biasedExponent f b - 1 - d) w (significand-bits f b .most) short ∙ ap (λ (z : ℕ). significandOf f b * 2 ^ z) shift ∙ rw (ne-eqb (b % top f) 0 h)
 
 -- ---- what they mean: the float is so many units, with its sign
-pub units-value : (f : Format) (w d b : ℕ) → InUnits f w d b → HasValue (ofBits f b) (signOf f b) (unitsOf f d b * 2 ^ d) (2 ^ low f)
+pub units-value : (f : Format) (w d b : ℕ) → WholeInUnits f w d b → HasValue (ofBits f b) (signOf f b) (unitsOf f d b * 2 ^ d) (2 ^ low f)
 unfolding ofBits ofFields
 units-value f w d b i = go (eqb (b % top f) 0) refl
   where
     nothing : (k : ℕ) → 0 * 2 ^ k ≡ 0
     nothing k = omega arith
 
-    go : (z : Bool) → eqb (b % top f) 0 ≡ z → HasValue (ofBits f b) (signOf f b) (cond z 0 (significandOf f b * 2 ^ (fieldOf f b - suc d)) * 2 ^ d) (2 ^ low f)
+    go : (z : Bool) → eqb (b % top f) 0 ≡ z → HasValue (ofBits f b) (signOf f b) (cond z 0 (significandOf f b * 2 ^ (biasedExponent f b - suc d)) * 2 ^ d) (2 ^ low f)
     go true e =
         let none = eqb-true (b % top f) 0 e in
-        let field : fieldOf f b ≡ 0 = ap (λ (z : ℕ). z / hid f) none ∙ zero-div (hid f) in
-        let digits : digitsOf f b ≡ 0 = omega (arith, bits-split f b, none) in
+        let field : biasedExponent f b ≡ 0 = ap (λ (z : ℕ). z / hid f) none ∙ zero-div (hid f) in
+        let digits : trailingSignificand f b ≡ 0 = omega (arith, bits-split f b, none) in
         rw (field, digits) (subst (λ (z : ℕ). HasValue (odd (prec f) (signOf f b) 0 0 (low f)) (signOf f b) z (2 ^ low f)) (nothing 0 ∙ sym (nothing d)) (odd-sign (prec f) (signOf f b) 0 0 (low f)))
     go false e =
         let m = significandOf f b in
-        let k = fieldOf f b - 1 in
+        let k = biasedExponent f b - 1 in
         let from = i .from (omega (arith, eqb-false (b % top f) 0 e)) in
-        let field : fieldOf f b ≡ suc k = omega (arith, from) in
-        let same : m * 2 ^ k ≡ m * 2 ^ (fieldOf f b - suc d) * 2 ^ d = ap (λ (z : ℕ). m * 2 ^ z) (omega (arith, from)) ∙ ap (λ (z : ℕ). m * z) (pow-add 2 (fieldOf f b - suc d) d) ∙ sym (mul-assoc m (2 ^ (fieldOf f b - suc d)) (2 ^ d)) in
-        subst (λ (z : ℕ). HasValue (ofBits f b) (signOf f b) z (2 ^ low f)) same (fields-value f b (signOf f b) k (digitsOf f b) refl field refl (omega (arith, field, i .finite)))
+        let field : biasedExponent f b ≡ suc k = omega (arith, from) in
+        let same : m * 2 ^ k ≡ m * 2 ^ (biasedExponent f b - suc d) * 2 ^ d = ap (λ (z : ℕ). m * 2 ^ z) (omega (arith, from)) ∙ ap (λ (z : ℕ). m * z) (pow-add 2 (biasedExponent f b - suc d) d) ∙ sym (mul-assoc m (2 ^ (biasedExponent f b - suc d)) (2 ^ d)) in
+        subst (λ (z : ℕ). HasValue (ofBits f b) (signOf f b) z (2 ^ low f)) same (fields-value f b (signOf f b) k (trailingSignificand f b) refl field refl (omega (arith, field, i .finite)))

@@ -6,7 +6,7 @@ ghost use lib.Dec.{T};
 ghost use lib.Ieee;
 ghost use lib.Ieee.{binary32, emax, isNan, ofBits, toBits};
 ghost use Rattle.wide.specs.Value.{wordBits};
-ghost use Rattle.floats.specs.Fields.{signOf, fieldOf, digitsOf, significandOf, plusZero, sameFloat, floatOf, Normalized, Narrow, unitAt, InUnits, unitsOf};
+ghost use Rattle.floats.specs.Fields.{signOf, biasedExponent, trailingSignificand, significandOf, plusZero, sameFloat, floatOf, Normalized, Narrow, unitAt, WholeInUnits, unitsOf};
 
 // How many digits a significand has, the leading one counted.
 pub const PRECISION: u32 = 24;
@@ -35,15 +35,15 @@ pub fn is_minus(bits: u32) -> bool
 }
 
 // The exponent's field of a pattern.
-pub fn field_of(bits: u32) -> u32
-    ensures { λ r. ⌜ r ≡ fieldOf binary32 bits ⌝ }
+pub fn biased_exponent(bits: u32) -> u32
+    ensures { λ r. ⌜ r ≡ biasedExponent binary32 bits ⌝ }
 {
     bits % SIGN / LEADING
 }
 
 // The digits of a pattern below the leading one.
-pub fn digits_of(bits: u32) -> u32
-    ensures { λ r. ⌜ r ≡ digitsOf binary32 bits ⌝ }
+pub fn trailing_significand(bits: u32) -> u32
+    ensures { λ r. ⌜ r ≡ trailingSignificand binary32 bits ⌝ }
 {
     bits % LEADING
 }
@@ -120,12 +120,12 @@ pub fn unit_at(scale: u32) -> u32
 
 // The size of a number that is whole in units of 2 ^ d times the smallest positive value, counted in them.
 pub fn units_of(x: f32, d: u32) -> u64
-    requires { ⌜ T (not (isNan x)) × InUnits binary32 wordBits d (toBits binary32 x) ⌝ }
+    requires { ⌜ T (not (isNan x)) × WholeInUnits binary32 wordBits d (toBits binary32 x) ⌝ }
     ensures { λ r. ⌜ r ≡ unitsOf binary32 d (toBits binary32 x) ⌝ }
 {
     let bits = f32::to_bits(x);
     if bits % SIGN == 0 {
         return 0;
     }
-    (significand_of(bits) as u64) << (field_of(bits) - 1 - d)
+    (significand_of(bits) as u64) << (biased_exponent(bits) - 1 - d)
 }

@@ -23,10 +23,10 @@ use Rattle.factor.specs.Precision.{significandOut}
 use Rattle.factor.specs.Parts.{partsAt, highPart, lowPart}
 use Rattle.factor.specs.Context.{Context, Fine, contextOf, lowerOf, upperOf}
 use Rattle.factor.specs.ContextLaws.{fine-at}
-use Rattle.factor.specs.PartsLaws.{high-counts, low-counts}
-use Rattle.factor.specs.Accepted.{Between, between-positive, high-everywhere, rest-counts-C, low-everywhere}
+use Rattle.factor.specs.PartsLaws.{high-in-units, low-in-units}
+use Rattle.factor.specs.Accepted.{Between, between-positive, high-everywhere, rest-in-units-C, low-everywhere}
 use Rattle.factor.specs.Stored.{high-over, low-over, low-sign}
-use Rattle.factor.specs.Whole.{End}
+use Rattle.factor.specs.UnitParts.{End}
 use Rattle.factor.specs.SetUp.{setUp, intact, Sound}
 use Rattle.factor.specs.SetUpLaws.{intact-sound, accepted-intact}
 use Rattle.product.specs.declared.Product.{Product}
@@ -72,8 +72,8 @@ module _ (f : Factor) (s : Sound f) (C : Fraction) (k : Between (contextOf f) (l
       let U = upperOf f in
       let le = s .lower-end in
       let ue = s .upper-end in
-      let hc = high-counts K ok L le in
-      let lc = low-counts K ok L le in
+      let hc = high-in-units K ok L le in
+      let lc = low-in-units K ok L le in
       let high-C : Fraction = RN (K .rule) (K .n) C in
       let rest : Fraction = less C high-C in
       let some = between-positive K L U (le-trans (pow-pos (K .E)) (le .from)) C k in
@@ -82,7 +82,7 @@ module _ (f : Factor) (s : Sound f) (C : Fraction) (k : Between (contextOf f) (l
         high-is = same-trans high-C (highPart K L) (high (K .n) (partsAt K L)) (hc .some) (high-everywhere K ok L U le ue (s .same) C k) (hc .sign, high-over K ok L le);
         high-nearest = rounds-to (K .rule) (K .n) (ok .some) (C .num) (C .den) some (k .some);
         low-is = same-trans (RN (K .rule) (K .n) rest) (lowPart K L) (low (partsAt K L)) (lc .some) (low-everywhere K ok L U le ue (s .same) C k) (low-sign K ok L le, low-over K ok L le);
-        low-nearest = λ h. rounds-to (K .rule) (K .n) (ok .some) (rest .num) (rest .den) h (rest-counts-C K ok L U le ue (s .same) C k .some);
+        low-nearest = λ h. rounds-to (K .rule) (K .n) (ok .some) (rest .num) (rest .den) h (rest-in-units-C K ok L U le ue (s .same) C k .some);
       })
 
 -- ---- the steps

@@ -14,13 +14,13 @@ use Rattle.rounding.specs.Digits.{pow-half}
 use Rattle.rounding.specs.Unit.{rn}
 use Rattle.rounding.specs.UnitLaws.{rn-mono, rn-fixed}
 use Rattle.rounding.specs.Fraction.{Fraction, over, times}
-use Rattle.rounding.specs.FractionLaws.{Counts, over-counts, RN-counts, RN-counts-fraction, times-counts, counts-same, counts-unique, below-counts, equal-counts}
+use Rattle.rounding.specs.FractionLaws.{InUnits, over-in-units, RN-in-units, RN-in-units-fraction, times-in-units, units-same, units-unique, below-in-units, equal-in-units}
 use Rattle.factor.specs.Context.{Context}
 use Rattle.factor.specs.Accepted.{Between}
 use Rattle.product.specs.declared.Product.{Product}
 use Rattle.product.specs.Product.{argument, valueOf}
 use Rattle.product.specs.Units.{units, markUnits}
-use Rattle.product.specs.ProductLaws.{value-counts}
+use Rattle.product.specs.ProductLaws.{value-in-units}
 use Rattle.product.specs.Marks.{exact, mark, Gives, SaysAt}
 
 -- right exactly if v is both
@@ -46,31 +46,31 @@ module _ (K : Context) (P : 0 < K .n) (L U X : ℕ) (v : Product) where
   unit = sym (pow-add 2 E (n - 1))
 
   -- ---- the mark by whole numbers
-  end-counts : (c : ℕ) → Counts (2 ^ t) false (rn rule n (c * X) 1) (exact K X (over c E))
-  end-counts c =
-      RN-counts rule n P t false (c * X) (times (over c E) (argument n X))
-      (subst (λ (z : ℕ). Counts z false (c * X) (times (over c E) (argument n X))) unit (times-counts (2 ^ E) (2 ^ (n - 1)) c X false (over c E) (argument n X) (over-counts c E) (over-counts X (n - 1))))
+  end-in-units : (c : ℕ) → InUnits (2 ^ t) false (rn rule n (c * X) 1) (exact K X (over c E))
+  end-in-units c =
+      RN-in-units rule n P t false (c * X) (times (over c E) (argument n X))
+      (subst (λ (z : ℕ). InUnits z false (c * X) (times (over c E) (argument n X))) unit (times-in-units (2 ^ E) (2 ^ (n - 1)) c X false (over c E) (argument n X) (over-in-units c E) (over-in-units X (n - 1))))
 
-  mark-counts : (T i j m : ℕ) → Counts T false i (exact K X (over L E)) → Counts T false j (exact K X (over U E)) → Counts T false m (valueOf n v) → mark K L U X v ≡ markUnits i j m
+  mark-in-units : (T i j m : ℕ) → InUnits T false i (exact K X (over L E)) → InUnits T false j (exact K X (over U E)) → InUnits T false m (valueOf n v) → mark K L U X v ≡ markUnits i j m
   unfolding mark
-  mark-counts T i j m p q r =
-      let wrong-below = below-counts T m i (valueOf n v) (exact K X (over L E)) r p in
-      let wrong-above = below-counts T j m (exact K X (over U E)) (valueOf n v) q r in
-      let at-lower = equal-counts T i m (exact K X (over L E)) (valueOf n v) p r in
-      let at-upper = equal-counts T j m (exact K X (over U E)) (valueOf n v) q r in
+  mark-in-units T i j m p q r =
+      let wrong-below = below-in-units T m i (valueOf n v) (exact K X (over L E)) r p in
+      let wrong-above = below-in-units T j m (exact K X (over U E)) (valueOf n v) q r in
+      let at-lower = equal-in-units T i m (exact K X (over L E)) (valueOf n v) p r in
+      let at-upper = equal-in-units T j m (exact K X (over U E)) (valueOf n v) q r in
       λ k. cond (wrong-below k) Wrong (cond (wrong-above k) Wrong (cond (at-lower k && at-upper k) Right Open))
 
   pub mark-units : mark K L U X v ≡ markUnits a b N
-  mark-units = mark-counts (2 ^ t) a b N (end-counts L) (end-counts U) (value-counts K v)
+  mark-units = mark-in-units (2 ^ t) a b N (end-in-units L) (end-in-units U) (value-in-units K v)
 
   -- and by whole numbers of the step 2 ^ (1 - n) of binade 0, i and j being those of the ends
   pub mark-steps : (i j : ℕ) → i * 2 ^ E ≡ a → j * 2 ^ E ≡ b → mark K L U X v ≡ markUnits i j (v .significand * 2 ^ v .binade)
-  mark-steps i j p q = mark-counts (2 ^ (n - 1)) i j (v .significand * 2 ^ v .binade) (at L i p) (at U j q) (over-counts (v .significand * 2 ^ v .binade) (n - 1))
+  mark-steps i j p q = mark-in-units (2 ^ (n - 1)) i j (v .significand * 2 ^ v .binade) (at L i p) (at U j q) (over-in-units (v .significand * 2 ^ v .binade) (n - 1))
     where
-      at : (c k : ℕ) → k * 2 ^ E ≡ rn rule n (c * X) 1 → Counts (2 ^ (n - 1)) false k (exact K X (over c E))
+      at : (c k : ℕ) → k * 2 ^ E ≡ rn rule n (c * X) 1 → InUnits (2 ^ (n - 1)) false k (exact K X (over c E))
       at c k e =
           let x = exact K X (over c E) in
-          let w = end-counts c in
+          let w = end-in-units c in
           record {
             unit = pow-pos (n - 1);
             some = w .some;
@@ -87,9 +87,9 @@ module _ (K : Context) (P : 0 < K .n) (L U X : ℕ) (v : Product) where
     abbrev rounds : Fraction → ℕ
     rounds C = rn rule n (C .num * 2 ^ E * X) (C .den)
 
-    exact-counts : (C : Fraction) → Between K L U C → Counts (2 ^ t) false (rounds C) (exact K X C)
-    exact-counts C k =
-        RN-counts-fraction rule n P t (C .den) false (C .num * 2 ^ E * X) (times C (argument n X)) (k .some) fine
+    exact-in-units : (C : Fraction) → Between K L U C → InUnits (2 ^ t) false (rounds C) (exact K X C)
+    exact-in-units C k =
+        RN-in-units-fraction rule n P t (C .den) false (C .num * 2 ^ E * X) (times C (argument n X)) (k .some) fine
         (record {
           unit = mul-pos (pow-pos t) (k .some);
           some = mul-pos (k .some) (pow-pos (n - 1));
@@ -104,10 +104,10 @@ module _ (K : Context) (P : 0 < K .n) (L U X : ℕ) (v : Product) where
             omega (arith, f, mul-le-mul-right (C .den) x1, ap (λ (z : ℕ). z * C .den) (pow-half n P))
 
     gives : (C : Fraction) → Between K L U C → rounds C ≡ N → Gives K X v C
-    gives C k e = counts-same (2 ^ t) false N (exact K X C) (valueOf n v) (subst (λ (z : ℕ). Counts (2 ^ t) false z (exact K X C)) e (exact-counts C k)) (value-counts K v)
+    gives C k e = units-same (2 ^ t) false N (exact K X C) (valueOf n v) (subst (λ (z : ℕ). InUnits (2 ^ t) false z (exact K X C)) e (exact-in-units C k)) (value-in-units K v)
 
     given : (C : Fraction) → Between K L U C → Gives K X v C → rounds C ≡ N
-    given C k = counts-unique (2 ^ t) false (rounds C) N (exact K X C) (valueOf n v) (exact-counts C k) (value-counts K v)
+    given C k = units-unique (2 ^ t) false (rounds C) N (exact K X C) (valueOf n v) (exact-in-units C k) (value-in-units K v)
 
     from-L : (C : Fraction) → Between K L U C → a ≤ rounds C
     from-L C k = rn-mono rule n P (L * X) 1 (C .num * 2 ^ E * X) (C .den) (omega arith) (k .some) (omega (arith, mul-le-mul-right X (k .least)))

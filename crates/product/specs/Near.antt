@@ -6,8 +6,8 @@ use native.Mathlib.Omega.{arith}
 use Rattle.rounding.specs.Fraction.{Fraction}
 use Rattle.factor.specs.Context.{Context, Fine}
 use Rattle.factor.specs.Parts.{partsAt}
-use Rattle.factor.specs.Whole.{End, Whole, whole}
-use Rattle.factor.specs.Accepted.{Between, whole-same}
+use Rattle.factor.specs.UnitParts.{End, UnitParts, unitParts}
+use Rattle.factor.specs.Accepted.{Between, unit-parts-same}
 use Rattle.product.specs.Units.{fusedUnits}
 use Rattle.product.specs.ProductLaws.{fused-near}
 
@@ -20,13 +20,13 @@ module _ (K : Context) (ok : Fine K) (L U : ℕ) (le : End K L) (ue : End K U) (
   open Fine ok using (some as P, room as F)
 
   abbrev y : ℕ
-  y = fusedUnits K (whole K L) X
+  y = fusedUnits K (unitParts K L) X
 
   pub near-lower : Near K y L X
   near-lower = fused-near K ok L le X xe
 
   near-upper : Near K y U X
-  near-upper = subst (λ (w : Whole). Near K (fusedUnits K w X) U X) (sym (whole-same K ok L U le ue same)) (fused-near K ok U ue X xe)
+  near-upper = subst (λ (w : UnitParts). Near K (fusedUnits K w X) U X) (sym (unit-parts-same K ok L U le ue same)) (fused-near K ok U ue X xe)
 
   -- for every fraction C between the ends: W in this unit is 2 ^ (1 - 2 * n)
   pub near-between : (C : Fraction) → Between K L U C → (y * C .den < C .num * 2 ^ E * X + 2 ^ (E - n) * C .den) × (C .num * 2 ^ E * X < y * C .den + 2 ^ (E - n) * C .den)

@@ -16,13 +16,13 @@ use Rattle.rounding.specs.UnitLaws.{rn-error, rn-le, rn-ge, rn-below}
 use Rattle.rounding.specs.Round.{rounded, roundedIn}
 use Rattle.rounding.specs.RoundLaws.{HasBits, rounded-at, rounded-bits, roundedIn-exponent, minus-shift, minus-le}
 use Rattle.rounding.specs.Fraction.{Fraction, times, Same}
-use Rattle.rounding.specs.FractionLaws.{Counts, sumSign, sumSize, over-counts, counts-finer, RN-counts, times-counts, plus-counts, counts-same}
+use Rattle.rounding.specs.FractionLaws.{InUnits, sumSign, sumSize, over-in-units, units-finer, RN-in-units, times-in-units, plus-in-units, units-same}
 use Rattle.factor.specs.declared.Parts.{Parts}
 use Rattle.factor.specs.Context.{Context, Fine}
 use Rattle.factor.specs.Parts.{partsAt}
-use Rattle.factor.specs.Whole.{End, Whole, step, plusOrMinus, whole}
+use Rattle.factor.specs.UnitParts.{End, UnitParts, step, plusOrMinus, unitParts}
 use Rattle.rounding.specs.Signed.{negative}
-use Rattle.factor.specs.PartsLaws.{width-is, step-is, bottom-is, high-from, high-is, low-most, width-le, worth-near, whole-of-parts, low-kept}
+use Rattle.factor.specs.PartsLaws.{width-is, step-is, bottom-is, high-from, high-is, low-most, width-le, worth-near, units-of-parts, low-kept}
 use Rattle.product.specs.declared.Product.{Product}
 use Rattle.product.specs.Product.{argument, high, low, first, fused, second, product, valueOf}
 use Rattle.product.specs.Units.{firstUnits, fusedUnits, secondUnits, units}
@@ -38,14 +38,14 @@ module _ (n : ℕ) (P : 0 < n) where
   exponent-le s j t k h l e = le-of-suc-le-suc (lt-of-not-le (λ (g : suc j ≤ k). not-le-of-lt (exponent-order s j t k h l g) e))
 
 -- ---- a product as a whole number of the unit
-pub value-counts : (K : Context) (v : Product) → Counts (2 ^ (K .E + (K .n - 1))) false (units K v) (valueOf (K .n) v)
-value-counts K v =
+pub value-in-units : (K : Context) (v : Product) → InUnits (2 ^ (K .E + (K .n - 1))) false (units K v) (valueOf (K .n) v)
+value-in-units K v =
     let n = K .n in
     let E = K .E in
     let s = v .significand in
-    let k = counts-finer (2 ^ (n - 1)) (2 ^ E) (pow-pos E) false (s * 2 ^ v .binade) (valueOf n v) (over-counts (s * 2 ^ v .binade) (n - 1)) in
-    subst (λ (z : ℕ). Counts (2 ^ (E + (n - 1))) false z (valueOf n v)) (omega (arith, ap (λ (z : ℕ). s * z) (pow-add 2 E (v .binade))))
-    (subst (λ (z : ℕ). Counts z false (s * 2 ^ v .binade * 2 ^ E) (valueOf n v)) (omega (arith, pow-add 2 E (n - 1))) k)
+    let k = units-finer (2 ^ (n - 1)) (2 ^ E) (pow-pos E) false (s * 2 ^ v .binade) (valueOf n v) (over-in-units (s * 2 ^ v .binade) (n - 1)) in
+    subst (λ (z : ℕ). InUnits (2 ^ (E + (n - 1))) false z (valueOf n v)) (omega (arith, ap (λ (z : ℕ). s * z) (pow-add 2 E (v .binade))))
+    (subst (λ (z : ℕ). InUnits z false (s * 2 ^ v .binade * 2 ^ E) (valueOf n v)) (omega (arith, pow-add 2 E (n - 1))) k)
 
 -- v is N of that unit, from 1 to below 4, with a significand of n bits
 pub record IsProduct (K : Context) (N : ℕ) (v : Product) : Type 0 where
@@ -90,8 +90,8 @@ module _ (K : Context) (ok : Fine K) (c : ℕ) (ce : End K c) where
   abbrev Q : ℕ
   Q = 2 ^ (E - 2 * n)
 
-  abbrev w : Whole
-  w = whole K c
+  abbrev w : UnitParts
+  w = unitParts K c
 
   abbrev p : Parts
   p = partsAt K c
@@ -114,7 +114,7 @@ module _ (K : Context) (ok : Fine K) (c : ℕ) (ce : End K c) where
 
     -- ---- Ch * x + u1 is never below x: where the low part is negative the high part is a whole step above 1
     pub fused-least : 2 ^ E * X ≤ fusedUnits K w X
-    unfolding fusedUnits whole
+    unfolding fusedUnits unitParts
     fused-least = go (ltb c (w .high * G)) refl
       where
         go : (b : Bool) → ltb c (w .high * G) ≡ b → 2 ^ E * X ≤ plusOrMinus b (w .high * G * X) (firstUnits K w X)
@@ -157,36 +157,36 @@ module _ (K : Context) (ok : Fine K) (c : ℕ) (ce : End K c) where
     unit = sym (pow-add 2 E (n - 1))
 
     minus-is : negative (p .low) ≡ w .minus
-    minus-is = ap (λ (z : Whole). z .minus) (sym (whole-of-parts K ok c ce))
+    minus-is = ap (λ (z : UnitParts). z .minus) (sym (units-of-parts K ok c ce))
 
-    low-counts : Counts (2 ^ E) (w .minus) (w .low) (low p)
-    low-counts = record { unit = pow-pos E; some = pow-pos (p .places); sign = minus-is; count = low-kept K ok c ce }
+    low-in-units : InUnits (2 ^ E) (w .minus) (w .low) (low p)
+    low-in-units = record { unit = pow-pos E; some = pow-pos (p .places); sign = minus-is; count = low-kept K ok c ce }
 
-    high-counts : Counts (2 ^ E) false (w .high * G) (high n p)
-    high-counts =
+    high-in-units : InUnits (2 ^ E) false (w .high * G) (high n p)
+    high-in-units =
         let e = bottom-is K ok in
-        subst (λ (z : ℕ). Counts (2 ^ E) false (z * G) (high n p)) (high-is K ok c ce)
-        (subst (λ (z : ℕ). Counts z false (p .high * G) (high n p)) (sym e) (counts-finer (2 ^ (n - 1)) G (pow-pos (E + 1 - n)) false (p .high) (high n p) (over-counts (p .high) (n - 1))))
+        subst (λ (z : ℕ). InUnits (2 ^ E) false (z * G) (high n p)) (high-is K ok c ce)
+        (subst (λ (z : ℕ). InUnits z false (p .high * G) (high n p)) (sym e) (units-finer (2 ^ (n - 1)) G (pow-pos (E + 1 - n)) false (p .high) (high n p) (over-in-units (p .high) (n - 1))))
 
-    at-unit : (m : Bool) (a : ℕ) (x : Fraction) → Counts (2 ^ E) m a x → Counts (2 ^ t) m (a * X) (times x (argument n X))
-    at-unit m a x k = subst (λ (z : ℕ). Counts z m (a * X) (times x (argument n X))) unit (times-counts (2 ^ E) (2 ^ (n - 1)) a X m x (argument n X) k (over-counts X (n - 1)))
+    at-unit : (m : Bool) (a : ℕ) (x : Fraction) → InUnits (2 ^ E) m a x → InUnits (2 ^ t) m (a * X) (times x (argument n X))
+    at-unit m a x k = subst (λ (z : ℕ). InUnits z m (a * X) (times x (argument n X))) unit (times-in-units (2 ^ E) (2 ^ (n - 1)) a X m x (argument n X) k (over-in-units X (n - 1)))
 
-    pub first-counts : Counts (2 ^ t) (w .minus) (firstUnits K w X) (first K p X)
+    pub first-in-units : InUnits (2 ^ t) (w .minus) (firstUnits K w X) (first K p X)
     unfolding firstUnits
-    first-counts = RN-counts rule n P t (w .minus) (w .low * X) (times (low p) (argument n X)) (at-unit (w .minus) (w .low) (low p) low-counts)
+    first-in-units = RN-in-units rule n P t (w .minus) (w .low * X) (times (low p) (argument n X)) (at-unit (w .minus) (w .low) (low p) low-in-units)
 
-    pub fused-counts : Counts (2 ^ t) false (fusedUnits K w X) (fused K p X)
+    pub fused-in-units : InUnits (2 ^ t) false (fusedUnits K w X) (fused K p X)
     unfolding fusedUnits
-    fused-counts = go (w .minus) (plus-counts (2 ^ t) (w .high * G * X) (firstUnits K w X) false (w .minus) (times (high n p) (argument n X)) (first K p X) (at-unit false (w .high * G) (high n p) high-counts) first-counts)
+    fused-in-units = go (w .minus) (plus-in-units (2 ^ t) (w .high * G * X) (firstUnits K w X) false (w .minus) (times (high n p) (argument n X)) (first K p X) (at-unit false (w .high * G) (high n p) high-in-units) first-in-units)
       where
-        go : (b : Bool) → Counts (2 ^ t) (sumSign false b (w .high * G * X) (firstUnits K w X)) (sumSize false b (w .high * G * X) (firstUnits K w X)) (fused K p X)
-            → Counts (2 ^ t) false (plusOrMinus b (w .high * G * X) (firstUnits K w X)) (fused K p X)
+        go : (b : Bool) → InUnits (2 ^ t) (sumSign false b (w .high * G * X) (firstUnits K w X)) (sumSize false b (w .high * G * X) (firstUnits K w X)) (fused K p X)
+            → InUnits (2 ^ t) false (plusOrMinus b (w .high * G * X) (firstUnits K w X)) (fused K p X)
         go true k = record { unit = k .unit; some = k .some; sign = k .sign ∙ le-ltb (w .high * G * X) (firstUnits K w X) first-under; count = k .count ∙ ap (λ (z : ℕ). z * fused K p X .den) (omega (arith, first-under)) }
         go false k = k
 
-    pub second-counts : Counts (2 ^ t) false (secondUnits K w X) (second K p X)
+    pub second-in-units : InUnits (2 ^ t) false (secondUnits K w X) (second K p X)
     unfolding secondUnits
-    second-counts = RN-counts rule n P t false (fusedUnits K w X) (fused K p X) fused-counts
+    second-in-units = RN-in-units rule n P t false (fusedUnits K w X) (fused K p X) fused-in-units
 
     -- ---- the product is from 1 to below 4
     module _ (x1 : 2 ^ (n - 1) ≤ X) where
@@ -218,7 +218,7 @@ module _ (K : Context) (ok : Fine K) (c : ℕ) (ce : End K c) where
       y-pos = omega (arith, fine, pow-pos n)
 
       pub fused-some : (0 < fused K p X .num) × (0 < fused K p X .den)
-      fused-some = let k = fused-counts in (num-pos (fused K p X .num) (fused K p X .den) (k .count) (k .some), k .some)
+      fused-some = let k = fused-in-units in (num-pos (fused K p X .num) (fused K p X .den) (k .count) (k .some), k .some)
         where
           num-pos : (a d : ℕ) → a * 2 ^ t ≡ y * d → 0 < d → 0 < a
           num-pos zero d e D = absurd (omega (arith, mul-pos y-pos D))
@@ -228,7 +228,7 @@ module _ (K : Context) (ok : Fine K) (c : ℕ) (ce : End K c) where
       r = rounded rule n (fused K p X .num) (fused K p X .den)
 
       r-at : r ≡ roundedIn rule n t y 1
-      r-at = let k = fused-counts in rounded-at rule n P (fused K p X .num) (fused K p X .den) t y 1 (k .some) (omega arith) (omega (arith, k .count)) fine
+      r-at = let k = fused-in-units in rounded-at rule n P (fused K p X .num) (fused K p X .den) t y 1 (k .some) (omega arith) (omega (arith, k .count)) fine
 
       pub product-is : IsProduct K (secondUnits K w X) (product K p X)
       unfolding product secondUnits
@@ -249,4 +249,4 @@ module _ (K : Context) (ok : Fine K) (c : ℕ) (ce : End K c) where
       pub product-value : Same (second K p X) (valueOf n (product K p X))
       product-value =
           let v = product K p X in
-          counts-same (2 ^ t) false (units K v) (second K p X) (valueOf n v) (subst (λ (z : ℕ). Counts (2 ^ t) false z (second K p X)) (sym (product-is .value)) second-counts) (value-counts K v)
+          units-same (2 ^ t) false (units K v) (second K p X) (valueOf n v) (subst (λ (z : ℕ). InUnits (2 ^ t) false z (second K p X)) (sym (product-is .value)) second-in-units) (value-in-units K v)

@@ -5,7 +5,7 @@ use Rattle.rounding.specs.RoundLaws.{HasBits}
 use Rattle.factor.specs.declared.Factor.{Factor}
 use Rattle.factor.specs.Context.{Fine, contextOf, lowerOf}
 use Rattle.factor.specs.ContextLaws.{fine-at}
-use Rattle.factor.specs.Whole.{wholeOf}
+use Rattle.factor.specs.UnitParts.{unitPartsOf}
 use Rattle.factor.specs.SetUp.{Sound}
 use Rattle.product.specs.Product.{productBy}
 use Rattle.product.specs.Units.{secondUnits, PartsAtEnd}
@@ -21,5 +21,5 @@ module _ (f : Factor) (s : Sound f) where
   sound-parts = record { two = omega (arith, s .precision); fine = sound-fine; end = lowerOf f; is-end = s .lower-end; parts = s .parts }
 
   -- its product of a significand in range has n bits, in binade 0 or 1
-  pub sound-product : (X : ℕ) → HasBits (f .precision .bits) X → IsProduct (contextOf f) (secondUnits (contextOf f) (wholeOf (contextOf f) (f .parts)) X) (productBy f X)
+  pub sound-product : (X : ℕ) → HasBits (f .precision .bits) X → IsProduct (contextOf f) (secondUnits (contextOf f) (unitPartsOf (contextOf f) (f .parts)) X) (productBy f X)
   sound-product = product-of-parts (contextOf f) (f .parts) sound-parts

@@ -22,8 +22,8 @@ use Rattle.rounding.specs.Signed.{signedOf}
 use Rattle.factor.specs.declared.Parts.{Parts}
 use Rattle.factor.specs.Context.{Context, Fine}
 use Rattle.factor.specs.Parts.{partsAt}
-use Rattle.factor.specs.Whole.{End, Whole, step, whole, wholeOf}
-use Rattle.factor.specs.PartsLaws.{high-most, low-kept, low-tells, whole-of-parts}
+use Rattle.factor.specs.UnitParts.{End, UnitParts, step, unitParts, unitPartsOf}
+use Rattle.factor.specs.PartsLaws.{high-most, low-kept, low-tells, units-of-parts}
 use Rattle.factor.specs.LowForm.{top-is}
 use Rattle.product.specs.Product.{product}
 use Rattle.product.specs.Units.{firstUnits, fusedUnits, secondUnits, roundedUnits, PartsAtEnd}
@@ -118,11 +118,11 @@ module _ (K : Context) (p : Parts) (at : PartsAtEnd K p) where
   abbrev kept : p ≡ partsAt K c
   kept = at .parts
 
-  abbrev w : Whole
-  w = wholeOf K p
+  abbrev w : UnitParts
+  w = unitPartsOf K p
 
-  w-is : whole K c ≡ w
-  w-is = whole-of-parts K ok c ce ∙ ap (wholeOf K) (sym kept)
+  w-is : unitParts K c ≡ w
+  w-is = units-of-parts K ok c ce ∙ ap (unitPartsOf K) (sym kept)
 
   abbrev s : ℕ
   s = natAbs (p .low)
@@ -131,14 +131,14 @@ module _ (K : Context) (p : Parts) (at : PartsAtEnd K p) where
   q = p .places
 
   pub high-le : p .high ≤ 2 ^ n
-  high-le = subst (λ (v : Whole). v .high ≤ 2 ^ n) w-is (high-most K ok c ce)
+  high-le = subst (λ (v : UnitParts). v .high ≤ 2 ^ n) w-is (high-most K ok c ce)
 
   -- the low significand has n bits where it is not zero, and its places have a range
   pub low-some : 0 < s → HasBits n s × (2 * n ≤ suc q) × (q < E + n)
   low-some h = subst (λ (z : Parts). HasBits n (natAbs (z .low)) × (2 * n ≤ suc (z .places)) × (z .places < E + n)) (sym kept) (go (decLe (natAbs z) 0))
     where
       z : ℤ
-      z = signedOf (whole K c .minus) (apart c (whole K c .high * step K))
+      z = signedOf (unitParts K c .minus) (apart c (unitParts K c .high * step K))
 
       go : Dec (natAbs z ≤ 0) → HasBits n (natAbs (partsAt K c .low)) × (2 * n ≤ suc (partsAt K c .places)) × (partsAt K c .places < E + n)
       go (yes g) = let none = low-tells K ok c ce .none (omega arith) in absurd (omega (arith, ap (λ (y : Parts). natAbs (y .low)) kept, ap natAbs (none .0)))
@@ -152,7 +152,7 @@ module _ (K : Context) (p : Parts) (at : PartsAtEnd K p) where
       go (no h) = omega (arith, pow-pos n)
 
   pub low-value : s * 2 ^ E ≡ w .low * 2 ^ q
-  low-value = subst (λ (v : Whole). s * 2 ^ E ≡ v .low * 2 ^ q) w-is (subst (λ (z : Parts). natAbs (z .low) * 2 ^ E ≡ whole K c .low * 2 ^ z .places) (sym kept) (low-kept K ok c ce))
+  low-value = subst (λ (v : UnitParts). s * 2 ^ E ≡ v .low * 2 ^ q) w-is (subst (λ (z : Parts). natAbs (z .low) * 2 ^ E ≡ unitParts K c .low * 2 ^ z .places) (sym kept) (low-kept K ok c ce))
 
   module _ (X : ℕ) (xb : HasBits n X) where
     abbrev u : ℕ
@@ -161,11 +161,11 @@ module _ (K : Context) (p : Parts) (at : PartsAtEnd K p) where
     -- ---- u1
     pub first-lt : u < 2 ^ E
     first-lt =
-        let m = subst (λ (v : Whole). firstUnits K v X ≤ X * 2 ^ (E - n)) w-is (first-most K ok c ce X (xb .most)) in
+        let m = subst (λ (v : UnitParts). firstUnits K v X ≤ X * 2 ^ (E - n)) w-is (first-most K ok c ce X (xb .most)) in
         omega (arith, m, mul-lt-mul-of-pos-right (xb .most) (pow-pos (E - n)), top-is K ok)
 
     pub first-le : u ≤ p .high * step K * X
-    first-le = subst (λ (v : Whole). firstUnits K v X ≤ v .high * step K * X) w-is (first-under K ok c ce X (xb .most))
+    first-le = subst (λ (v : UnitParts). firstUnits K v X ≤ v .high * step K * X) w-is (first-under K ok c ce X (xb .most))
 
     first-scaled : u * 2 ^ q ≡ rn rule n (s * X) 1 * 2 ^ E
     unfolding firstUnits
@@ -220,15 +220,15 @@ module _ (K : Context) (p : Parts) (at : PartsAtEnd K p) where
 
     -- ---- u2
     pub fused-from : 2 ^ (n - 1) * 2 ^ E ≤ fusedUnits K w X
-    fused-from = subst (λ (v : Whole). 2 ^ (n - 1) * 2 ^ E ≤ fusedUnits K v X) w-is (omega (arith, fused-least K ok c ce X (xb .most), mul-le-mul-left (2 ^ E) (xb .least)))
+    fused-from = subst (λ (v : UnitParts). 2 ^ (n - 1) * 2 ^ E ≤ fusedUnits K v X) w-is (omega (arith, fused-least K ok c ce X (xb .most), mul-le-mul-left (2 ^ E) (xb .least)))
 
     pub product-of-parts : IsProduct K (secondUnits K w X) (product K p X)
     product-of-parts =
-        subst (λ (v : Whole). IsProduct K (secondUnits K v X) (product K p X)) w-is
-        (subst (λ (z : Parts). IsProduct K (secondUnits K (whole K c) X) (product K z X)) (sym kept) (product-is K ok c ce X (xb .most) (xb .least)))
+        subst (λ (v : UnitParts). IsProduct K (secondUnits K v X) (product K p X)) w-is
+        (subst (λ (z : Parts). IsProduct K (secondUnits K (unitParts K c) X) (product K z X)) (sym kept) (product-is K ok c ce X (xb .most) (xb .least)))
 
     second-le : secondUnits K w X ≤ (2 ^ n - 1) * 2 ^ suc E
-    second-le = subst (λ (v : Whole). secondUnits K v X ≤ (2 ^ n - 1) * 2 ^ suc E) w-is (second-most K ok c ce X (xb .most) (xb .least))
+    second-le = subst (λ (v : UnitParts). secondUnits K v X ≤ (2 ^ n - 1) * 2 ^ suc E) w-is (second-most K ok c ce X (xb .most) (xb .least))
 
     -- rounding the fused sum gives the product
     pub product-rounds : roundedUnits K (fusedUnits K w X) ≡ product K p X

@@ -11,7 +11,7 @@ use Rattle.rounding.specs.Round.{rounded}
 use Rattle.factor.specs.declared.Parts.{Parts}
 use Rattle.factor.specs.Context.{Context, Fine}
 use Rattle.factor.specs.Parts.{partsAt}
-use Rattle.factor.specs.Whole.{End, Whole, step, plusOrMinus}
+use Rattle.factor.specs.UnitParts.{End, UnitParts, step, plusOrMinus}
 use Rattle.product.specs.declared.Product.{Product}
 
 -- the mark of v by whole numbers: a and b are RN(L * x) and RN(U * x)
@@ -22,16 +22,16 @@ module _ (K : Context) where
   open Context K using (rule, n, E)
 
   -- u1, its size
-  unfoldable pub firstUnits : Whole → ℕ → ℕ
+  unfoldable pub firstUnits : UnitParts → ℕ → ℕ
   firstUnits w X = rn rule n (w .low * X) 1
 
   -- Ch * x + u1
-  unfoldable pub fusedUnits : Whole → ℕ → ℕ
+  unfoldable pub fusedUnits : UnitParts → ℕ → ℕ
   unfolding firstUnits
   fusedUnits w X = plusOrMinus (w .minus) (w .high * step K * X) (firstUnits w X)
 
   -- u2
-  unfoldable pub secondUnits : Whole → ℕ → ℕ
+  unfoldable pub secondUnits : UnitParts → ℕ → ℕ
   unfolding fusedUnits
   secondUnits w X = rn rule n (fusedUnits w X) 1
 

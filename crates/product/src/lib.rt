@@ -11,9 +11,9 @@ ghost use Rattle.marks.specs.Answers.{accepted};
 ghost use Rattle.rounding.specs.Unit.{rn};
 ghost use Rattle.rounding.specs.RoundLaws.{HasBits};
 ghost use Rattle.wide.specs.Value.{wordBits, valueOf};
-ghost use Rattle.factor.specs.Precision.{Kept, scaleOf, significandOut};
+ghost use Rattle.factor.specs.Precision.{ValidPrecision, scaleOf, significandOut};
 ghost use Rattle.factor.specs.Context.{tieRule, contextAt, contextOf};
-ghost use Rattle.factor.specs.Whole.{End, wholeOf};
+ghost use Rattle.factor.specs.UnitParts.{End, unitPartsOf};
 ghost use Rattle.factor.specs.SetUp.{Sound};
 ghost use Rattle.product.specs.Product.{productBy};
 ghost use Rattle.product.specs.Marks.{markBy};
@@ -36,8 +36,8 @@ pub enum ProductAnswer {
 
 // The size of u1 = RN(Cl * x), in the unit 2 ^ - (E + n - 1), in which all that follows is a whole number.
 fn first_units(p: Precision, parts: Parts, x: u64) -> u64
-    requires { ⌜ Kept (p .bits) × PartsAtEnd (contextAt (p .bits)) parts × HasBits (p .bits) x ⌝ }
-    ensures { λ r. ⌜ r ≡ firstUnits (contextAt (p .bits)) (wholeOf (contextAt (p .bits)) parts) x ⌝ }
+    requires { ⌜ ValidPrecision (p .bits) × PartsAtEnd (contextAt (p .bits)) parts × HasBits (p .bits) x ⌝ }
+    ensures { λ r. ⌜ r ≡ firstUnits (contextAt (p .bits)) (unitPartsOf (contextAt (p .bits)) parts) x ⌝ }
 {
     let exact = round::magnitude(parts.low) * x;
     if exact == 0 {
@@ -50,10 +50,10 @@ fn first_units(p: Precision, parts: Parts, x: u64) -> u64
 
 // Ch * x + u1, the sum and the product exact; u1 is given, by its size in that unit.
 fn fused_units(p: Precision, parts: Parts, x: u64, u1: u64) -> Wide
-    requires { ⌜ Kept (p .bits) × PartsAtEnd (contextAt (p .bits)) parts × HasBits (p .bits) x × (u1 ≡ firstUnits (contextAt (p .bits)) (wholeOf (contextAt (p .bits)) parts) x) ⌝ }
-    ensures { λ r. ⌜ valueOf r ≡ fusedUnits (contextAt (p .bits)) (wholeOf (contextAt (p .bits)) parts) x ⌝ }
+    requires { ⌜ ValidPrecision (p .bits) × PartsAtEnd (contextAt (p .bits)) parts × HasBits (p .bits) x × (u1 ≡ firstUnits (contextAt (p .bits)) (unitPartsOf (contextAt (p .bits)) parts) x) ⌝ }
+    ensures { λ r. ⌜ valueOf r ≡ fusedUnits (contextAt (p .bits)) (unitPartsOf (contextAt (p .bits)) parts) x ⌝ }
 {
-    let high = wide::shifted_left(wide::from_word(parts.high * x), p.step());
+    let high = wide::shifted_left(wide::from_word(parts.high * x), p.step_exponent());
     let first = wide::from_word(u1);
     if parts.low < 0 {
         return wide::difference(high, first);
@@ -63,7 +63,7 @@ fn fused_units(p: Precision, parts: Parts, x: u64, u1: u64) -> Wide
 
 // A number of that unit, at least 1, to n bits: its leading zeros tell the digits to drop, and how many more than in binade 0 they are tells the binade.
 fn rounded_units(p: Precision, y: Wide) -> Product
-    requires { ⌜ Kept (p .bits) × (2 ^ (p .bits - 1) * 2 ^ scaleOf (p .bits) ≤ valueOf y) ⌝ }
+    requires { ⌜ ValidPrecision (p .bits) × (2 ^ (p .bits - 1) * 2 ^ scaleOf (p .bits) ≤ valueOf y) ⌝ }
     ensures { λ r. ⌜ r ≡ roundedUnits (contextAt (p .bits)) (valueOf y) ⌝ }
 {
     let r = round::round_wide(y, p.bits, TieRule::ToEven);
@@ -75,7 +75,7 @@ fn rounded_units(p: Precision, y: Wide) -> Product
 
 // The second step, u2 = RN(Ch * x + u1), of a factor that was accepted, a significand in range and its u1.
 pub fn second_step(f: Factor, x: u64, u1: u64) -> Product
-    requires { ⌜ Sound f × HasBits (f .precision .bits) x × (u1 ≡ firstUnits (contextOf f) (wholeOf (contextOf f) (f .parts)) x) ⌝ }
+    requires { ⌜ Sound f × HasBits (f .precision .bits) x × (u1 ≡ firstUnits (contextOf f) (unitPartsOf (contextOf f) (f .parts)) x) ⌝ }
     ensures { λ r. ⌜ r ≡ productBy f x ⌝ }
 {
     let p = f.precision;
@@ -103,7 +103,7 @@ fn steps_of(v: Product) -> u64
 
 // RN(C * x) at an end, in the same steps.
 fn end_steps(p: Precision, c: u64, x: u64) -> u64
-    requires { ⌜ Kept (p .bits) × End (contextAt (p .bits)) c × HasBits (p .bits) x ⌝ }
+    requires { ⌜ ValidPrecision (p .bits) × End (contextAt (p .bits)) c × HasBits (p .bits) x ⌝ }
     ensures { λ r. ⌜ r * 2 ^ scaleOf (p .bits) ≡ rn tieRule (p .bits) (c * x) 1 ⌝ }
 {
     steps_of(rounded_units(p, wide::product(c, x)))
@@ -151,7 +151,7 @@ pub fn trial(f: Factor, x: u64) -> Mark
 
 // Refusal 17: a significand outside 2 ^ (n - 1) to 2 ^ n - 1.
 pub fn significand_out(p: Precision, x: u64) -> bool
-    requires { ⌜ Kept (p .bits) ⌝ }
+    requires { ⌜ ValidPrecision (p .bits) ⌝ }
     ensures { λ r. ⌜ r ≡ significandOut (p .bits) x ⌝ }
 {
     if x < p.least() {

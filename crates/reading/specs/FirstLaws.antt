@@ -17,8 +17,8 @@ use Rattle.floats.specs.Times.{product-value, product-least, Told, told}
 use Rattle.factor.specs.declared.Factor.{Factor}
 use Rattle.factor.specs.Precision.{scaleOf}
 use Rattle.factor.specs.Context.{Context, Fine, tieRule, contextAt}
-use Rattle.factor.specs.ContextLaws.{kept-of, fine-at}
-use Rattle.factor.specs.Whole.{Whole, wholeOf}
+use Rattle.factor.specs.ContextLaws.{valid-of, fine-at}
+use Rattle.factor.specs.UnitParts.{UnitParts, unitPartsOf}
 use Rattle.factor.specs.SetUp.{Sound}
 use Rattle.product.specs.Units.{firstUnits, PartsAtEnd}
 use Rattle.product.specs.SoundLaws.{sound-parts}
@@ -29,7 +29,7 @@ abbrev pub K32 : Context
 K32 = contextAt (prec binary32)
 
 pub fine-32 : Fine K32
-fine-32 = fine-at (kept-of (lit≤ tt) (lit≤ tt))
+fine-32 = fine-at (valid-of (lit≤ tt) (lit≤ tt))
 
 pub near-32 : K32 .E < emax binary32
 unfolding scaleOf
@@ -42,8 +42,8 @@ module _ (f : Factor) (s : Sound f) (n : f .precision .bits ≡ prec binary32) w
   abbrev m : ℕ
   m = natAbs (f .parts .low)
 
-  abbrev w : Whole
-  w = wholeOf K32 (f .parts)
+  abbrev w : UnitParts
+  w = unitPartsOf K32 (f .parts)
 
   at : PartsAtEnd K32 (f .parts)
   at = subst (λ (b : ℕ). PartsAtEnd (contextAt b) (f .parts)) n (sound-parts f s)

@@ -9,7 +9,7 @@ use lib.Ieee
 use lib.Ieee.{Float, Format, binary32, prec, emax, hid, toBits, up, down}
 use Rattle.marks.specs.declared.Mark.{Mark}
 use Rattle.marks.specs.Answers.{Outcome, refused, accepted, answer, Marked}
-use Rattle.floats.specs.Fields.{signOf, plusZero, endless, zeroBits, subnormal, significandOf, exponentOf}
+use Rattle.floats.specs.Fields.{signOf, plusZero, infiniteOrNaN, zeroBits, subnormal, significandOf, exponentOf}
 use Rattle.factor.specs.declared.Factor.{Factor}
 use Rattle.factor.specs.SetUp.{intact}
 use Rattle.product.specs.declared.Product.{Product}
@@ -22,7 +22,7 @@ use Rattle.reading.specs.declared.Taken.{Taken}
 -- ---- a reading by its bit pattern b
 -- the conditions that refuse it before its product: state comes before input
 abbrev pub unreadable : Factor → ℕ → List (ℕ × Bool)
-unreadable f b = (31, not (intact f)) ∷ (20, not (eqb (f .precision .bits) (prec binary32))) ∷ (21, endless binary32 b) ∷ (22, subnormal binary32 b) ∷ []
+unreadable f b = (31, not (intact f)) ∷ (20, not (eqb (f .precision .bits) (prec binary32))) ∷ (21, infiniteOrNaN binary32 b) ∷ (22, subnormal binary32 b) ∷ []
 
 -- what it is if it is let through: a zero, or a normal number by its bits
 pub data Kind : Type 0 where

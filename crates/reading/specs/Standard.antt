@@ -15,7 +15,7 @@ use lib.Ieee.Scale.{round-same}
 use Rattle.rounding.specs.Round.{rounded}
 use Rattle.rounding.specs.RoundLaws.{HasBits}
 use Rattle.rounding.specs.Fraction.{Fraction, times, plus, Same}
-use Rattle.rounding.specs.FractionLaws.{Counts, plus-some, plus-same}
+use Rattle.rounding.specs.FractionLaws.{InUnits, plus-some, plus-same}
 use Rattle.rounding.specs.Ieee.{revalue, one-value, InRange, rounded-is-ieee}
 use Rattle.floats.specs.Fields.{unitAt}
 use Rattle.floats.specs.Times.{unlike-plus, unit-is}
@@ -24,13 +24,13 @@ use Rattle.factor.specs.declared.Parts.{Parts}
 use Rattle.factor.specs.Precision.{scaleOf}
 use Rattle.factor.specs.Context.{tieRule, contextAt, lowerOf}
 use Rattle.factor.specs.Parts.{partsAt}
-use Rattle.factor.specs.Whole.{End, Whole, whole, wholeOf}
-use Rattle.factor.specs.PartsLaws.{whole-of-parts}
+use Rattle.factor.specs.UnitParts.{End, UnitParts, unitParts, unitPartsOf}
+use Rattle.factor.specs.PartsLaws.{units-of-parts}
 use Rattle.factor.specs.SetUp.{floatIn, Sound}
 use Rattle.factor.specs.Stored.{high-number, low-number}
 use Rattle.product.specs.Product.{argument, high, low, first, fused, product, productBy, valueOf}
 use Rattle.product.specs.Units.{firstUnits, fusedUnits}
-use Rattle.product.specs.ProductLaws.{first-counts, fused-counts, fused-least, fused-near, product-value}
+use Rattle.product.specs.ProductLaws.{first-in-units, fused-in-units, fused-least, fused-near, product-value}
 use Rattle.reading.specs.FirstLaws.{K32, fine-32, near-32, first-float}
 
 -- a float has the value q
@@ -57,21 +57,21 @@ module _ (c : ℕ) (ce : End K32 c) (X : ℕ) (xb : HasBits (prec binary32) X) w
   abbrev y : Fraction
   y = fused K32 (partsAt K32 c) X
 
-  counts : Counts (2 ^ t) false (fusedUnits K32 (whole K32 c) X) y
-  counts = fused-counts K32 fine-32 c ce X (xb .most)
+  counts : InUnits (2 ^ t) false (fusedUnits K32 (unitParts K32 c) X) y
+  counts = fused-in-units K32 fine-32 c ce X (xb .most)
 
   -- from 1 to below 8
   from-one : y .den ≤ y .num
   unfolding scaleOf
   from-one =
-      let U = fusedUnits K32 (whole K32 c) X in
+      let U = fusedUnits K32 (unitParts K32 c) X in
       let u : 2 ^ t ≤ U = omega (arith, fused-least K32 fine-32 c ce X (xb .most), xb .least) in
       le-of-mul-le-mul-right {k = 2 ^ t} (omega (arith, counts .count, mul-le-mul-right (y .den) u)) (pow-pos t)
 
   to-eight : y .num ≤ 8 * y .den
   unfolding scaleOf
   to-eight =
-      let U = fusedUnits K32 (whole K32 c) X in
+      let U = fusedUnits K32 (unitParts K32 c) X in
       let u : U ≤ 8 * 2 ^ t = omega (arith, fused-near K32 fine-32 c ce X (xb .most) .0, mul-le-mul (le-of-lt (ce .to)) (le-of-lt (xb .most))) in
       le-of-mul-le-mul-right {k = 2 ^ t} (omega (arith, counts .count, mul-le-mul-right (y .den) u)) (pow-pos t)
 
@@ -92,11 +92,11 @@ module _ (c : ℕ) (ce : End K32 c) (X : ℕ) (xb : HasBits (prec binary32) X) w
       let v = valueOf (prec binary32) (product K32 (partsAt K32 c) X) in
       revalue x false _ (down (r .exponent)) (v .num) (v .den) (down-pos (r .exponent)) (product-value K32 fine-32 c ce X (xb .most) (xb .least) .1) (rounded-is-ieee binary32 false (y .num) (y .den) (counts .some) in-range)
 
-  first-count : let u = first K32 (partsAt K32 c) X in (0 < u .den) × (u .num * 2 ^ t ≡ firstUnits K32 (wholeOf K32 (partsAt K32 c)) X * u .den)
+  first-count : let u = first K32 (partsAt K32 c) X in (0 < u .den) × (u .num * 2 ^ t ≡ firstUnits K32 (unitPartsOf K32 (partsAt K32 c)) X * u .den)
   first-count =
       let u = first K32 (partsAt K32 c) X in
-      let k = first-counts K32 fine-32 c ce X (xb .most) in
-      (k .some, k .count ∙ ap (λ (w : Whole). firstUnits K32 w X * u .den) (whole-of-parts K32 fine-32 c ce))
+      let k = first-in-units K32 fine-32 c ce X (xb .most) in
+      (k .some, k .count ∙ ap (λ (w : UnitParts). firstUnits K32 w X * u .den) (units-of-parts K32 fine-32 c ce))
 
 -- ---- of a factor that was accepted, with the format's precision
 module _ (f : Factor) (s : Sound f) (n : f .precision .bits ≡ prec binary32) (X : ℕ) (xb : HasBits (prec binary32) X) where
@@ -111,9 +111,9 @@ module _ (f : Factor) (s : Sound f) (n : f .precision .bits ≡ prec binary32) (
   first-is y h v =
       let u1 = first K32 (f .parts) X in
       let w = mul binary32 (f .applied .low) y in
-      let u = firstUnits K32 (wholeOf K32 (f .parts)) X in
+      let u = firstUnits K32 (unitPartsOf K32 (f .parts)) X in
       let k : (0 < u1 .den) × (u1 .num * 2 ^ t ≡ u * u1 .den) =
-      subst (λ (p : Parts). (0 < first K32 p X .den) × (first K32 p X .num * 2 ^ t ≡ firstUnits K32 (wholeOf K32 p) X * first K32 p X .den)) (sym parts-32) (first-count (lowerOf f) end-32 X xb) in
+      subst (λ (p : Parts). (0 < first K32 p X .den) × (first K32 p X .num * 2 ^ t ≡ firstUnits K32 (unitPartsOf K32 p) X * first K32 p X .den)) (sym parts-32) (first-count (lowerOf f) end-32 X xb) in
       subst (λ b. HasValue w b (u1 .num) (u1 .den)) (sym (unlike-plus _))
       (revalue w _ (u * 2 ^ unitAt binary32 (K32 .E)) (2 ^ Ieee.low binary32) (u1 .num) (u1 .den) (pow-pos (Ieee.low binary32)) (regroup u (u1 .num) (u1 .den) (2 ^ unitAt binary32 (K32 .E)) (2 ^ t) (2 ^ Ieee.low binary32) (unit-is binary32 (K32 .E) near-32) (k .1)) (first-float f s n X xb (f .applied .low) y (low-number f s h) v))
     where

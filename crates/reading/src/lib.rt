@@ -11,7 +11,7 @@ ghost use Rattle.marks.specs.Answers.{accepted, answer};
 ghost use Rattle.rounding.specs.RoundLaws.{HasBits};
 ghost use Rattle.floats.specs.Fields.{Normal, significandOf};
 ghost use Rattle.factor.specs.Context.{contextOf};
-ghost use Rattle.factor.specs.Whole.{wholeOf};
+ghost use Rattle.factor.specs.UnitParts.{unitPartsOf};
 ghost use Rattle.factor.specs.SetUp.{scaleOut, Sound};
 ghost use Rattle.product.specs.Product.{productBy};
 ghost use Rattle.product.specs.Units.{firstUnits};
@@ -40,7 +40,7 @@ enum Taken {
 // u1 = RN(Cl * x): one binary32 multiplication on [1, 2).
 fn first_step(f: Factor, x: u32) -> u64
     requires { ⌜ Sound f × (f .precision .bits ≡ prec binary32) × HasBits (prec binary32) x ⌝ }
-    ensures { λ r. ⌜ r ≡ firstUnits (contextOf f) (wholeOf (contextOf f) (f .parts)) x ⌝ }
+    ensures { λ r. ⌜ r ≡ firstUnits (contextOf f) (unitPartsOf (contextOf f) (f .parts)) x ⌝ }
 {
     let low = f.applied.low;
     let p = f.precision;
@@ -73,7 +73,7 @@ fn finish(f: Factor, bits: u32, v: Product) -> ReadingAnswer
     requires { ⌜ Sound f × (f .precision .bits ≡ prec binary32) × Normal binary32 bits × HasBits (prec binary32) (v .significand) × (v .binade ≤ 1) ⌝ }
     ensures { λ r. ⌜ outcomeOf r ≡ finished f bits v ⌝ }
 {
-    let place = floats::field_of(bits) + lifted(f.applied.scale) + v.binade;
+    let place = floats::biased_exponent(bits) + lifted(f.applied.scale) + v.binade;
     if place < LEAST_PLACE {
         return ReadingAnswer::Refused(23);
     }
@@ -100,8 +100,8 @@ fn take(f: Factor, reading: f32) -> Taken
         return Taken::Refused(20);
     }
     let bits = floats::bits_of(reading);
-    let field = floats::field_of(bits);
-    let digits = floats::digits_of(bits);
+    let field = floats::biased_exponent(bits);
+    let digits = floats::trailing_significand(bits);
     if field == floats::ENDLESS {
         return Taken::Refused(21);
     }

@@ -11,7 +11,7 @@ ghost use Rattle.rounding.specs.Grid.{ruleOf, location, choose, nearest};
 ghost use Rattle.rounding.specs.Round.{normalised, rounded};
 ghost use lib.IntN.{natAbs};
 ghost use Rattle.rounding.specs.Signed.{signedOf, roundedSigned};
-ghost use Rattle.rounding.specs.Whole.{padded};
+ghost use Rattle.rounding.specs.ByDigits.{padded};
 ghost use Rattle.wide.specs.Value.{wordBits, halfWord, valueOf};
 
 // Where r / 2 ^ k lies between 0 and 1.

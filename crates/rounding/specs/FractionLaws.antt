@@ -20,28 +20,28 @@ use Rattle.rounding.specs.RoundLaws.{rounded-whole, rounded-value}
 use Rattle.rounding.specs.Fraction.{Fraction, over, power, negated, times, joined, plus, less, distance, RN, Same, below, equal, Below, AtMost}
 
 -- x is a / T in size, and negative where m
-pub record Counts (T : ℕ) (m : Bool) (a : ℕ) (x : Fraction) : Type 0 where
+pub record InUnits (T : ℕ) (m : Bool) (a : ℕ) (x : Fraction) : Type 0 where
   pub unit : 0 < T
   pub some : 0 < x .den
   pub sign : x .minus ≡ m
   pub count : x .num * T ≡ a * x .den
 
-pub over-counts : (a t : ℕ) → Counts (2 ^ t) false a (over a t)
-over-counts a t = record { unit = pow-pos t; some = pow-pos t; sign = refl; count = refl }
+pub over-in-units : (a t : ℕ) → InUnits (2 ^ t) false a (over a t)
+over-in-units a t = record { unit = pow-pos t; some = pow-pos t; sign = refl; count = refl }
 
-pub power-counts : (a t : ℕ) → Counts (2 ^ t) false (2 ^ a) (power (minus a t))
-power-counts a t = record { unit = pow-pos t; some = down-pos (minus a t); sign = refl; count = omega (arith, minus-val 1 a t) }
+pub power-in-units : (a t : ℕ) → InUnits (2 ^ t) false (2 ^ a) (power (minus a t))
+power-in-units a t = record { unit = pow-pos t; some = down-pos (minus a t); sign = refl; count = omega (arith, minus-val 1 a t) }
 
 -- in a finer unit
-pub counts-finer : (T c : ℕ) → 0 < c → (m : Bool) (a : ℕ) (x : Fraction) → Counts T m a x → Counts (T * c) m (a * c) x
-counts-finer T c C m a x k = record { unit = mul-pos (k .unit) C; some = k .some; sign = k .sign; count = omega (arith, ap (λ (z : ℕ). z * c) (k .count)) }
+pub units-finer : (T c : ℕ) → 0 < c → (m : Bool) (a : ℕ) (x : Fraction) → InUnits T m a x → InUnits (T * c) m (a * c) x
+units-finer T c C m a x k = record { unit = mul-pos (k .unit) C; some = k .some; sign = k .sign; count = omega (arith, ap (λ (z : ℕ). z * c) (k .count)) }
 
 -- ---- RN
 pub RN-some : (rule : Rule) (n : ℕ) (x : Fraction) → 0 < RN rule n x .den
 RN-some rule n x = down-pos (rounded rule n (x .num) (x .den) .exponent)
 
-pub RN-counts : (rule : Rule) (n : ℕ) → 0 < n → (t : ℕ) (m : Bool) (a : ℕ) (x : Fraction) → Counts (2 ^ t) m a x → Counts (2 ^ t) m (rn rule n a 1) (RN rule n x)
-RN-counts rule n P t m a x k =
+pub RN-in-units : (rule : Rule) (n : ℕ) → 0 < n → (t : ℕ) (m : Bool) (a : ℕ) (x : Fraction) → InUnits (2 ^ t) m a x → InUnits (2 ^ t) m (rn rule n a 1) (RN rule n x)
+RN-in-units rule n P t m a x k =
     record {
       unit = pow-pos t;
       some = RN-some rule n x;
@@ -50,8 +50,8 @@ RN-counts rule n P t m a x k =
     }
 
 -- and of a fraction a / e of the unit, if that has n digits
-pub RN-counts-fraction : (rule : Rule) (n : ℕ) → 0 < n → (t e : ℕ) (m : Bool) (a : ℕ) (x : Fraction) → 0 < e → 2 ^ n * e ≤ 2 * a → Counts (2 ^ t * e) m a x → Counts (2 ^ t) m (rn rule n a e) (RN rule n x)
-RN-counts-fraction rule n P t e m a x E fine k =
+pub RN-in-units-fraction : (rule : Rule) (n : ℕ) → 0 < n → (t e : ℕ) (m : Bool) (a : ℕ) (x : Fraction) → 0 < e → 2 ^ n * e ≤ 2 * a → InUnits (2 ^ t * e) m a x → InUnits (2 ^ t) m (rn rule n a e) (RN rule n x)
+RN-in-units-fraction rule n P t e m a x E fine k =
     record {
       unit = pow-pos t;
       some = RN-some rule n x;
@@ -70,10 +70,10 @@ module _ (rule : Rule) (n : ℕ) (P : 0 < n) (x y : Fraction) (X : 0 < x .num) (
       let s = n + size (x .den) in
       let N = x .num * 2 ^ (s + a) in
       let fine = enough (x .num) (x .den) s a X (omega (arith, mul-le-mul-left (2 ^ n) (le-of-lt (size-lt (x .den))), pow-add 2 n (size (x .den)))) in
-      let cx : Counts (2 ^ (s + a) * x .den) (x .minus) N x = record { unit = mul-pos (pow-pos (s + a)) D; some = D; sign = refl; count = omega arith } in
-      let cy : Counts (2 ^ (s + b) * x .den) (y .minus) N y = record { unit = mul-pos (pow-pos (s + b)) D; some = Y; sign = refl; count = shifted (y .num) (y .den) (x .num) (x .den) (2 ^ s) (2 ^ a) (2 ^ b) (up z) (down z) (2 ^ (s + a)) (2 ^ (s + b)) (down-pos z) (pow-add 2 s a) (pow-add 2 s b) w e } in
-      let rx = RN-counts-fraction rule n P (s + a) (x .den) (x .minus) N x D fine cx in
-      let ry = RN-counts-fraction rule n P (s + b) (x .den) (y .minus) N y D fine cy in
+      let cx : InUnits (2 ^ (s + a) * x .den) (x .minus) N x = record { unit = mul-pos (pow-pos (s + a)) D; some = D; sign = refl; count = omega arith } in
+      let cy : InUnits (2 ^ (s + b) * x .den) (y .minus) N y = record { unit = mul-pos (pow-pos (s + b)) D; some = Y; sign = refl; count = shifted (y .num) (y .den) (x .num) (x .den) (2 ^ s) (2 ^ a) (2 ^ b) (up z) (down z) (2 ^ (s + a)) (2 ^ (s + b)) (down-pos z) (pow-add 2 s a) (pow-add 2 s b) w e } in
+      let rx = RN-in-units-fraction rule n P (s + a) (x .den) (x .minus) N x D fine cx in
+      let ry = RN-in-units-fraction rule n P (s + b) (x .den) (y .minus) N y D fine cy in
       unshifted (RN rule n y .num) (RN rule n y .den) (RN rule n x .num) (RN rule n x .den) (rn rule n N (x .den)) (2 ^ s) (2 ^ a) (2 ^ b) (up z) (down z) (2 ^ (s + a)) (2 ^ (s + b)) (ry .unit) (pow-add 2 s a) (pow-add 2 s b) w (rx .count) (ry .count)
     where
       enough : (M d s a : ℕ) → 0 < M → 2 ^ n * d ≤ 2 ^ s → 2 ^ n * d ≤ 2 * (M * 2 ^ (s + a))
@@ -99,8 +99,8 @@ pub RN-negated : (rule : Rule) (n : ℕ) (x : Fraction) → RN rule n (negated x
 RN-negated rule n x = refl
 
 -- ---- products
-pub times-counts : (T S : ℕ) (a b : ℕ) (m : Bool) (x y : Fraction) → Counts T m a x → Counts S false b y → Counts (T * S) m (a * b) (times x y)
-times-counts T S a b m x y c d =
+pub times-in-units : (T S : ℕ) (a b : ℕ) (m : Bool) (x y : Fraction) → InUnits T m a x → InUnits S false b y → InUnits (T * S) m (a * b) (times x y)
+times-in-units T S a b m x y c d =
     record {
       unit = mul-pos (c .unit) (d .unit);
       some = mul-pos (c .some) (d .some);
@@ -176,8 +176,8 @@ size-scale false false a b c = omega arith
 size-scale true false a b c = sym (apart-mul a b c)
 size-scale false true a b c = sym (apart-mul a b c)
 
-pub plus-counts : (T : ℕ) (a b : ℕ) (m k : Bool) (x y : Fraction) → Counts T m a x → Counts T k b y → Counts T (sumSign m k a b) (sumSize m k a b) (plus x y)
-plus-counts T a b m k x y c d =
+pub plus-in-units : (T : ℕ) (a b : ℕ) (m k : Bool) (x y : Fraction) → InUnits T m a x → InUnits T k b y → InUnits T (sumSign m k a b) (sumSize m k a b) (plus x y)
+plus-in-units T a b m k x y c d =
     let p = x .num * y .den in
     let q = y .num * x .den in
     let e = x .den * y .den in
@@ -201,21 +201,21 @@ plus-counts T a b m k x y c d =
           ∙ ap (λ (z : ℕ). sumSize m k a b * z) (sym (joined-den (x .minus) (y .minus) p q e));
     }
 
-pub less-counts : (T : ℕ) (a b : ℕ) (x y : Fraction) → Counts T false a x → Counts T false b y → Counts T (ltb a b) (apart a b) (less x y)
-less-counts T a b x y c d = plus-counts T a b false true x (negated y) c (record { unit = d .unit; some = d .some; sign = ap not (d .sign); count = d .count })
+pub less-in-units : (T : ℕ) (a b : ℕ) (x y : Fraction) → InUnits T false a x → InUnits T false b y → InUnits T (ltb a b) (apart a b) (less x y)
+less-in-units T a b x y c d = plus-in-units T a b false true x (negated y) c (record { unit = d .unit; some = d .some; sign = ap not (d .sign); count = d .count })
 
-pub distance-counts : (T : ℕ) (a b : ℕ) (x y : Fraction) → Counts T false a x → Counts T false b y → Counts T false (apart a b) (distance x y)
-distance-counts T a b x y c d = let z = less-counts T a b x y c d in record { unit = z .unit; some = z .some; sign = refl; count = z .count }
+pub distance-in-units : (T : ℕ) (a b : ℕ) (x y : Fraction) → InUnits T false a x → InUnits T false b y → InUnits T false (apart a b) (distance x y)
+distance-in-units T a b x y c d = let z = less-in-units T a b x y c d in record { unit = z .unit; some = z .some; sign = refl; count = z .count }
 
 -- ---- order and equality
-pub counts-same : (T : ℕ) (m : Bool) (a : ℕ) (x y : Fraction) → Counts T m a x → Counts T m a y → Same x y
-counts-same T m a x y c d = (
+pub units-same : (T : ℕ) (m : Bool) (a : ℕ) (x y : Fraction) → InUnits T m a x → InUnits T m a y → Same x y
+units-same T m a x y c d = (
   c .sign ∙ sym (d .sign),
   eq-of-mul-eq-mul-right T (c .unit) (x .num * y .den) (y .num * x .den) (omega (arith, ap (λ (z : ℕ). z * y .den) (c .count), ap (λ (z : ℕ). z * x .den) (d .count))),
 )
 
-pub counts-unique : (T : ℕ) (m : Bool) (a b : ℕ) (x y : Fraction) → Counts T m a x → Counts T m b y → Same x y → a ≡ b
-counts-unique T m a b x y c d s =
+pub units-unique : (T : ℕ) (m : Bool) (a b : ℕ) (x y : Fraction) → InUnits T m a x → InUnits T m b y → Same x y → a ≡ b
+units-unique T m a b x y c d s =
     eq-of-mul-eq-mul-right (x .den * y .den) (mul-pos (c .some) (d .some)) a b
     (omega (arith, ap (λ (z : ℕ). z * y .den) (c .count), ap (λ (z : ℕ). z * x .den) (d .count), ap (λ (z : ℕ). z * T) (s .1)))
 
@@ -224,32 +224,32 @@ pub plus-same : (x y a b : Fraction) → 0 < x .den → 0 < y .den → 0 < a .de
 plus-same x y a b X Y A B p q =
     let T = x .den * y .den in
     let U = mul-pos X Y in
-    counts-same T _ _ (plus x y) (plus a b)
-    (plus-counts T (x .num * y .den) (y .num * x .den) (x .minus) (y .minus) x y (record { unit = U; some = X; sign = refl; count = omega arith }) (record { unit = U; some = Y; sign = refl; count = omega arith }))
-    (plus-counts T (x .num * y .den) (y .num * x .den) (x .minus) (y .minus) a b
+    units-same T _ _ (plus x y) (plus a b)
+    (plus-in-units T (x .num * y .den) (y .num * x .den) (x .minus) (y .minus) x y (record { unit = U; some = X; sign = refl; count = omega arith }) (record { unit = U; some = Y; sign = refl; count = omega arith }))
+    (plus-in-units T (x .num * y .den) (y .num * x .den) (x .minus) (y .minus) a b
     (record { unit = U; some = A; sign = sym (p .0); count = omega (arith, ap (λ (z : ℕ). z * y .den) (p .1)) })
     (record { unit = U; some = B; sign = sym (q .0); count = omega (arith, ap (λ (z : ℕ). z * x .den) (q .1)) }))
 
-module _ (T a b : ℕ) (x y : Fraction) (c : Counts T false a x) (d : Counts T false b y) where
+module _ (T a b : ℕ) (x y : Fraction) (c : InUnits T false a x) (d : InUnits T false b y) where
   left : x .num * y .den * T ≡ a * (x .den * y .den)
   left = omega (arith, ap (λ (z : ℕ). z * y .den) (c .count))
 
   right : y .num * x .den * T ≡ b * (x .den * y .den)
   right = omega (arith, ap (λ (z : ℕ). z * x .den) (d .count))
 
-  pub below-counts : below x y ≡ ltb a b
-  below-counts = sym (ltb-scale (x .num * y .den) (y .num * x .den) T (c .unit)) ∙ ap₂ ltb left right ∙ ltb-scale a b (x .den * y .den) (mul-pos (c .some) (d .some))
+  pub below-in-units : below x y ≡ ltb a b
+  below-in-units = sym (ltb-scale (x .num * y .den) (y .num * x .den) T (c .unit)) ∙ ap₂ ltb left right ∙ ltb-scale a b (x .den * y .den) (mul-pos (c .some) (d .some))
 
-  pub equal-counts : equal x y ≡ eqb a b
-  equal-counts = sym (eqb-scale (x .num * y .den) (y .num * x .den) T (c .unit)) ∙ ap₂ eqb left right ∙ eqb-scale a b (x .den * y .den) (mul-pos (c .some) (d .some))
+  pub equal-in-units : equal x y ≡ eqb a b
+  equal-in-units = sym (eqb-scale (x .num * y .den) (y .num * x .den) T (c .unit)) ∙ ap₂ eqb left right ∙ eqb-scale a b (x .den * y .den) (mul-pos (c .some) (d .some))
 
 -- the order, also where they are counted in two units
-module _ (T S a b : ℕ) (x y : Fraction) (c : Counts T false a x) (d : Counts S false b y) where
+module _ (T S a b : ℕ) (x y : Fraction) (c : InUnits T false a x) (d : InUnits S false b y) where
   across : (x .num * y .den * (T * S) ≡ a * S * (x .den * y .den)) × (y .num * x .den * (T * S) ≡ b * T * (x .den * y .den))
   across = (omega (arith, ap (λ (z : ℕ). z * (y .den * S)) (c .count)), omega (arith, ap (λ (z : ℕ). z * (x .den * T)) (d .count)))
 
-  pub counts-at-most : a * S ≤ b * T → AtMost x y
-  counts-at-most h = le-of-mul-le-mul-right {k = T * S} (omega (arith, across, mul-le-mul-right (x .den * y .den) h)) (mul-pos (c .unit) (d .unit))
+  pub units-at-most : a * S ≤ b * T → AtMost x y
+  units-at-most h = le-of-mul-le-mul-right {k = T * S} (omega (arith, across, mul-le-mul-right (x .den * y .den) h)) (mul-pos (c .unit) (d .unit))
 
-  pub counts-below : a * S < b * T → Below x y
-  counts-below h = lt-of-mul-lt-mul-right (T * S) (omega (arith, across, mul-lt-mul-of-pos-right h (mul-pos (c .some) (d .some))))
+  pub units-below : a * S < b * T → Below x y
+  units-below h = lt-of-mul-lt-mul-right (T * S) (omega (arith, across, mul-lt-mul-of-pos-right h (mul-pos (c .some) (d .some))))

@@ -15,5 +15,5 @@ pub mod Ulp
 pub mod UlpLaws
 pub mod Examples
 pub mod Ieee
-pub mod Whole
+pub mod ByDigits
 pub mod Signed

@@ -16,7 +16,7 @@ use Rattle.rounding.specs.Unit.{rn}
 use Rattle.rounding.specs.UnitLaws.{rn-half}
 use Rattle.rounding.specs.RoundLaws.{minus-add, minus-shift, minus-zero, zero-minus}
 use Rattle.rounding.specs.Fraction.{Fraction, over, power, times, distance, RN, Same, AtMost, Positive}
-use Rattle.rounding.specs.FractionLaws.{Counts, over-counts, power-counts, counts-finer, RN-counts-fraction, times-counts, distance-counts, counts-same, counts-at-most, counts-below}
+use Rattle.rounding.specs.FractionLaws.{InUnits, over-in-units, power-in-units, units-finer, RN-in-units-fraction, times-in-units, distance-in-units, units-same, units-at-most, units-below}
 use Rattle.rounding.specs.Ulp.{InBinade, binadeOf, ulp}
 
 minus-plus : (a b j : ℕ) → minus (a + j) b ≡ minus a b +ℤ pos j
@@ -24,8 +24,8 @@ minus-plus a b j = sym (minus-shift (a + j) b j) ∙ ap (λ (z : ℤ). z +ℤ po
 
 module _ (v : Fraction) (p : Positive v) where
   -- v in the unit 2 ^ - t
-  v-counts : (t : ℕ) → Counts (2 ^ t * v .den) false (v .num * 2 ^ t) v
-  v-counts t = record { unit = mul-pos (pow-pos t) (p .some); some = p .some; sign = p .sign; count = omega arith }
+  v-in-units : (t : ℕ) → InUnits (2 ^ t * v .den) false (v .num * 2 ^ t) v
+  v-in-units t = record { unit = mul-pos (pow-pos t) (p .some); some = p .some; sign = p .sign; count = omega arith }
 
   -- it has n digits there, if t is n more than the digits of its denominator
   digits : (n : ℕ) → 2 ^ n * v .den ≤ 2 * (v .num * 2 ^ (n + size (v .den)))
@@ -41,8 +41,8 @@ module _ (v : Fraction) (p : Positive v) where
       let e = minus a t in
       let w = ap (λ (z : ℕ). z * (v .den * 2 ^ t)) (pow-add 2 1 a) in
       record {
-        from = counts-at-most (2 ^ t) (2 ^ t * v .den) (2 ^ a) N (power e) v (power-counts a t) (v-counts t) (omega (arith, w, mul-le-mul-right (2 ^ t) (drop-lower 1 N (v .den) (p .some) (omega arith) (digits 1))));
-        to = counts-below (2 ^ t * v .den) (2 ^ 0 * 2 ^ t) N (2 * 2 ^ a) v (times (over 2 0) (power e)) (v-counts t) (times-counts (2 ^ 0) (2 ^ t) 2 (2 ^ a) false (over 2 0) (power e) (over-counts 2 0) (power-counts a t)) (omega (arith, w, mul-lt-mul-of-pos-right (drop-upper 1 N (v .den) (p .some)) (pow-pos t)));
+        from = units-at-most (2 ^ t) (2 ^ t * v .den) (2 ^ a) N (power e) v (power-in-units a t) (v-in-units t) (omega (arith, w, mul-le-mul-right (2 ^ t) (drop-lower 1 N (v .den) (p .some) (omega arith) (digits 1))));
+        to = units-below (2 ^ t * v .den) (2 ^ 0 * 2 ^ t) N (2 * 2 ^ a) v (times (over 2 0) (power e)) (v-in-units t) (times-in-units (2 ^ 0) (2 ^ t) 2 (2 ^ a) false (over 2 0) (power e) (over-in-units 2 0) (power-in-units a t)) (omega (arith, w, mul-lt-mul-of-pos-right (drop-upper 1 N (v .den) (p .some)) (pow-pos t)));
       }
 
   -- in any unit 2 ^ - t in which it is N / d and not below 1
@@ -75,15 +75,15 @@ module _ (v : Fraction) (p : Positive v) where
 
 module _ (n : ℕ) (P : 0 < n) where
   -- in every unit in which v has n digits it is the step of RN
-  pub ulp-counts : (v : Fraction) → Positive v → (t d N : ℕ) → 0 < d → 2 ^ n * d ≤ 2 * N → Counts (2 ^ t * d) false N v → Counts (2 ^ t) false (2 ^ drop n N d) (ulp n v)
+  pub ulp-in-units : (v : Fraction) → Positive v → (t d N : ℕ) → 0 < d → 2 ^ n * d ≤ 2 * N → InUnits (2 ^ t * d) false N v → InUnits (2 ^ t) false (2 ^ drop n N d) (ulp n v)
   unfolding ulp
-  ulp-counts v p t d N D fine c =
+  ulp-in-units v p t d N D fine c =
       let k = drop n N d in
       let w : 2 ^ (1 + (k + (n - 1))) * d ≡ 2 ^ (n + k) * d = ap (λ (z : ℕ). 2 ^ z * d) (omega arith) in
       let j : drop 1 N d ≡ k + (n - 1) = drop-at 1 N d D (k + (n - 1)) (omega arith) (omega (arith, w, drop-lower n N d D P fine)) (omega (arith, w, drop-upper n N d D)) in
       let l : d ≤ N = omega (arith, ap (λ (z : ℕ). z * d) (pow-half n P), mul-le-mul-right d (pow-pos (n - 1))) in
       let e : binadeOf v ≡ minus k t +ℤ pos (n - 1) = binade-at v p t N d D (mul-assoc (v .num) (2 ^ t) d ∙ c .count) l ∙ ap (λ (z : ℕ). minus z t) j ∙ minus-plus k t (n - 1) in
-      subst (λ (z : ℤ). Counts (2 ^ t) false (2 ^ k) (power z)) (sym (ap (λ (z : ℤ). z -ℤ pos (n - 1)) e ∙ +ℤ-negℤ-cancel (minus k t) (pos (n - 1)))) (power-counts k t)
+      subst (λ (z : ℤ). InUnits (2 ^ t) false (2 ^ k) (power z)) (sym (ap (λ (z : ℤ). z -ℤ pos (n - 1)) e ∙ +ℤ-negℤ-cancel (minus k t) (pos (n - 1)))) (power-in-units k t)
 
   scaled : (v : Fraction) → Positive v → (i s : ℕ) → Same (ulp n (times (over (2 ^ i) s) v)) (times (over (2 ^ i) s) (ulp n v))
   scaled v p i s =
@@ -94,12 +94,12 @@ module _ (n : ℕ) (P : 0 < n) where
       let k = drop n N d in
       let fine = digits v p n in
       let q : Positive w = record { sign = ap (unlike false) (p .sign); above = mul-pos (pow-pos i) (p .above); some = mul-pos (pow-pos s) (p .some) } in
-      let m : Counts (2 ^ (s + t) * d) false (N * 2 ^ i) w =
+      let m : InUnits (2 ^ (s + t) * d) false (N * 2 ^ i) w =
       record { unit = mul-pos (pow-pos (s + t)) (p .some); some = q .some; sign = q .sign; count = omega (arith, ap (λ (z : ℕ). 2 ^ i * v .num * z * d) (pow-add 2 s t)) } in
       let e : 2 ^ drop n (N * 2 ^ i) d ≡ 2 ^ i * 2 ^ k = ap (λ (z : ℕ). 2 ^ z) (drop-finer n N d (N * 2 ^ i) d i P (p .some) (p .some) refl fine ∙ omega arith) ∙ pow-add 2 i k in
-      let c = ulp-counts w q (s + t) d (N * 2 ^ i) (p .some) (omega (arith, fine, mul-le-mul-left N (pow-pos i))) m in
-      counts-same (2 ^ s * 2 ^ t) false (2 ^ i * 2 ^ k) (ulp n w) (times (over (2 ^ i) s) (ulp n v)) (rw (pow-add 2 s t, e) at c)
-      (times-counts (2 ^ s) (2 ^ t) (2 ^ i) (2 ^ k) false (over (2 ^ i) s) (ulp n v) (over-counts (2 ^ i) s) (ulp-counts v p t d N (p .some) fine (v-counts v p t)))
+      let c = ulp-in-units w q (s + t) d (N * 2 ^ i) (p .some) (omega (arith, fine, mul-le-mul-left N (pow-pos i))) m in
+      units-same (2 ^ s * 2 ^ t) false (2 ^ i * 2 ^ k) (ulp n w) (times (over (2 ^ i) s) (ulp n v)) (rw (pow-add 2 s t, e) at c)
+      (times-in-units (2 ^ s) (2 ^ t) (2 ^ i) (2 ^ k) false (over (2 ^ i) s) (ulp n v) (over-in-units (2 ^ i) s) (ulp-in-units v p t d N (p .some) fine (v-in-units v p t)))
 
   -- ulp(2 ^ j * v) = 2 ^ j * ulp(v)
   pub ulp-scale : (v : Fraction) → Positive v → (j : ℤ) → Same (ulp n (times (power j) v)) (times (power j) (ulp n v))
@@ -115,9 +115,9 @@ module _ (rule : Rule) (n : ℕ) (P : 0 < n) (v : Fraction) (p : Positive v) whe
       let N = v .num * 2 ^ t in
       let r = rn rule n N d in
       let fine = digits v p n in
-      let c = v-counts v p t in
-      let R = counts-finer (2 ^ t) d (p .some) false r (RN rule n v) (RN-counts-fraction rule n P t d false N v (p .some) fine c) in
-      counts-at-most (2 ^ t * d) (2 ^ 1 * 2 ^ t) (apart (r * d) N) (1 * 2 ^ drop n N d) (distance (RN rule n v) v) (times (over 1 1) (ulp n v))
-      (distance-counts (2 ^ t * d) (r * d) N (RN rule n v) v R c)
-      (times-counts (2 ^ 1) (2 ^ t) 1 (2 ^ drop n N d) false (over 1 1) (ulp n v) (over-counts 1 1) (ulp-counts n P v p t d N (p .some) fine c))
+      let c = v-in-units v p t in
+      let R = units-finer (2 ^ t) d (p .some) false r (RN rule n v) (RN-in-units-fraction rule n P t d false N v (p .some) fine c) in
+      units-at-most (2 ^ t * d) (2 ^ 1 * 2 ^ t) (apart (r * d) N) (1 * 2 ^ drop n N d) (distance (RN rule n v) v) (times (over 1 1) (ulp n v))
+      (distance-in-units (2 ^ t * d) (r * d) N (RN rule n v) v R c)
+      (times-in-units (2 ^ 1) (2 ^ t) 1 (2 ^ drop n N d) false (over 1 1) (ulp n v) (over-in-units 1 1) (ulp-in-units n P v p t d N (p .some) fine c))
       (omega (arith, mul-le-mul-right (2 ^ t) (rn-half rule n P N d (p .some))))

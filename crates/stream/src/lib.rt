@@ -97,7 +97,7 @@ struct Turn {
 }
 
 // How much of a line is kept, and where the input goes on.
-struct Kept {
+struct ValidPrecision {
     length: usize,
     at: usize,
 }
@@ -121,7 +121,7 @@ fn keep_byte(held: &mut [u8], count: usize, b: u8) -> usize
 }
 
 // Reads up to the next line feed or to the end of the input.
-fn keep_line(held: &mut [u8], count: usize, input: &[u8], at: usize) -> Kept
+fn keep_line(held: &mut [u8], count: usize, input: &[u8], at: usize) -> ValidPrecision
     requires { ⌜ (length (now held) ≡ 40) × (count ≤ 40) × (at ≤ length (now input)) ⌝ }
     ensures { λ r. ⌜ (length (now (held .exit)) ≡ 40) × (r .length ≤ 40) × (take (r .length) (now (held .exit)) ≡ kept (take count (now (held .entry))) (drop at (now (input .entry)))) ⌝ }
     ensures { λ r. ⌜ (r .at ≤ length (now (input .entry))) × (drop (r .at) (now (input .entry)) ≡ upToFeed (drop at (now (input .entry)))) ⌝ }
@@ -131,12 +131,12 @@ fn keep_line(held: &mut [u8], count: usize, input: &[u8], at: usize) -> Kept
     while place < input.len() {
         let b = input[place];
         if b == LINE_FEED {
-            return Kept { length, at: place };
+            return ValidPrecision { length, at: place };
         }
         length = keep_byte(held, length, b);
         place += 1;
     }
-    Kept { length, at: place }
+    ValidPrecision { length, at: place }
 }
 
 // What a line asks for: a factor to sweep, or a refusal.

@@ -13,7 +13,7 @@ use Rattle.rounding.specs.Unit.{rn}
 use Rattle.rounding.specs.UnitLaws.{rn-constant}
 use Rattle.factor.specs.Context.{Context, Fine}
 use Rattle.factor.specs.Parts.{partsAt}
-use Rattle.factor.specs.Whole.{End, Whole, whole}
+use Rattle.factor.specs.UnitParts.{End, UnitParts, unitParts}
 use Rattle.factor.specs.PartsLaws.{top-is}
 use Rattle.factor.specs.Accepted.{spread}
 use Rattle.product.specs.Units.{fusedUnits, secondUnits}
@@ -110,8 +110,8 @@ module _ (K : Context) (ok : Fine K) (L U : ℕ) (le : End K L) (ue : End K U) (
   open Context K using (rule, n, E)
   open Fine ok using (some as P, room as F)
 
-  abbrev w : Whole
-  w = whole K L
+  abbrev w : UnitParts
+  w = unitParts K L
 
   module _ (X : ℕ) (x1 : 2 ^ (n - 1) ≤ X) (xe : X < 2 ^ n) (clear : ¬ Suspect K L U X) where
     abbrev y : ℕ

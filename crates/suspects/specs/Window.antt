@@ -13,7 +13,7 @@ use Rattle.rounding.specs.Digits.{pow-half}
 use Rattle.rounding.specs.Unit.{rn}
 use Rattle.factor.specs.Context.{Context, Fine}
 use Rattle.factor.specs.Parts.{partsAt}
-use Rattle.factor.specs.Whole.{End, whole}
+use Rattle.factor.specs.UnitParts.{End, unitParts}
 use Rattle.factor.specs.PartsLaws.{top-is}
 use Rattle.factor.specs.Accepted.{spread}
 use Rattle.product.specs.Product.{product}
@@ -94,7 +94,7 @@ module _ (K : Context) (ok : Fine K) (two : 2 ≤ K .n) (L U : ℕ) (le : End K 
   pub not-right-suspect : 2 ^ (n - 1) ≤ X → X < 2 ^ n → ¬ (mark K L U X (product K (partsAt K L) X) ≡ Right) → Suspect K L U X
   not-right-suspect x1 xe m = go (isSuspect K L U X) refl
     where
-      v-is : product K (partsAt K L) X .significand * 2 ^ (E + product K (partsAt K L) X .binade) ≡ secondUnits K (whole K L) X
+      v-is : product K (partsAt K L) X .significand * 2 ^ (E + product K (partsAt K L) X .binade) ≡ secondUnits K (unitParts K L) X
       v-is = product-is K ok L le X xe x1 .value
 
       go : (b : Bool) → isSuspect K L U X ≡ b → Suspect K L U X

@@ -57,7 +57,7 @@ fn sought_in(f: Factor, dropped: u32) -> Sought
     ensures { λ r. ⌜ r ≡ soughtIn (contextOf f) (lowerOf f) (upperOf f) (2 ^ (dropped - 1)) ⌝ }
 {
     let p = f.precision;
-    let window = wide::power(p.window());
+    let window = wide::power(p.window_exponent());
     let widening = (f.upper - f.lower) * wide::power(p.bits);
     sought_near(f.lower, wide::power(dropped - 1), window, widening)
 }

@@ -10,7 +10,7 @@ ghost use mathlib.Core.Path.{_≡_};
 ghost use Prim.Native.Nat.{_+_, _≤_, _<_, _^_, min, max};
 ghost use lib.ListN.{length};
 ghost use Rattle.search.specs.declared.Place.the-variants.{Nowhere};
-ghost use Rattle.factor.specs.Precision.{Kept};
+ghost use Rattle.factor.specs.Precision.{ValidPrecision};
 ghost use Rattle.wide.specs.Value.{wordBits, halfWord};
 ghost use Rattle.suspects.specs.Next.{Askable};
 ghost use Rattle.marks.specs.AnswerLaws.{First};
@@ -75,7 +75,7 @@ enum Verdict {
 
 // Refusal 17 of a range: a significand outside 2 ^ (n - 1) to 2 ^ n - 1, or the first above the last.
 fn range_out(p: Precision, first: u64, last: u64) -> bool
-    requires { ⌜ Kept (p .bits) ⌝ }
+    requires { ⌜ ValidPrecision (p .bits) ⌝ }
     ensures { λ r. ⌜ r ≡ rangeOut (p .bits) first last ⌝ }
 {
     if product::significand_out(p, first) {
@@ -109,7 +109,7 @@ pub fn new_state(f: Factor, first: u64, last: u64) -> NewSweep
 
 // Refusal 32: the range is one that 17 refuses, or the next significand lies outside it.
 fn state_out(s: SweepState) -> bool
-    requires { ⌜ Kept (s .factor .precision .bits) ⌝ }
+    requires { ⌜ ValidPrecision (s .factor .precision .bits) ⌝ }
     ensures { λ r. ⌜ r ≡ stateOut (viewOf s) ⌝ }
 {
     let f = s.factor;

@@ -16,7 +16,7 @@ use Rattle.rounding.specs.Signed.{signedOf}
 use Rattle.round.specs.declared.Neighbour.{Neighbour}
 use Rattle.factor.specs.Context.{Context, Fine, tieRule, contextAt}
 use Rattle.factor.specs.ContextLaws.{fine-at}
-use Rattle.factor.specs.Whole.{step, whole, partsFrom}
+use Rattle.factor.specs.UnitParts.{step, unitParts, partsFrom}
 use Rattle.factor.specs.LowForm.{size-of}
 use Rattle.factor.specs.PartsLaws.{high-most, rest-le, parts-from}
 use Rattle.factor.proofs.parts_at.Statement.{statement}
@@ -33,7 +33,7 @@ module _ (a : tie.Start) where
 
   -- the high significand
   abbrev h : ℕ
-  h = whole K (a .args .end) .high
+  h = unitParts K (a .args .end) .high
 
   -- Ch in the unit of the ends fits a word
   fits : h * step K < 2 ^ 64
@@ -45,13 +45,13 @@ module _ (a : tie.Start) where
   left = rest-le K fine (a .args .end) (a .pre .1)
 
 high-is : (c : tie.After-nearest-word) → c .nearest-word .result .taken ≡ h (c .before .before)
-unfolding whole tieRule
-high-is c = ap (λ (m : Neighbour). m .taken) (c .nearest-word .ensures) ∙ ap (λ (z : ℕ). Rattle.rounding.specs.Grid.nearest tieRule (c .before .before .args .end) (2 ^ z)) (c .before .step .ensures)
+unfolding unitParts tieRule
+high-is c = ap (λ (m : Neighbour). m .taken) (c .nearest-word .ensures) ∙ ap (λ (z : ℕ). Rattle.rounding.specs.Grid.nearest tieRule (c .before .before .args .end) (2 ^ z)) (c .before .step-exponent .ensures)
 
-shift-is : (c : tie.After-nearest-word) → c .nearest-word .result .taken * 2 ^ c .before .step .result % 2 ^ 64 ≡ h (c .before .before) * step (K (c .before .before))
+shift-is : (c : tie.After-nearest-word) → c .nearest-word .result .taken * 2 ^ c .before .step-exponent .result % 2 ^ 64 ≡ h (c .before .before) * step (K (c .before .before))
 shift-is c =
     let a = c .before .before in
-    ap₂ (λ (x y : ℕ). x * 2 ^ y % 2 ^ 64) (high-is c) (c .before .step .ensures) ∙ mod-eq-of-lt (fits a)
+    ap₂ (λ (x y : ℕ). x * 2 ^ y % 2 ^ 64) (high-is c) (c .before .step-exponent .ensures) ∙ mod-eq-of-lt (fits a)
 
 rest-of-requires : tie.Need-rest-of-requires
 rest-of-requires c κs = let a = c .before .before in rw (shift-is c) (lt-of-le-of-lt (left a) (lt-of-le-of-lt (pow-mono {i = K a .E - K a .n} {j = wordBits - 2} (omega (arith, a .pre .0))) (omega arith)))
@@ -65,7 +65,7 @@ parts-from-requires : tie.Need-parts-from-requires
 parts-from-requires c κs = let a = c .before .before .before in (a .pre .0, rw (rest-is c, size-of) (left a))
 
 returns : tie.Need-returns
-unfolding whole
+unfolding unitParts
 returns c =
     let s = c .before in
     let a = s .before .before .before in

@@ -11,7 +11,7 @@ use Rattle.rounding.specs.Signed.{roundedSigned}
 use Rattle.factor.specs.declared.Parts.{Parts}
 use Rattle.factor.specs.Context.{Context, Fine, tieRule, contextAt}
 use Rattle.factor.specs.ContextLaws.{fine-at}
-use Rattle.factor.specs.Whole.{partsFrom}
+use Rattle.factor.specs.UnitParts.{partsFrom}
 use Rattle.factor.proofs.Laws.{parts-none, Placed, parts-some}
 use Rattle.factor.proofs.parts_from.Statement.{statement}
 use Rattle.factor.proofs.parts_from.Tie as tie

@@ -12,13 +12,13 @@ use Rattle.marks.specs.Answers.{accepted}
 use Rattle.marks.specs.AnswerLaws.{pass, stop, end, refuses, accepts, only-accepted, only-refused, or-false}
 use Rattle.factor.specs.declared.Description.{Description}
 use Rattle.factor.specs.declared.Precision.{Precision}
-use Rattle.factor.specs.Precision.{Kept, precisionOut, precisionSays}
+use Rattle.factor.specs.Precision.{ValidPrecision, precisionOut, precisionSays}
 use Rattle.factor.specs.Context.{Context, contextAt, contextFor}
 use Rattle.factor.specs.ContextLaws.{fine-at}
-use Rattle.factor.specs.Whole.{End}
+use Rattle.factor.specs.UnitParts.{End}
 use Rattle.factor.specs.Parts.{partsAt}
 use Rattle.factor.specs.SetUp.{endOut, scaleOut, sameHigh, sameLow, appliedOf, factorOf, setUp}
-use Rattle.factor.specs.SetUpLaws.{kept-in, end-in}
+use Rattle.factor.specs.SetUpLaws.{valid-in, end-in}
 use Rattle.factor.specs.Stored.{Storable, storable, appliedFrom, applied-from}
 use Rattle.factor.proofs.set_up.Statement.{statement}
 use Rattle.factor.proofs.set_up.Tie as tie
@@ -48,11 +48,11 @@ precision-in c = only c .0
 bits-are : (c : tie.After-known-told) → made c .bits ≡ described c .precision
 bits-are c = sym (only c .1)
 
-kept : (c : tie.After-known-told) → Kept (described c .precision)
-kept c = kept-in (described c .precision) (precision-in c)
+kept : (c : tie.After-known-told) → ValidPrecision (described c .precision)
+kept c = valid-in (described c .precision) (precision-in c)
 
-kept-made : (c : tie.After-known-told) → Kept (made c .bits)
-kept-made c = subst Kept (only c .1) (kept c)
+kept-made : (c : tie.After-known-told) → ValidPrecision (made c .bits)
+kept-made c = subst ValidPrecision (only c .1) (kept c)
 
 ends-out-requires : tie.Need-ends-out-requires
 ends-out-requires c κs = kept-made c

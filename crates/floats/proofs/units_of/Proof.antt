@@ -13,10 +13,10 @@ returns : tie.Need-returns
 returns c = sym (units-none binary32 (c .before .args .d) _ (c .if1 .taken))
 
 -- the field reaches the unit
-from : (c : tie.After-field-of) → suc (c .before .before .before .args .d) ≤ c .field-of .result
+from : (c : tie.After-biased-exponent) → suc (c .before .before .before .args .d) ≤ c .biased-exponent .result
 from c =
     let e = c .before .before in
-    rw (c .field-of .ensures) (units-from binary32 wordBits (e .before .args .d) _ (e .if1 .left) (e .before .pre .1))
+    rw (c .biased-exponent .ensures) (units-from binary32 wordBits (e .before .args .d) _ (e .if1 .left) (e .before .pre .1))
 
 sub-result : tie.Need-sub-result
 sub-result c = omega (arith, from c)
@@ -25,13 +25,13 @@ sub-result-2 : tie.Need-sub-result-2
 sub-result-2 c = omega (arith, from c)
 
 shl-result : tie.Need-shl-result
-shl-result c = omega (arith, from c, c .field-of .ensures, c .before .before .before .pre .1 .to)
+shl-result c = omega (arith, from c, c .biased-exponent .ensures, c .before .before .before .pre .1 .to)
 
 returns-2 : tie.Need-returns-2
 returns-2 c =
     let e = c .before .before in
     let d = e .before .args .d in
-    ap₂ (λ (m k : ℕ). m * 2 ^ (k - 1 - d) % 2 ^ wordBits) (c .before .significand-of .ensures) (c .field-of .ensures) ∙ units-shifted binary32 wordBits d _ (e .if1 .left) (e .before .pre .1)
+    ap₂ (λ (m k : ℕ). m * 2 ^ (k - 1 - d) % 2 ^ wordBits) (c .before .significand-of .ensures) (c .biased-exponent .ensures) ∙ units-shifted binary32 wordBits d _ (e .if1 .left) (e .before .pre .1)
 
 pub units-of-spec : {M : Type 1} → statement M
 units-of-spec = tie.close (tie.spec (λ c. search needs) returns (λ c κs. search needs) (λ c. search needs) (λ c κs. search needs) sub-result sub-result-2 (λ c. search needs) shl-result returns-2)

@@ -11,8 +11,8 @@ use borrow.Author.Needs.{needs}
 use Rattle.rounding.specs.Grid.{location, nearest}
 use Rattle.round.specs.declared.Neighbour.{Neighbour}
 use Rattle.factor.specs.Context.{tieRule, contextAt}
-use Rattle.factor.specs.Precision.{Kept, scaleOf}
-use Rattle.factor.specs.Whole.{wholeOf}
+use Rattle.factor.specs.Precision.{ValidPrecision, scaleOf}
+use Rattle.factor.specs.UnitParts.{unitPartsOf}
 use Rattle.product.specs.Units.{firstUnits}
 use Rattle.product.specs.StepLaws.{FirstStep, low-lt, first-lt, first-none, first-some}
 use Rattle.product.proofs.Laws.{product-word}
@@ -41,7 +41,7 @@ returns c =
     sym (first-none (contextAt (a .args .p .bits)) (a .args .parts) (a .pre .1) (a .args .x) (a .pre .2) (ap (λ (s : ℕ). s * a .args .x) (sym (size-is m)) ∙ none))
 
 -- what is dropped and how far the rest is shifted
-step : (c : tie.After-word-digits) → let m = c .before .before in let a = m .before .before in FirstStep (contextAt (a .args .p .bits)) (a .args .parts .places) (m .magnitude .result * a .args .x) (c .word-digits .result) (firstUnits (contextAt (a .args .p .bits)) (wholeOf (contextAt (a .args .p .bits)) (a .args .parts)) (a .args .x))
+step : (c : tie.After-word-digits) → let m = c .before .before in let a = m .before .before in FirstStep (contextAt (a .args .p .bits)) (a .args .parts .places) (m .magnitude .result * a .args .x) (c .word-digits .result) (firstUnits (contextAt (a .args .p .bits)) (unitPartsOf (contextAt (a .args .p .bits)) (a .args .parts)) (a .args .x))
 step c =
     let m = c .before .before in
     let a = m .before .before in
@@ -65,7 +65,7 @@ shl-result : tie.Need-shl-result
 shl-result c = omega (arith, step (c .before .before .before .before .before) .room, c .before .before .scale .ensures, c .before .before .before .before .before .before .before .before .before .pre .0)
 
 -- no digit is lost in the shift
-shifted : (near : Neighbour) (n q m d u e : ℕ) → Kept n → near ≡ record { taken = nearest tieRule m (2 ^ (d - n)); location = location (m % 2 ^ (d - n)) (2 ^ (d - n)) }
+shifted : (near : Neighbour) (n q m d u e : ℕ) → ValidPrecision n → near ≡ record { taken = nearest tieRule m (2 ^ (d - n)); location = location (m % 2 ^ (d - n)) (2 ^ (d - n)) }
     → e ≡ scaleOf n → FirstStep (contextAt n) q m d u → u < 2 ^ scaleOf n → near .taken * 2 ^ (d - n + e - q) % 2 ^ 64 ≡ u
 shifted near n q m d u e N r E s small =
     let v : near .taken * 2 ^ (d - n + e - q) ≡ u = ap₂ (λ (r : Neighbour) (k : ℕ). r .taken * 2 ^ (d - n + k - q)) r E ∙ sym (s .value) in
@@ -78,7 +78,7 @@ returns-2 c =
     let digits = scaled .before .before .before in
     let a = digits .before .before .before .before in
     let K = contextAt (a .args .p .bits) in
-    shifted (scaled .before .nearest-word .result) (a .args .p .bits) (a .args .parts .places) (digits .before .before .magnitude .result * a .args .x) (digits .word-digits .result) (firstUnits K (wholeOf K (a .args .parts)) (a .args .x)) (scaled .scale .result)
+    shifted (scaled .before .nearest-word .result) (a .args .p .bits) (a .args .parts .places) (digits .before .before .magnitude .result * a .args .x) (digits .word-digits .result) (firstUnits K (unitPartsOf K (a .args .parts)) (a .args .x)) (scaled .scale .result)
     (a .pre .0) (scaled .before .nearest-word .ensures) (scaled .scale .ensures) (step digits) (first-lt K (a .args .parts) (a .pre .1) (a .args .x) (a .pre .2))
 
 pub first-units-spec : {M : Type 1} → statement M

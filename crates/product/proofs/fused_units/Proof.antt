@@ -15,8 +15,8 @@ use Rattle.round.proofs.Laws.{negative-is}
 use Rattle.wide.specs.declared.Wide.{Wide}
 use Rattle.wide.specs.Value.{valueOf}
 use Rattle.factor.specs.Context.{contextAt}
-use Rattle.factor.specs.Precision.{Kept, scaleOf}
-use Rattle.factor.specs.Whole.{step, plusOrMinus, wholeOf}
+use Rattle.factor.specs.Precision.{ValidPrecision, scaleOf}
+use Rattle.factor.specs.UnitParts.{step, plusOrMinus, unitPartsOf}
 use Rattle.product.specs.Units.{firstUnits, fusedUnits}
 use Rattle.product.specs.StepLaws.{high-le, first-lt, first-le}
 use Rattle.product.proofs.Laws.{product-word}
@@ -34,19 +34,19 @@ mul-from-word : tie.Need-mul-from-word
 mul-from-word c = record { fits = omega (arith, high-word c) }
 
 -- and two words hold it shifted
-shifted-room : (m k n : ℕ) → Kept n → m ≤ 2 ^ 48 → k ≡ scaleOf n + 1 - n → (k < 128) × (m < 2 ^ (128 - k))
+shifted-room : (m k n : ℕ) → ValidPrecision n → m ≤ 2 ^ 48 → k ≡ scaleOf n + 1 - n → (k < 128) × (m < 2 ^ (128 - k))
 shifted-room m k n N h e = let t : 2 ^ 49 ≤ 2 ^ (128 - k) = pow-mono {i = 49} {j = 128 - k} (omega arith) in (omega arith, omega arith)
 
 shifted-left-requires : tie.Need-shifted-left-requires
 shifted-left-requires c κs =
     let w = c .before in
-    rw (w .from-word .ensures) (shifted-room (w .before .before .args .parts .high * w .before .before .args .x) (c .step .result) (w .before .before .args .p .bits) (w .before .before .pre .0) (high-word (w .before)) (c .step .ensures))
+    rw (w .from-word .ensures) (shifted-room (w .before .before .args .parts .high * w .before .before .args .x) (c .step-exponent .result) (w .before .before .args .p .bits) (w .before .before .pre .0) (high-word (w .before)) (c .step-exponent .ensures))
 
 -- the two terms
 shifted : (c : tie.After-shifted-left) → let a = c .before .before .before .before in valueOf (c .shifted-left .result) ≡ a .args .parts .high * a .args .x * step (contextAt (a .args .p .bits))
-shifted c = c .shifted-left .ensures ∙ ap₂ (λ (m k : ℕ). m * 2 ^ k) (c .before .before .from-word .ensures) (c .before .step .ensures)
+shifted c = c .shifted-left .ensures ∙ ap₂ (λ (m k : ℕ). m * 2 ^ k) (c .before .before .from-word .ensures) (c .before .step-exponent .ensures)
 
-first : (c : tie.After-from-word2) → let a = c .before .before .before .before .before in valueOf (c .from-word2 .result) ≡ firstUnits (contextAt (a .args .p .bits)) (wholeOf (contextAt (a .args .p .bits)) (a .args .parts)) (a .args .x)
+first : (c : tie.After-from-word2) → let a = c .before .before .before .before .before in valueOf (c .from-word2 .result) ≡ firstUnits (contextAt (a .args .p .bits)) (unitPartsOf (contextAt (a .args .p .bits)) (a .args .parts)) (a .args .x)
 first c = c .from-word2 .ensures ∙ c .before .before .before .before .before .pre .3
 
 high : (c : tie.After-shifted-left) → let a = c .before .before .before .before in valueOf (c .shifted-left .result) ≡ a .args .parts .high * step (contextAt (a .args .p .bits)) * a .args .x
@@ -65,7 +65,7 @@ low-same c = search needs
 
 -- whichever sign was tested
 joined : (c : tie.After-from-word2) → let l = c .before in let a = l .before .before .before .before in (b : Bool) → ltZ (toZ w64 (ofZ w64 (a .args .parts .low))) (pos 0) ≡ b
-    → plusOrMinus b (valueOf (l .shifted-left .result)) (valueOf (c .from-word2 .result)) ≡ fusedUnits (contextAt (a .args .p .bits)) (wholeOf (contextAt (a .args .p .bits)) (a .args .parts)) (a .args .x)
+    → plusOrMinus b (valueOf (l .shifted-left .result)) (valueOf (c .from-word2 .result)) ≡ fusedUnits (contextAt (a .args .p .bits)) (unitPartsOf (contextAt (a .args .p .bits)) (a .args .parts)) (a .args .x)
 unfolding fusedUnits
 joined c b e =
     let l = c .before in
@@ -77,7 +77,7 @@ returns : tie.Need-returns
 returns c = c .difference .ensures ∙ joined (c .before .before .before .before) true (c .before .if1 .taken)
 
 -- high words that leave room for a carry
-high-of-shifted : (m n : ℕ) (u : Wide) → Kept n → m ≤ 2 ^ 48 → valueOf u ≡ m * step (contextAt n) → u .hi ≤ 2 ^ 48
+high-of-shifted : (m n : ℕ) (u : Wide) → ValidPrecision n → m ≤ 2 ^ 48 → valueOf u ≡ m * step (contextAt n) → u .hi ≤ 2 ^ 48
 high-of-shifted m n u N h e =
     let t : step (contextAt n) ≤ 2 ^ 64 = pow-mono {i = contextAt n .E + 1 - n} {j = 64} (omega arith) in
     le-of-mul-le-mul-right {k = 2 ^ 64} (omega (arith, mul-le-mul h t)) (pow-pos 64)

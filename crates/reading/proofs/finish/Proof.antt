@@ -12,7 +12,7 @@ use Rattle.marks.specs.declared.Mark.{Mark}
 use Rattle.marks.specs.Answers.{accepted}
 use Rattle.marks.specs.AnswerLaws.{pass, stop, end, refuses, accepts}
 use Rattle.rounding.specs.RoundLaws.{HasBits}
-use Rattle.floats.specs.Fields.{signOf, fieldOf, floatOf}
+use Rattle.floats.specs.Fields.{signOf, biasedExponent, floatOf}
 use Rattle.floats.specs.Pattern.{significand-bits}
 use Rattle.product.specs.Marks.{markBy}
 use Rattle.reading.specs.Reading.{raised, finished}
@@ -30,14 +30,14 @@ module _ (c : tie.After-struct-known) where
   exponent = raised (a .args .f) (a .args .bits) +ℤ pos (a .args .v .binade)
 
   abbrev count : ℕ
-  count = c .before .before .before .field-of .result + c .before .lifted .result + a .args .v .binade
+  count = c .before .before .before .biased-exponent .result + c .before .lifted .result + a .args .v .binade
 
   place : exponent +ℤ pos (emax binary32 + 100) ≡ pos count
   place =
       let k = a .args .f .applied .scale in
       let read : toZ w32 (ofZ w32 k) ≡ k = search needs in
-      place-is binary32 (fieldOf binary32 (a .args .bits)) (c .before .lifted .result) (a .args .v .binade) k (c .before .lifted .ensures .0 ∙ ap (λ (z : ℤ). z +ℤ pos 100) read)
-      ∙ ap (λ (z : ℕ). pos (z + c .before .lifted .result + a .args .v .binade)) (sym (c .before .before .before .field-of .ensures))
+      place-is binary32 (biasedExponent binary32 (a .args .bits)) (c .before .lifted .result) (a .args .v .binade) k (c .before .lifted .ensures .0 ∙ ap (λ (z : ℤ). z +ℤ pos 100) read)
+      ∙ ap (λ (z : ℕ). pos (z + c .before .lifted .result + a .args .v .binade)) (sym (c .before .before .before .biased-exponent .ensures))
 
 returns : tie.Need-returns
 unfolding finished

@@ -19,7 +19,7 @@ use Rattle.floats.specs.Times.{Told}
 use Rattle.factor.specs.declared.Factor.{Factor}
 use Rattle.factor.specs.Precision.{scaleOf}
 use Rattle.factor.specs.Context.{contextAt}
-use Rattle.factor.specs.Whole.{wholeOf}
+use Rattle.factor.specs.UnitParts.{unitPartsOf}
 use Rattle.product.specs.Units.{firstUnits}
 use Rattle.factor.specs.Stored.{low-number}
 use Rattle.reading.specs.FirstLaws.{K32, first-float, first-told}
@@ -47,7 +47,7 @@ module _ (c : tie.After-narrow-float) where
       (stored-exactly binary32 (prec binary32) (lit< tt) (lit≤ tt) false x (hid binary32) x (prec binary32 - 1) (pow-pos (prec binary32 - 1)) (le-of-lt (a .pre .2 .most)) (lit≤ tt) (lit≤ tt) refl)
 
   abbrev Tells : ℕ → Type 0
-  Tells d = Told binary32 wordBits d (toBits binary32 (mul binary32 (f .applied .low) (c .narrow-float .result))) (firstUnits K32 (wholeOf K32 (f .parts)) (a .args .x))
+  Tells d = Told binary32 wordBits d (toBits binary32 (mul binary32 (f .applied .low) (c .narrow-float .result))) (firstUnits K32 (unitPartsOf K32 (f .parts)) (a .args .x))
 
   bits-tell : Tells (c .before .unit-at .result)
   bits-tell = subst Tells (sym unit-is) (first-told f (a .pre .0) (a .pre .1) (a .args .x) (a .pre .2) (f .applied .low) (c .narrow-float .result) low-is x-is)
@@ -60,7 +60,7 @@ units-of-requires c κs =
 returns : tie.Need-returns
 returns c =
     let s = a (c .before) in
-    c .units-of .ensures ∙ bits-tell (c .before) .units ∙ ap (λ (n : ℕ). firstUnits (contextAt n) (wholeOf (contextAt n) (s .args .f .parts)) (s .args .x)) (sym (s .pre .1))
+    c .units-of .ensures ∙ bits-tell (c .before) .units ∙ ap (λ (n : ℕ). firstUnits (contextAt n) (unitPartsOf (contextAt n) (s .args .f .parts)) (s .args .x)) (sym (s .pre .1))
 
 pub first-step-spec : {M : Type 1} → statement M
 first-step-spec = tie.close (tie.spec (λ c κs. search needs) (λ c κs. search needs) (λ c. search needs) (λ c κs. search needs) units-of-requires returns)

@@ -8,7 +8,7 @@ use borrow.Author.Needs.{needs}
 use borrow.Author.Tests.{eq-eqb, ne-eqb}
 use Rattle.marks.specs.Answers.{accepted}
 use Rattle.marks.specs.AnswerLaws.{pass, stop, end, refuses, accepts}
-use Rattle.floats.specs.Fields.{fieldOf, digitsOf, endless, subnormal}
+use Rattle.floats.specs.Fields.{biasedExponent, trailingSignificand, infiniteOrNaN, subnormal}
 use Rattle.factor.specs.SetUp.{intact}
 use Rattle.reading.specs.Reading.{zero, normal, kindOf}
 use Rattle.reading.proofs.take.Statement.{statement}
@@ -29,7 +29,7 @@ precise : (c : tie.Else2) → not (eqb (c .before .before .before .before .args 
 precise c = ap not (eq-eqb _ (prec binary32) (c .if2 .left))
 
 -- ---- the reading's fields
-module _ (c : tie.After-digits-of) where
+module _ (c : tie.After-trailing-significand) where
   abbrev e : tie.Else2
   e = c .before .before .before
 
@@ -39,17 +39,17 @@ module _ (c : tie.After-digits-of) where
   abbrev b : ℕ
   b = toBits binary32 (t .before .before .args .reading)
 
-  field-is : c .before .field-of .result ≡ fieldOf binary32 b
-  field-is = c .before .field-of .ensures ∙ ap (fieldOf binary32) (c .before .before .bits-of .ensures)
+  field-is : c .before .biased-exponent .result ≡ biasedExponent binary32 b
+  field-is = c .before .biased-exponent .ensures ∙ ap (biasedExponent binary32) (c .before .before .bits-of .ensures)
 
-  digits-is : c .digits-of .result ≡ digitsOf binary32 b
-  digits-is = c .digits-of .ensures ∙ ap (digitsOf binary32) (c .before .before .bits-of .ensures)
+  digits-is : c .trailing-significand .result ≡ trailingSignificand binary32 b
+  digits-is = c .trailing-significand .ensures ∙ ap (trailingSignificand binary32) (c .before .before .bits-of .ensures)
 
 returns-3 : tie.Need-returns-3
 returns-3 c = let d = c .before in refuses (pass (through (t d)) (pass (precise (e d)) (stop (eq-eqb _ (ones binary32) (sym (field-is d) ∙ c .if3 .taken))))) _
 
 -- 21 lets it through
-ended : (c : tie.Else3) → endless binary32 (b (c .before)) ≡ false
+ended : (c : tie.Else3) → infiniteOrNaN binary32 (b (c .before)) ≡ false
 ended c = ne-eqb _ (ones binary32) (λ is. c .if3 .left (field-is (c .before) ∙ is))
 
 returns-4 : tie.Need-returns-4
@@ -57,7 +57,7 @@ returns-4 c =
     let z = c .before in
     let n = z .before in
     let d = n .before in
-    let is : subnormal binary32 (b d) ≡ true = rw (eq-eqb (fieldOf binary32 (b d)) 0 (sym (field-is d) ∙ z .if4 .taken), ne-eqb (digitsOf binary32 (b d)) 0 (λ is. c .if5 .taken (digits-is d ∙ is))) in
+    let is : subnormal binary32 (b d) ≡ true = rw (eq-eqb (biasedExponent binary32 (b d)) 0 (sym (field-is d) ∙ z .if4 .taken), ne-eqb (trailingSignificand binary32 (b d)) 0 (λ is. c .if5 .taken (digits-is d ∙ is))) in
     refuses (pass (through (t d)) (pass (precise (e d)) (pass (ended n) (stop is)))) _
 
 returns-5 : tie.Need-returns-5
@@ -65,8 +65,8 @@ returns-5 c =
     let z = c .before in
     let n = z .before in
     let d = n .before in
-    let none = eq-eqb (fieldOf binary32 (b d)) 0 (sym (field-is d) ∙ z .if4 .taken) in
-    let nil = eq-eqb (digitsOf binary32 (b d)) 0 (sym (digits-is d) ∙ c .if5 .left) in
+    let none = eq-eqb (biasedExponent binary32 (b d)) 0 (sym (field-is d) ∙ z .if4 .taken) in
+    let nil = eq-eqb (trailingSignificand binary32 (b d)) 0 (sym (digits-is d) ∙ c .if5 .left) in
     let is : subnormal binary32 (b d) ≡ false = rw (none, nil) in
     let kind : zero ≡ kindOf (b d) = rw (none, nil) in
     ap accepted kind ∙ accepts (pass (through (t d)) (pass (precise (e d)) (pass (ended n) (pass is end)))) _
@@ -75,7 +75,7 @@ returns-6 : tie.Need-returns-6
 returns-6 c =
     let n = c .before in
     let d = n .before in
-    let some = ne-eqb (fieldOf binary32 (b d)) 0 (λ is. c .if4 .left (field-is d ∙ is)) in
+    let some = ne-eqb (biasedExponent binary32 (b d)) 0 (λ is. c .if4 .left (field-is d ∙ is)) in
     let is : subnormal binary32 (b d) ≡ false = rw some in
     let kind : normal (b d) ≡ kindOf (b d) = rw some in
     ap (λ (z : ℕ). accepted (normal z)) (d .before .before .bits-of .ensures) ∙ ap accepted kind ∙ accepts (pass (through (t d)) (pass (precise (e d)) (pass (ended n) (pass is end)))) _

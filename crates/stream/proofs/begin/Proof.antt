@@ -2,13 +2,13 @@
 use mathlib.Core.Path.{_≡_}
 use mathlib.Core.Bool.{true, false}
 use Rattle.factor.specs.declared.Factor.{Factor}
-use Rattle.factor.specs.Precision.{Kept}
+use Rattle.factor.specs.Precision.{ValidPrecision}
 use Rattle.factor.specs.SetUp.{intact}
 use Rattle.factor.specs.SetUpLaws.{intact-sound}
 use Rattle.stream.proofs.begin.Statement.{statement}
 use Rattle.stream.proofs.begin.Tie as tie
 
-in-limits : (f : Factor) → intact f ≡ true → Kept (f .precision .bits)
+in-limits : (f : Factor) → intact f ≡ true → ValidPrecision (f .precision .bits)
 in-limits f e = intact-sound f e .precision
 
 least-requires : tie.Need-least-requires

@@ -31,11 +31,11 @@ module _ (f : Factor) (sound : Sound f) {power : ℕ} (is : power ≡ 2 ^ f .pre
   )
 
 power-requires : tie.Need-power-requires
-power-requires c κs = omega (arith, c .window .ensures)
+power-requires c κs = omega (arith, c .window-exponent .ensures)
 
 -- W, as the calls ensure it
 window-is : (c : tie.After-power) → c .power .result ≡ windowW (contextOf (c .before .before .before .args .f))
-window-is c = c .power .ensures ∙ ap (λ (k : ℕ). 2 ^ k) (c .before .window .ensures)
+window-is c = c .power .ensures ∙ ap (λ (k : ℕ). 2 ^ k) (c .before .window-exponent .ensures)
 
 mul-widening : tie.Need-mul-widening
 mul-widening c =

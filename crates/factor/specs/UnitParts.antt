@@ -12,7 +12,7 @@ use Rattle.factor.specs.declared.Parts.{Parts}
 use Rattle.factor.specs.Context.{Context}
 
 -- the high significand, whether the low part is negative, and its size
-pub record Whole : Type 0 where
+pub record UnitParts : Type 0 where
   pub high : ℕ
   pub minus : Bool
   pub low : ℕ
@@ -33,19 +33,19 @@ module _ (K : Context) where
   abbrev pub step : ℕ
   step = 2 ^ (E + 1 - n)
 
-  unfoldable pub whole : ℕ → Whole
-  whole c =
+  unfoldable pub unitParts : ℕ → UnitParts
+  unitParts c =
       let h = nearest rule c step in
       record { high = h; minus = ltb c (h * step); low = rn rule n (apart c (h * step)) 1 }
 
   -- Ch + Cl
-  abbrev pub worth : Whole → ℕ
+  abbrev pub worth : UnitParts → ℕ
   worth p = plusOrMinus (p .minus) (p .high * step) (p .low)
 
   -- ---- from the parts that are kept
   -- the low part, s over 2 ^ places, is a whole number of the unit
-  abbrev pub wholeOf : Parts → Whole
-  wholeOf s = record { high = s .high; minus = negative (s .low); low = natAbs (s .low) * 2 ^ E / 2 ^ s .places }
+  abbrev pub unitPartsOf : Parts → UnitParts
+  unitPartsOf s = record { high = s .high; minus = negative (s .low); low = natAbs (s .low) * 2 ^ E / 2 ^ s .places }
 
   -- the parts that are kept, from the high significand and the rest, C - Ch, as a signed whole number of the unit
   unfoldable pub partsFrom : ℕ → ℤ → Parts
