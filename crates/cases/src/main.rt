@@ -25,7 +25,7 @@ use search::Place;
 use sweep::NewSweep;
 use sweep::SweepAnswer;
 use sweep::SweepState;
-ghost use Prim.Native.Nat.{_<_, _≤_, _^_};
+ghost use Prim.Native.Nat.{_<_, _≤_};
 ghost use lib.ListN.{length};
 ghost use Rattle.factor.specs.SetUp.{Sound};
 ghost use Rattle.wide.specs.Value.{halfWord};

@@ -1,7 +1,7 @@
 -- Factors and states as lists of words, for callers in other languages. Definitions only. Assumes nothing.
 use mathlib.Core.Bool.{cond, not}
 use mathlib.Core.List.{List, [], _∷_, _++_}
-use Prim.Native.Nat.{ℕ, _-_}
+use Prim.Native.Nat.{ℕ}
 use lib.Dec.{eqb}
 use lib.ListN.{getD}
 use lib.Ieee.{binary32, toBits, ofBits}

@@ -18,15 +18,9 @@ use Rattle.rounding.specs.Fraction.{Fraction, less, RN, Same}
 use Rattle.rounding.specs.FractionLaws.{InUnits, RN-in-units, RN-in-units-fraction, less-in-units, units-finer, units-same}
 use Rattle.factor.specs.Context.{Context, Fine}
 use Rattle.factor.specs.Parts.{highPart, lowPart, partsAt}
-use Rattle.factor.specs.UnitParts.{End, UnitParts, step, plusOrMinus, unitParts, worth, unitPartsOf}
+use Rattle.factor.specs.UnitParts.{UnitParts, step, plusOrMinus, unitParts, worth, unitPartsOf}
+use Rattle.factor.specs.Ends.{End, Between}
 use Rattle.factor.specs.PartsLaws.{top-is, width-is, worth-near, high-in-units, low-in-units, rn-high, units-of-parts}
-
--- a fraction C with L ≤ C * 2 ^ E ≤ U
-pub record Between (K : Context) (L U : ℕ) (C : Fraction) : Type 0 where
-  pub some : 0 < C .den
-  pub sign : C .minus ≡ false
-  pub least : L * C .den ≤ C .num * 2 ^ K .E
-  pub most : C .num * 2 ^ K .E ≤ U * C .den
 
 -- it is above zero, as L is
 pub between-positive : (K : Context) (L U : ℕ) → 0 < L → (C : Fraction) → Between K L U C → 0 < C .num

@@ -3,6 +3,7 @@ pub mod Precision
 pub mod Context
 pub mod ContextLaws
 pub mod Parts
+pub mod Ends
 pub mod UnitParts
 pub mod LowForm
 pub mod PartsLaws
@@ -10,3 +11,4 @@ pub mod Accepted
 pub mod SetUp
 pub mod SetUpLaws
 pub mod Stored
+pub mod StoredLaws

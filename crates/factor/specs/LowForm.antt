@@ -10,8 +10,8 @@ use lib.Pow.{pow-add, pow-pos, pow-mono}
 use Rattle.rounding.specs.declared.Rounded.{Rounded}
 use Rattle.rounding.specs.Unit.{rn}
 use Rattle.rounding.specs.UnitLaws.{rn-le, rn-ge, rn-whole-small}
-use Rattle.rounding.specs.Round.{rounded, Equals}
-use Rattle.rounding.specs.RoundLaws.{HasBits, rounded-bits, rounded-whole}
+use Rattle.rounding.specs.Round.{rounded, Equals, HasBits}
+use Rattle.rounding.specs.RoundLaws.{rounded-bits, rounded-whole}
 use Rattle.rounding.specs.Signed.{negative, signedOf}
 use Rattle.factor.specs.declared.Parts.{Parts}
 use Rattle.factor.specs.Context.{Context, Fine}

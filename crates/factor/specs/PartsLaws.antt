@@ -25,7 +25,8 @@ pub use Rattle.factor.specs.LowForm.{top-is, width-is}
 use Rattle.factor.specs.LowForm.{size-of, sign-of, keep-sign, Tells, from-tells}
 use Rattle.factor.specs.Context.{Context, Fine}
 use Rattle.factor.specs.Parts.{highPart, rest, lowPart, partsAt}
-use Rattle.factor.specs.UnitParts.{End, UnitParts, step, plusOrMinus, unitParts, worth, unitPartsOf, partsFrom}
+use Rattle.factor.specs.UnitParts.{UnitParts, step, plusOrMinus, unitParts, worth, unitPartsOf, partsFrom}
+use Rattle.factor.specs.Ends.{End}
 
 -- ---- the powers of two: W = 2 ^ (E - n) is half a step
 module _ (K : Context) (ok : Fine K) where

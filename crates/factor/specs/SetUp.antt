@@ -20,7 +20,7 @@ use Rattle.factor.specs.declared.SetUp.the-variants.{Accepted, Refused}
 use Rattle.factor.specs.Precision.{ValidPrecision, precisionOut}
 use Rattle.factor.specs.Context.{Context, contextFor, contextOf, lowerOf, upperOf}
 use Rattle.factor.specs.Parts.{highPart, lowPart, partsAt}
-use Rattle.factor.specs.UnitParts.{End}
+use Rattle.factor.specs.Ends.{End}
 
 -- ---- the conditions
 -- 12: an end not 2 ^ E to 2 ^ (E + 1) - 1

@@ -16,7 +16,7 @@ use Rattle.factor.specs.Precision.{leastPrecision, mostPrecision, ValidP
 use Rattle.factor.specs.Context.{Context, contextFor}
 use Rattle.factor.specs.ContextLaws.{valid-of}
 use Rattle.factor.specs.Parts.{partsAt}
-use Rattle.factor.specs.UnitParts.{End}
+use Rattle.factor.specs.Ends.{End}
 use Rattle.factor.specs.SetUp.{endOut, sameHigh, sameZ, sameLow, appliedOf, factorOf, conditions, setUp, sameFactor, given, described, intact, Sound}
 
 -- ---- tests

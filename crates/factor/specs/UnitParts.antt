@@ -1,6 +1,6 @@
 -- A factor's parts as whole numbers of the unit 2 ^ - E, in which proofs are made. Definitions only. Assumes nothing.
 use mathlib.Core.Bool.{Bool, cond}
-use Prim.Native.Nat.{ℕ, suc, _+_, _-_, _*_, _/_, _^_, _≤_, _<_}
+use Prim.Native.Nat.{ℕ, _+_, _-_, _*_, _/_, _^_}
 use lib.Dec.{ltb}
 use lib.IntN.{ℤ, natAbs}
 use Rattle.rounding.specs.Apart.{apart}
@@ -23,11 +23,6 @@ plusOrMinus minus a x = cond minus (a - x) (a + x)
 
 module _ (K : Context) where
   open Context K using (rule, n, E)
-
-  -- an end c of the scale E: c / 2 ^ E is from 1 to below 2
-  pub record End (c : ℕ) : Type 0 where
-    pub from : 2 ^ E ≤ c
-    pub to : c < 2 ^ suc E
 
   -- the high significand's step
   abbrev pub step : ℕ

@@ -17,7 +17,7 @@ use lib.Ieee.Scale.{overflow}
 use borrow.Author.Tests.{le-leb, lt-leb, ne-eqb}
 use Rattle.rounding.specs.Digits.{pow-half}
 use Rattle.rounding.specs.Ieee.{round-itself, value-unique}
-use Rattle.rounding.specs.RoundLaws.{HasBits}
+use Rattle.rounding.specs.Round.{HasBits}
 use Rattle.floats.specs.Fields.{signOf, biasedExponent, trailingSignificand, significandOf, signAbove, Normal, floatOf, Normalized}
 use Rattle.floats.specs.Numbers.{value-number}
 

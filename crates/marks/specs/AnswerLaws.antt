@@ -5,13 +5,9 @@ use mathlib.Core.List.{List, [], _∷_, _++_, append-nil}
 use Prim.Native.Nat.{ℕ}
 use native.Mathlib.Omega.{arith}
 use Rattle.marks.specs.declared.Mark.{Mark}
-use Rattle.marks.specs.Answers.{Refusal, number, none, judged, NoneHolds, Outcome, refused, accepted, unless, answer, Marked}
+use Rattle.marks.specs.Answers.{Refusal, First, number, none, judged, NoneHolds, Outcome, refused, accepted, unless, answer, Marked}
 
 -- ---- from the tests to the refusal
--- v is what the first condition that holds says
-pub record First (l : List (ℕ × Bool)) (v : Refusal) : Type 0 where
-  pub is : judged l ≡ v
-
 -- a condition that does not hold is passed over
 pub pass : {n : ℕ} {b : Bool} {l : List (ℕ × Bool)} {v : Refusal} → b ≡ false → First l v → First ((n, b) ∷ l) v
 unfolding judged

@@ -21,6 +21,10 @@ abbrev pub NoneHolds : List (ℕ × Bool) → Type 0
 NoneHolds [] = Unit {0}
 NoneHolds (t ∷ l) = (t .1 ≡ false) × NoneHolds l
 
+-- v is what the first condition that holds says
+pub record First (l : List (ℕ × Bool)) (v : Refusal) : Type 0 where
+  pub is : judged l ≡ v
+
 -- ---- answers
 -- a refusal's number, or a value
 pub data Outcome (A : Type 0) : Type 0 where

@@ -6,7 +6,7 @@ use lib.Dec.{ltb, leb}
 use borrow.Author.Tests.{ltb-false, leb-false, not-false}
 use Rattle.marks.specs.Answers.{NoneHolds}
 use Rattle.marks.specs.AnswerLaws.{or-false}
-use Rattle.rounding.specs.RoundLaws.{HasBits}
+use Rattle.rounding.specs.Round.{HasBits}
 use Rattle.factor.specs.declared.Factor.{Factor}
 use Rattle.factor.specs.Precision.{significandOut}
 use Rattle.factor.specs.SetUp.{Sound}

@@ -12,8 +12,7 @@ use lib.Ieee.{up}
 use Rattle.marks.specs.declared.Mark.{Mark}
 use Rattle.marks.specs.Answers.{accepted}
 use Rattle.marks.specs.AnswerLaws.{of-answer, pass, end, accepts}
-use Rattle.rounding.specs.Round.{rounded}
-use Rattle.rounding.specs.RoundLaws.{HasBits}
+use Rattle.rounding.specs.Round.{rounded, HasBits}
 use Rattle.rounding.specs.Standard.{RoundsTo, rounds-to}
 use Rattle.rounding.specs.Fraction.{Fraction, times, less, RN, Same}
 use Rattle.factor.specs.declared.Parts.{Parts}
@@ -24,9 +23,9 @@ use Rattle.factor.specs.Parts.{partsAt, highPart, lowPart}
 use Rattle.factor.specs.Context.{Context, Fine, contextOf, lowerOf, upperOf}
 use Rattle.factor.specs.ContextLaws.{fine-at}
 use Rattle.factor.specs.PartsLaws.{high-in-units, low-in-units}
-use Rattle.factor.specs.Accepted.{Between, between-positive, high-everywhere, rest-in-units-C, low-everywhere}
-use Rattle.factor.specs.Stored.{high-over, low-over, low-sign}
-use Rattle.factor.specs.UnitParts.{End}
+use Rattle.factor.specs.Accepted.{between-positive, high-everywhere, rest-in-units-C, low-everywhere}
+use Rattle.factor.specs.StoredLaws.{high-over, low-over, low-sign}
+use Rattle.factor.specs.Ends.{End, Between}
 use Rattle.factor.specs.SetUp.{setUp, intact, Sound}
 use Rattle.factor.specs.SetUpLaws.{intact-sound, accepted-intact}
 use Rattle.product.specs.declared.Product.{Product}

@@ -16,7 +16,7 @@ use Rattle.rounding.specs.UnitLaws.{rn-mono, rn-fixed}
 use Rattle.rounding.specs.Fraction.{Fraction, over, times}
 use Rattle.rounding.specs.FractionLaws.{InUnits, over-in-units, RN-in-units, RN-in-units-fraction, times-in-units, units-same, units-unique, below-in-units, equal-in-units}
 use Rattle.factor.specs.Context.{Context}
-use Rattle.factor.specs.Accepted.{Between}
+use Rattle.factor.specs.Ends.{Between}
 use Rattle.product.specs.declared.Product.{Product}
 use Rattle.product.specs.Product.{argument, valueOf}
 use Rattle.product.specs.Units.{units, markUnits}

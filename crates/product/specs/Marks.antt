@@ -7,7 +7,7 @@ use Rattle.marks.specs.Says.{Says}
 use Rattle.rounding.specs.Fraction.{Fraction, over, times, RN, Same, below, equal}
 use Rattle.factor.specs.declared.Factor.{Factor}
 use Rattle.factor.specs.Context.{Context, contextOf, lowerOf, upperOf}
-use Rattle.factor.specs.Accepted.{Between}
+use Rattle.factor.specs.Ends.{Between}
 use Rattle.product.specs.declared.Product.{Product}
 use Rattle.product.specs.Product.{argument, valueOf}
 

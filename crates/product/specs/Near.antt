@@ -6,8 +6,9 @@ use native.Mathlib.Omega.{arith}
 use Rattle.rounding.specs.Fraction.{Fraction}
 use Rattle.factor.specs.Context.{Context, Fine}
 use Rattle.factor.specs.Parts.{partsAt}
-use Rattle.factor.specs.UnitParts.{End, UnitParts, unitParts}
-use Rattle.factor.specs.Accepted.{Between, unit-parts-same}
+use Rattle.factor.specs.UnitParts.{UnitParts, unitParts}
+use Rattle.factor.specs.Ends.{End, Between}
+use Rattle.factor.specs.Accepted.{unit-parts-same}
 use Rattle.product.specs.Units.{fusedUnits}
 use Rattle.product.specs.ProductLaws.{fused-near}
 

@@ -13,14 +13,15 @@ use Rattle.rounding.specs.declared.Rounded.{Rounded}
 use Rattle.rounding.specs.Digits.{pow-half}
 use Rattle.rounding.specs.Unit.{rn}
 use Rattle.rounding.specs.UnitLaws.{rn-error, rn-le, rn-ge, rn-below}
-use Rattle.rounding.specs.Round.{rounded, roundedIn}
-use Rattle.rounding.specs.RoundLaws.{HasBits, rounded-at, rounded-bits, roundedIn-exponent, minus-shift, minus-le}
+use Rattle.rounding.specs.Round.{rounded, roundedIn, HasBits}
+use Rattle.rounding.specs.RoundLaws.{rounded-at, rounded-bits, roundedIn-exponent, minus-shift, minus-le}
 use Rattle.rounding.specs.Fraction.{Fraction, times, Same}
 use Rattle.rounding.specs.FractionLaws.{InUnits, sumSign, sumSize, over-in-units, units-finer, RN-in-units, times-in-units, plus-in-units, units-same}
 use Rattle.factor.specs.declared.Parts.{Parts}
 use Rattle.factor.specs.Context.{Context, Fine}
 use Rattle.factor.specs.Parts.{partsAt}
-use Rattle.factor.specs.UnitParts.{End, UnitParts, step, plusOrMinus, unitParts}
+use Rattle.factor.specs.UnitParts.{UnitParts, step, plusOrMinus, unitParts}
+use Rattle.factor.specs.Ends.{End}
 use Rattle.rounding.specs.Signed.{negative}
 use Rattle.factor.specs.PartsLaws.{width-is, step-is, bottom-is, high-from, high-is, low-most, width-le, worth-near, units-of-parts, low-kept}
 use Rattle.product.specs.declared.Product.{Product}

@@ -1,7 +1,7 @@
 -- What a sound factor has, as the laws of the product ask for it. Assumes nothing.
 use Prim.Native.Nat.{ℕ}
 use native.Mathlib.Omega.{arith}
-use Rattle.rounding.specs.RoundLaws.{HasBits}
+use Rattle.rounding.specs.Round.{HasBits}
 use Rattle.factor.specs.declared.Factor.{Factor}
 use Rattle.factor.specs.Context.{Fine, contextOf, lowerOf}
 use Rattle.factor.specs.ContextLaws.{fine-at}

@@ -16,13 +16,14 @@ use Rattle.rounding.specs.Grid.{nearest}
 use Rattle.rounding.specs.Digits.{pow-half}
 use Rattle.rounding.specs.Unit.{rn}
 use Rattle.rounding.specs.UnitLaws.{rn-le, rn-ge, rn-in-binade, rn-scale-whole, rn-whole-small}
-use Rattle.rounding.specs.Round.{rounded, roundedIn}
-use Rattle.rounding.specs.RoundLaws.{HasBits, rounded-at, rounded-bits, roundedIn-exponent, minus-zero}
+use Rattle.rounding.specs.Round.{rounded, roundedIn, HasBits}
+use Rattle.rounding.specs.RoundLaws.{rounded-at, rounded-bits, roundedIn-exponent, minus-zero}
 use Rattle.rounding.specs.Signed.{signedOf}
 use Rattle.factor.specs.declared.Parts.{Parts}
 use Rattle.factor.specs.Context.{Context, Fine}
 use Rattle.factor.specs.Parts.{partsAt}
-use Rattle.factor.specs.UnitParts.{End, UnitParts, step, unitParts, unitPartsOf}
+use Rattle.factor.specs.UnitParts.{UnitParts, step, unitParts, unitPartsOf}
+use Rattle.factor.specs.Ends.{End}
 use Rattle.factor.specs.PartsLaws.{high-most, low-kept, low-tells, units-of-parts}
 use Rattle.factor.specs.LowForm.{top-is}
 use Rattle.product.specs.Product.{product}

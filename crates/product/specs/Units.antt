@@ -11,7 +11,8 @@ use Rattle.rounding.specs.Round.{rounded}
 use Rattle.factor.specs.declared.Parts.{Parts}
 use Rattle.factor.specs.Context.{Context, Fine}
 use Rattle.factor.specs.Parts.{partsAt}
-use Rattle.factor.specs.UnitParts.{End, UnitParts, step, plusOrMinus}
+use Rattle.factor.specs.UnitParts.{UnitParts, step, plusOrMinus}
+use Rattle.factor.specs.Ends.{End}
 use Rattle.product.specs.declared.Product.{Product}
 
 -- the mark of v by whole numbers: a and b are RN(L * x) and RN(U * x)

@@ -18,8 +18,8 @@ use Rattle.marks.specs.Answers.{NoneHolds, Outcome, refused, accepted, Marked}
 use Rattle.marks.specs.AnswerLaws.{none-apart, of-answer}
 use Rattle.marks.specs.Says.{Says}
 use Rattle.marks.specs.SaysLaws.{says-alike}
-use Rattle.rounding.specs.RoundLaws.{HasBits}
-use Rattle.rounding.specs.Fraction.{Fraction, over, power, times, RN, Same}
+use Rattle.rounding.specs.Round.{HasBits}
+use Rattle.rounding.specs.Fraction.{Fraction, power, times, RN, Same}
 use Rattle.rounding.specs.FractionLaws.{RN-some, Scaled, RN-scaled}
 use Rattle.rounding.specs.Ieee.{revalue, one-value}
 use Rattle.floats.specs.Fields.{plusZero, signOf, zeroBits, Normal, significandOf, exponentOf}
@@ -28,8 +28,9 @@ use Rattle.floats.specs.Pattern.{significand-bits}
 use Rattle.floats.specs.Classes.{normal-value}
 use Rattle.factor.specs.declared.Factor.{Factor}
 use Rattle.factor.specs.Context.{contextOf, lowerOf, upperOf}
-use Rattle.factor.specs.Accepted.{Between, between-positive}
-use Rattle.factor.specs.SetUp.{intact, Sound}
+use Rattle.factor.specs.Accepted.{between-positive}
+use Rattle.factor.specs.Ends.{Between}
+use Rattle.factor.specs.SetUp.{Sound}
 use Rattle.factor.specs.SetUpLaws.{intact-sound}
 use Rattle.product.specs.declared.Product.{Product}
 use Rattle.product.specs.Product.{argument, productBy, valueOf}

@@ -9,7 +9,7 @@ use lib.Ieee.{Float, binary32, prec, emax, low, hid, mul, ofBits, toBits}
 use lib.Ieee.Bits.{ofBits-toBits}
 use lib.Ieee.Exact.{HasValue}
 use lib.Ieee.Fits.{mul-fits}
-use Rattle.rounding.specs.RoundLaws.{HasBits}
+use Rattle.rounding.specs.Round.{HasBits}
 use Rattle.rounding.specs.Signed.{negative}
 use Rattle.wide.specs.Value.{wordBits}
 use Rattle.floats.specs.Fields.{unitAt}

@@ -10,7 +10,7 @@ use lib.Ieee.{Float, Format, prec, emax, low, hid, ones, up, down, toBits}
 use lib.Ieee.Exact.{HasValue}
 use lib.Ieee.Fits.{down-pos}
 use lib.Ieee.Scale.{round-same}
-use Rattle.rounding.specs.RoundLaws.{HasBits}
+use Rattle.rounding.specs.Round.{HasBits}
 use Rattle.rounding.specs.Ieee.{revalue}
 use Rattle.floats.specs.Fields.{Normal, floatOf, Normalized}
 use Rattle.floats.specs.Powers.{in-smallest}

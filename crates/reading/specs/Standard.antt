@@ -12,8 +12,7 @@ use lib.Ieee.{Float, binary32, prec, emax, hid, mul, down, unlike, fits}
 use lib.Ieee.Exact.{HasValue}
 use lib.Ieee.Fits.{down-pos}
 use lib.Ieee.Scale.{round-same}
-use Rattle.rounding.specs.Round.{rounded}
-use Rattle.rounding.specs.RoundLaws.{HasBits}
+use Rattle.rounding.specs.Round.{rounded, HasBits}
 use Rattle.rounding.specs.Fraction.{Fraction, times, plus, Same}
 use Rattle.rounding.specs.FractionLaws.{InUnits, plus-some, plus-same}
 use Rattle.rounding.specs.Ieee.{revalue, one-value, InRange, rounded-is-ieee}
@@ -24,10 +23,11 @@ use Rattle.factor.specs.declared.Parts.{Parts}
 use Rattle.factor.specs.Precision.{scaleOf}
 use Rattle.factor.specs.Context.{tieRule, contextAt, lowerOf}
 use Rattle.factor.specs.Parts.{partsAt}
-use Rattle.factor.specs.UnitParts.{End, UnitParts, unitParts, unitPartsOf}
+use Rattle.factor.specs.UnitParts.{UnitParts, unitParts, unitPartsOf}
+use Rattle.factor.specs.Ends.{End}
 use Rattle.factor.specs.PartsLaws.{units-of-parts}
 use Rattle.factor.specs.SetUp.{floatIn, Sound}
-use Rattle.factor.specs.Stored.{high-number, low-number}
+use Rattle.factor.specs.StoredLaws.{high-number, low-number}
 use Rattle.product.specs.Product.{argument, high, low, first, fused, product, productBy, valueOf}
 use Rattle.product.specs.Units.{firstUnits, fusedUnits}
 use Rattle.product.specs.ProductLaws.{first-in-units, fused-in-units, fused-least, fused-near, product-value}

@@ -8,7 +8,7 @@ ghost use Prim.Native.Nat.{_≤_};
 ghost use lib.IntN.{pos, _+ℤ_};
 ghost use lib.Ieee.{binary32, prec, toBits};
 ghost use Rattle.marks.specs.Answers.{accepted, answer};
-ghost use Rattle.rounding.specs.RoundLaws.{HasBits};
+ghost use Rattle.rounding.specs.Round.{HasBits};
 ghost use Rattle.floats.specs.Fields.{Normal, significandOf};
 ghost use Rattle.factor.specs.Context.{contextOf};
 ghost use Rattle.factor.specs.UnitParts.{unitPartsOf};

@@ -12,7 +12,8 @@ use lib.Ieee.{size, minus, up, down, unlike}
 use lib.Ieee.Digits.{size-lt, minus-val}
 use lib.Ieee.Fits.{down-pos}
 use borrow.Author.Tests.{lt-ltb, le-ltb, eq-eqb, ne-eqb}
-use Rattle.rounding.specs.Apart.{apart, apart-mul}
+use Rattle.rounding.specs.Apart.{apart}
+use Rattle.rounding.specs.ApartLaws.{apart-mul}
 use Rattle.rounding.specs.Grid.{Rule}
 use Rattle.rounding.specs.Unit.{rn}
 use Rattle.rounding.specs.Round.{rounded}

@@ -1,5 +1,6 @@
 -- The definitions and laws of rounding, in the order in which they build on each other.
 pub mod Apart
+pub mod ApartLaws
 pub mod Grid
 pub mod GridLaws
 pub mod Digits
@@ -16,4 +17,5 @@ pub mod UlpLaws
 pub mod Examples
 pub mod Ieee
 pub mod ByDigits
+pub mod ByDigitsLaws
 pub mod Signed

@@ -1,7 +1,7 @@
 -- Round to nearest to n bits, exponents unbounded (RN of document 01), of a size: significand, exponent and location. Definitions only. Assumes nothing.
 use mathlib.Core.Path.{_≡_}
 use mathlib.Core.Bool.{cond}
-use Prim.Native.Nat.{ℕ, zero, suc, _+_, _-_, _*_, _%_, _^_}
+use Prim.Native.Nat.{ℕ, zero, suc, _+_, _-_, _*_, _%_, _^_, _≤_, _<_}
 use lib.Dec.{eqb}
 use lib.IntN.{pos}
 use lib.Ieee.{size, minus, up, down}
@@ -35,3 +35,8 @@ rounded rule n (suc N) d = let t = n + size d in roundedIn rule n t (suc N * 2 ^
 -- the number a / c, for a c above 0
 abbrev pub Equals : Rounded → (a c : ℕ) → Type 0
 Equals r a c = r .significand * up (r .exponent) * c ≡ a * down (r .exponent)
+
+-- a significand of n bits
+pub record HasBits (n s : ℕ) : Type 0 where
+  pub least : 2 ^ (n - 1) ≤ s
+  pub most : s < 2 ^ n

@@ -19,12 +19,7 @@ use Rattle.rounding.specs.GridLaws.{nearest-same, location-same}
 use Rattle.rounding.specs.Digits.{pow-half, drop-finer}
 use Rattle.rounding.specs.Unit.{kept, rn}
 use Rattle.rounding.specs.UnitLaws.{kept-le, kept-ge, rn-scale-whole, rn-whole-small}
-use Rattle.rounding.specs.Round.{normalised, stepped, roundedIn, rounded, Equals}
-
--- a significand of n bits
-pub record HasBits (n s : ℕ) : Type 0 where
-  pub least : 2 ^ (n - 1) ≤ s
-  pub most : s < 2 ^ n
+use Rattle.rounding.specs.Round.{normalised, stepped, roundedIn, rounded, Equals, HasBits}
 
 -- r * 2 ^ j
 abbrev pub shifted : ℕ → Rounded → Rounded

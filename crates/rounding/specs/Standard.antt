@@ -11,12 +11,13 @@ use lib.IntN.{ℤ, pos, negsuc}
 use lib.Ieee.{size, up, down}
 use lib.Ieee.Digits.{size-lt}
 use Rattle.rounding.specs.declared.Rounded.{Rounded}
-use Rattle.rounding.specs.Apart.{apart, apart-mul}
+use Rattle.rounding.specs.Apart.{apart}
+use Rattle.rounding.specs.ApartLaws.{apart-mul}
 use Rattle.rounding.specs.Grid.{Rule, toEven}
 use Rattle.rounding.specs.Digits.{pow-half}
 use Rattle.rounding.specs.Unit.{rn}
-use Rattle.rounding.specs.Round.{rounded, Equals}
-use Rattle.rounding.specs.RoundLaws.{HasBits, rounded-bits, rounded-value}
+use Rattle.rounding.specs.Round.{rounded, Equals, HasBits}
+use Rattle.rounding.specs.RoundLaws.{rounded-bits, rounded-value}
 use Rattle.rounding.specs.Best.{rn-best, rn-tie, even-taken}
 
 -- |r - N / d| is at most |v - N / d|

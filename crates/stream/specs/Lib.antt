@@ -1,9 +1,11 @@
 -- The program as a function, with its examples and its laws.
 pub mod Output
+pub mod Keep
 pub mod PieceLaws
 pub mod SweepLaws
-pub mod Keep
+pub mod KeepLaws
 pub mod Step
+pub mod Good
 pub mod StepLaws
 pub mod Work
 pub mod PartLaws

@@ -1,7 +1,7 @@
 -- The code's loop over steps, and what it comes to. Assumes nothing.
 use mathlib.Core.Path.{_≡_, refl, sym, ap, ap₂, subst, _∙_}
 use mathlib.Core.Bool.{Bool, true, false, _&&_, true≢false}
-use mathlib.Core.List.{List, [], _++_, append-assoc}
+use mathlib.Core.List.{List, [], _++_, append-assoc, append-nil}
 use Prim.Native.Nat.{ℕ, zero, suc, _+_, _-_, _≤_, _<_}
 use native.Mathlib.Omega.{arith}
 use lib.Dec.{leb}
@@ -18,9 +18,8 @@ use Rattle.stream.specs.declared.Progress.{Progress}
 use Rattle.stream.specs.declared.Task.{Task}
 use Rattle.stream.specs.declared.Worked.{Worked}
 use Rattle.stream.specs.Output.{mostLines}
-use Rattle.stream.specs.PieceLaws.{append-nil}
 use Rattle.stream.specs.Step.{mostWritten, Read, Stepped, sweepingTask, wantsStep, readOf, stepOf, endOf}
-use Rattle.stream.specs.StepLaws.{Fit}
+use Rattle.stream.specs.Good.{Fit}
 use Rattle.stream.specs.Moves.{Moved, WorkedOff}
 use Rattle.stream.specs.MoveLaws.{step-short}
 use Rattle.stream.specs.Work.{noStep, andThen, stepsOf, allSteps, Batch, nextIf, nextOf, workIf, workOf}

@@ -2,7 +2,7 @@
 use mathlib.Core.Path.{_≡_, refl, sym, ap, subst, _∙_}
 use mathlib.Core.Bool.{Bool, true, false, cond}
 use mathlib.Core.List.{List, [], _∷_}
-use Prim.Native.Nat.{ℕ, suc, _+_, _-_, _≤_, _<_}
+use Prim.Native.Nat.{ℕ, suc, _+_, _≤_, _<_}
 use native.Mathlib.Numerals.{add-one}
 use native.Mathlib.Omega.{arith}
 use lib.Dec.{leb}
@@ -23,10 +23,11 @@ use Rattle.stream.specs.declared.Progress.{Progress}
 use Rattle.stream.specs.declared.Turn.{Turn}
 use Rattle.stream.specs.declared.Move.{Move}
 use Rattle.stream.specs.Output.{mostLines, judgedLine}
-use Rattle.stream.specs.PieceLaws.{mostKept}
-use Rattle.stream.specs.Keep.{kept, upToFeed, Part, none-kept, kept-part}
+use Rattle.stream.specs.Keep.{kept, upToFeed, Part, mostKept}
+use Rattle.stream.specs.KeepLaws.{none-kept, kept-part}
 use Rattle.stream.specs.Step.{begunWith, tallied, partLines, reportBy, mostWritten, Read, readOf, Stepped, atLine, judgedStep, lineStep, sweptStep, taskStep, stepOf, endTask, endOf}
-use Rattle.stream.specs.StepLaws.{GoodTask, Good, Fit, judged-good, step-good}
+use Rattle.stream.specs.StepLaws.{judged-good, step-good}
+use Rattle.stream.specs.Good.{GoodTask, Good, Fit}
 use Rattle.stream.specs.PartLaws.{part-short}
 use Rattle.stream.specs.Moves.{Turned, Moved}
 

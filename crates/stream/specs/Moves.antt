@@ -8,7 +8,7 @@ use Rattle.stream.specs.declared.Turn.{Turn}
 use Rattle.stream.specs.declared.Move.{Move}
 use Rattle.stream.specs.declared.Worked.{Worked}
 use Rattle.stream.specs.Step.{readOf, Stepped}
-use Rattle.stream.specs.StepLaws.{Fit}
+use Rattle.stream.specs.Good.{Fit}
 use Rattle.stream.specs.Work.{Batch}
 
 -- what was read then, and the bytes written from a place of the output on

@@ -1,7 +1,7 @@
 -- The whole program (document 01, "Frames and report"): from the bytes that come in to the bytes that go out. Definitions only. Assumes nothing.
 use mathlib.Core.Bool.{cond}
 use mathlib.Core.List.{List, [], _∷_, _++_}
-use Prim.Native.Nat.{ℕ, suc, _+_, _^_}
+use Prim.Native.Nat.{ℕ, suc, _+_, _^_, _%_}
 use lib.Dec.{eqb, leb}
 use lib.ListN.{length}
 use Rattle.marks.specs.declared.Mark.{Mark}
@@ -112,3 +112,12 @@ linesOutput i (line ∷ lines) rest = among i (lineOutput i line) ++ linesOutput
 -- the program: lines are numbered from 1
 unfoldable pub output : List ℕ → List ℕ
 output input = linesOutput 1 (pieces input .lines) (pieces input .rest)
+
+-- how many of a sweep's words are open: an open one's is odd, a wrong one's even
+unfoldable pub odds : List ℕ → ℕ
+odds [] = 0
+odds (w ∷ l) = w % 2 + odds l
+
+-- a report by its numbers
+abbrev pub tally : (i trials wrongs opens : ℕ) → Report
+tally i t w o = record { number = i; trials = t; wrongs = w; opens = o }

@@ -2,12 +2,11 @@
 use mathlib.Core.Path.{_≡_, refl, sym, ap, _∙_}
 use mathlib.Core.Bool.{Bool, true, false, true≢false}
 use mathlib.Core.List.{List}
-use Prim.Native.Nat.{ℕ, _+_, _-_, _^_, _≤_, _<_}
+use Prim.Native.Nat.{ℕ, _+_, _-_, _≤_}
 use native.Mathlib.Omega.{arith}
 use lib.ListN.{length, take}
 use lib.Seq.{sets, length-sets}
 use borrow.Author.Tests.{le-ltb}
-use Rattle.wide.specs.Value.{wordBits}
 use Rattle.marks.specs.declared.Mark.{Mark}
 use Rattle.marks.specs.Answers.{none, judged, Outcome, refused, accepted}
 use Rattle.factor.specs.declared.Factor.{Factor}
@@ -26,10 +25,10 @@ use Rattle.sweep.specs.Engine.{engine}
 use Rattle.sweep.specs.Answers.{viewOf, callOf, termsBy, replyOf}
 use Rattle.sweep.specs.Demand3.{call-by-row}
 use Rattle.stream.specs.declared.Tally.{Tally}
-use Rattle.stream.specs.Output.{markOf, isWrong, isOpen, counted}
-use Rattle.stream.specs.SweepLaws.{length-lines, odds, opens-are, wrongs-are}
+use Rattle.stream.specs.Output.{markOf, isWrong, isOpen, counted, odds}
+use Rattle.stream.specs.SweepLaws.{length-lines, opens-are, wrongs-are}
 use Rattle.stream.specs.Step.{listSize, noCap, leftOf, triedBy, triedOf, afterOf, stateAt, tallied, partLines}
-use Rattle.stream.specs.StepLaws.{Going, Counted}
+use Rattle.stream.specs.Good.{Going, Counted, addedTo, Addable}
 
 -- the words of the call
 abbrev pub wordsBy : SweepState → List ℕ
@@ -49,17 +48,6 @@ AnsweredBy s (SweepAnswer.Accepted r) list = Answered s (r .state) (r .trials) (
 AnsweredBy s (SweepAnswer.Refused r) list = ⊥
 
 -- ---- the tally
-
--- with a call's state and trials, and its words, of which so many are open
-abbrev pub addedTo : Tally → (after : SweepState) → (trials words opens : ℕ) → Tally
-addedTo t after trials words opens = record { state = after; trials = t .trials + trials; wrongs = t .wrongs + (words - opens); opens = t .opens + opens }
-
--- room for the sums
-pub record Addable (t : Tally) (trials words opens : ℕ) : Type 0 where
-  pub tried : t .trials + trials < 2 ^ wordBits
-  pub failing : t .wrongs + words < 2 ^ wordBits
-  pub odd : t .opens + opens < 2 ^ wordBits
-  pub some : opens ≤ words
 
 module _ (t : Tally) (c : Counted t) (after : SweepState) (trials place : ℕ) (list : List ℕ) (a : Answered (t .state) after trials place list) (opens : ℕ) (e : opens ≡ odds (take place list)) where
   abbrev s : SweepState

@@ -1,7 +1,7 @@
 -- The program while it reads a line: what is still to print, from the part of the line that is kept and the input to come. Assumes nothing.
 use mathlib.Core.Path.{_≡_, refl, sym, ap, _∙_}
 use mathlib.Core.Bool.{true, not}
-use mathlib.Core.List.{List, [], _∷_, _++_, append-assoc}
+use mathlib.Core.List.{List, [], _∷_, _++_, append-assoc, append-nil}
 use Prim.Native.Nat.{ℕ, suc, _+_, _*_, _≤_, _<_}
 use native.Mathlib.Omega.{arith}
 use lib.ListN.{length, length-append}
@@ -13,16 +13,8 @@ use Rattle.factor.specs.SetUp.{setUp}
 use Rattle.frame.specs.Lines.{lineFeed}
 use Rattle.frame.specs.Frame.{endDigits, spaced, describedBy, frameOf}
 use Rattle.frame.specs.Report.{refusalLine}
+use Rattle.stream.specs.Keep.{mostKept, NoFeed}
 use Rattle.stream.specs.Output.{Pieces, before, put, pieces, mostLines, among, lastOutput, judgedLine, judgedOutput, lineOutput, linesOutput, output}
-
-pub append-nil : (l : List ℕ) → l ++ [] ≡ l
-append-nil [] = refl
-append-nil (x ∷ l) = ap (λ (m : List ℕ). x ∷ m) (append-nil l)
-
--- no line feed among bytes
-abbrev pub NoFeed : List ℕ → Type 0
-NoFeed [] = Unit {0}
-NoFeed (b ∷ l) = ¬ (b ≡ lineFeed) × NoFeed l
 
 pub no-feed-join : (l m : List ℕ) → NoFeed l → NoFeed m → NoFeed (l ++ m)
 no-feed-join [] m p q = q
@@ -53,9 +45,6 @@ pieces-prefixed (b ∷ h) input n =
     ∙ before-prefixed b h (pieces input .lines) (pieces input .rest)
 
 -- ---- a frame has 39 bytes, so of a line at most 40 are kept
-abbrev pub mostKept : ℕ
-mostKept = 40
-
 pub long-line : (i : ℕ) (line : List ℕ) → mostKept ≤ length line → lineOutput i line ≡ refusalLine i 24
 unfolding lineOutput judgedLine
 long-line i line h =

@@ -2,8 +2,8 @@
 -- written a prefix of that. Assumes nothing.
 use mathlib.Core.Path.{_≡_, refl, sym, ap, _∙_}
 use mathlib.Core.Bool.{Bool, true, false, cond, true≢false}
-use mathlib.Core.List.{List, [], _∷_, _++_, append-assoc}
-use Prim.Native.Nat.{ℕ, zero, suc, _+_, _-_, _≤_, _<_}
+use mathlib.Core.List.{List, [], _∷_, _++_, append-assoc, append-nil}
+use Prim.Native.Nat.{ℕ, zero, suc, _+_, _≤_, _<_}
 use native.Mathlib.Omega.{arith}
 use lib.Dec.{leb}
 use lib.ListN.{length, length-append}
@@ -13,9 +13,10 @@ use Rattle.stream.specs.declared.Next.{Next}
 use Rattle.stream.specs.declared.Task
 use Rattle.stream.specs.declared.Task.{Task}
 use Rattle.stream.specs.Output.{mostLines, output}
-use Rattle.stream.specs.PieceLaws.{append-nil, reading-past}
+use Rattle.stream.specs.PieceLaws.{reading-past}
 use Rattle.stream.specs.Step.{mostWritten, Read, Stepped, sweepingTask, wantsStep, atLine, endOf}
-use Rattle.stream.specs.StepLaws.{restTask, restOf, Good, begin-good, end-tells, begin-tells}
+use Rattle.stream.specs.StepLaws.{restTask, restOf, begin-good, end-tells, begin-tells}
+use Rattle.stream.specs.Good.{Good}
 use Rattle.stream.specs.Work.{allSteps, Batch, nextIf, nextOf, workIf, workOf, chunkOf, chunksAfter, onward, loopOutput, program, inputOf}
 use Rattle.stream.specs.WorkLaws.{steps-tell, steps-good, steps-end}
 

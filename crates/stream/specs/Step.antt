@@ -20,8 +20,7 @@ use Rattle.stream.specs.declared.Tally.{Tally}
 use Rattle.stream.specs.declared.Task
 use Rattle.stream.specs.declared.Task.{Task}
 use Rattle.stream.specs.declared.Progress.{Progress}
-use Rattle.stream.specs.Output.{mostLines, markOf, isWrong, isOpen, counted, wordLines, judgedLine}
-use Rattle.stream.specs.SweepLaws.{tally}
+use Rattle.stream.specs.Output.{mostLines, markOf, isWrong, isOpen, counted, wordLines, judgedLine, tally}
 use Rattle.stream.specs.Keep.{kept, upToFeed}
 
 -- ---- a part of a sweep: one call, with no cap that counts and a list of 64 words

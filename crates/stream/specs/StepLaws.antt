@@ -26,16 +26,17 @@ use Rattle.calls.specs.Rows.{begins, row-ascends, ascends-few}
 use Rattle.calls.specs.Tries.{tries-within}
 use Rattle.frame.specs.Frame.{frameOf}
 use Rattle.sweep.specs.declared.SweepState.{SweepState}
-use Rattle.sweep.specs.Engine.{suspect, rangeOut}
+use Rattle.sweep.specs.Engine.{suspect}
 use Rattle.stream.specs.declared.Tally.{Tally}
 use Rattle.stream.specs.declared.Task
 use Rattle.stream.specs.declared.Task.{Task}
-use Rattle.stream.specs.declared.Progress.{Progress}
 use Rattle.stream.specs.Output.{mostLines, among, suspectsOf, markOf, isWrong, isOpen, counted, judgedLine, judgedOutput, lastOutput, lineOutput, output}
-use Rattle.stream.specs.PieceLaws.{mostKept, reading, reading-all, reading-feed, reading-end, reading-past}
+use Rattle.stream.specs.PieceLaws.{reading, reading-all, reading-feed, reading-end, reading-past}
 use Rattle.stream.specs.SweepLaws.{opens-are, wrongs-are, words-few, sweeping, sweeping-all, sweeping-some, sweeping-none}
-use Rattle.stream.specs.Keep.{kept, upToFeed, Part, none-kept, kept-part, reading-kept}
-use Rattle.stream.specs.Step.{listSize, noCap, leftOf, triedBy, triedOf, afterOf, stateAt, begunWith, talliedTo, tallied, partLines, reportBy, Read, readOf, Stepped, atLine, judgedStep, lineStep, sweptStep, taskStep, stepOf, endTask, endOf}
+use Rattle.stream.specs.Keep.{kept, upToFeed, Part}
+use Rattle.stream.specs.KeepLaws.{none-kept, kept-part, reading-kept}
+use Rattle.stream.specs.Good.{Going, Counted, GoodTask, Good}
+use Rattle.stream.specs.Step.{listSize, noCap, leftOf, triedBy, triedOf, afterOf, stateAt, begunWith, talliedTo, tallied, partLines, reportBy, Read, Stepped, atLine, judgedStep, lineStep, sweptStep, taskStep, stepOf, endTask, endOf}
 
 -- ---- what is still to print
 
@@ -48,28 +49,6 @@ unfoldable pub restOf : Read → (input : List ℕ) → List ℕ
 restOf r input = restTask (r .number) (r .line) (r .task) input
 
 -- ---- what holds of all that was read
-
--- a state whose call is not refused for the state
-pub record Going (s : SweepState) : Type 0 where
-  pub whole : intact (s .factor) ≡ true
-  pub inside : rangeOut (s .factor .precision .bits) (s .first) (s .last) ≡ false
-  pub from : s .first ≤ s .next
-  pub upto : s .next ≤ s .last
-  pub going : s .finished ≡ false
-
--- the counts so far, which stay small: there are no more significands than the largest precision has
-pub record Counted (t : Tally) : Type 0 where
-  pub few : t .trials + length (leftOf (t .state)) ≤ 2 ^ mostPrecision
-  pub failing : t .wrongs + t .opens ≤ t .trials
-
-abbrev pub GoodTask : ℕ → Task → Type 0
-GoodTask i Task.Reading = Unit {0}
-GoodTask i (Task.Sweeping t) = (i ≤ mostLines) × Going (t .state) × Counted t
-
-pub record Good (r : Read) : Type 0 where
-  pub number : r .number ≤ suc mostLines
-  pub line : Part (r .line)
-  pub task : GoodTask (r .number) (r .task)
 
 pub begin-good : Good (atLine 1)
 begin-good = record { number = omega arith; line = none-kept; task = Prim.tt }
@@ -299,10 +278,3 @@ end-tells r g e = rw e (reading-end (r .number) (r .line) (g .line .plain) ∙ g
 pub begin-tells : (input : List ℕ) → restOf (atLine 1) input ≡ output input
 unfolding restOf
 begin-tells input = sym (reading-all input)
-
--- ---- what holds of the progress
-
-pub record Fit (p : Progress) : Type 0 where
-  pub size : length (p .held) ≡ mostKept
-  pub few : p .length ≤ mostKept
-  pub good : Good (readOf p)

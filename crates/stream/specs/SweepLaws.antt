@@ -1,7 +1,7 @@
 -- The program while it sweeps a frame: what is still to print, from the suspects that are left and the counts so far. Assumes nothing.
 use mathlib.Core.Path.{_≡_, refl, sym, ap, ap₂, _∙_}
-use mathlib.Core.List.{List, [], _∷_, _++_, append-assoc}
-use Prim.Native.Nat.{ℕ, _+_, _-_, _*_, _%_, _≤_, _<_}
+use mathlib.Core.List.{List, [], _∷_, _++_, append-assoc, append-nil}
+use Prim.Native.Nat.{ℕ, _+_, _*_, _%_, _≤_, _<_}
 use native.Mathlib.Nat.{mod-lt}
 use native.Mathlib.Omega.{arith}
 use lib.ListN.{length, length-append}
@@ -14,8 +14,7 @@ use Rattle.calls.specs.Tries.{listed-few}
 use Rattle.frame.specs.declared.Report.{Report}
 use Rattle.frame.specs.Report.{reportLine, wordLine}
 use Rattle.frame.specs.ReportLaws.{length-word}
-use Rattle.stream.specs.PieceLaws.{append-nil}
-use Rattle.stream.specs.Output.{suspectsOf, markOf, isWrong, isOpen, counted, wordLines, reportOf, sweptOutput}
+use Rattle.stream.specs.Output.{suspectsOf, markOf, isWrong, isOpen, counted, wordLines, reportOf, sweptOutput, odds, tally}
 
 -- ---- joined rows
 counted-join : (kind : Mark → ℕ) (mark : ℕ → Mark) (a b : List ℕ) → counted kind mark (a ++ b) ≡ counted kind mark a + counted kind mark b
@@ -44,11 +43,7 @@ pub lines-last : (v : List ℕ) (x : ℕ) → wordLines (v ++ (x ∷ [])) ≡ wo
 unfolding wordLines
 lines-last v x = lines-join v (x ∷ []) ∙ ap (λ (l : List ℕ). wordLines v ++ l) (append-nil (wordLine 8 x))
 
--- ---- the words tell the counts: an open one's is odd, a wrong one's even
-unfoldable pub odds : List ℕ → ℕ
-odds [] = 0
-odds (w ∷ l) = w % 2 + odds l
-
+-- ---- the words tell the counts
 pub odds-last : (v : List ℕ) (x : ℕ) → odds (v ++ (x ∷ [])) ≡ odds v + x % 2
 unfolding odds
 odds-last [] x = omega arith
@@ -90,9 +85,6 @@ module _ (mark : ℕ → Mark) where
   words-few (x ∷ a) = omega (arith, length-append (listed (mark x) x) (wordsOf mark a), listed-few (mark x) x, words-few a)
 
 -- ---- what is still to print of line i: the words of the suspects left, the report, and what comes later
-abbrev pub tally : (i trials wrongs opens : ℕ) → Report
-tally i t w o = record { number = i; trials = t; wrongs = w; opens = o }
-
 unfoldable pub sweeping : (i : ℕ) → (ℕ → Mark) → (left : List ℕ) → (t w o : ℕ) → (later : List ℕ) → List ℕ
 sweeping i mark left t w o later =
     wordLines (wordsOf mark left) ++ (reportLine 8 (tally i (t + length left) (w + counted isWrong mark left) (o + counted isOpen mark left)) ++ later)

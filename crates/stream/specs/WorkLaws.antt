@@ -23,7 +23,8 @@ use Rattle.stream.specs.Output.{mostLines, markOf, judgedLine}
 use Rattle.stream.specs.SweepLaws.{length-lines}
 use Rattle.stream.specs.Keep.{kept, upToFeed}
 use Rattle.stream.specs.Step.{listSize, noCap, leftOf, triedBy, triedOf, afterOf, talliedTo, tallied, partLines, reportBy, mostWritten, Read, Stepped, wantsStep, judgedStep, lineStep, sweptStep, taskStep, stepOf}
-use Rattle.stream.specs.StepLaws.{Counted, GoodTask, Good, restOf, step-tells, step-good}
+use Rattle.stream.specs.StepLaws.{restOf, step-tells, step-good}
+use Rattle.stream.specs.Good.{Counted, GoodTask, Good}
 use Rattle.stream.specs.MoveLaws.{step-short}
 use Rattle.stream.specs.Work.{noStep, andThen, stepsOf}
 

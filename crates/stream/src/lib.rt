@@ -15,13 +15,11 @@ ghost use lib.ListN.{length, take, drop};
 ghost use Rattle.factor.specs.SetUp.{outcomeOf, intact};
 ghost use Rattle.frame.specs.Written.{Written};
 ghost use Rattle.stream.specs.declared.Task;
-ghost use Rattle.stream.specs.Output.{wordLines, judgedLine};
-ghost use Rattle.stream.specs.SweepLaws.{odds};
+ghost use Rattle.stream.specs.Output.{wordLines, judgedLine, odds};
 ghost use Rattle.stream.specs.Keep.{keep, kept, upToFeed};
 ghost use Rattle.stream.specs.Step.{begunWith, tallied, partLines, mostWritten, sweepingTask, wantsStep, readOf, atLine, judgedStep, taskStep, stepOf, endOf};
 ghost use Rattle.stream.specs.Work.{allSteps, nextOf, workOf};
-ghost use Rattle.stream.specs.StepLaws.{Going, Counted, GoodTask, Fit};
-ghost use Rattle.stream.specs.PartLaws.{addedTo, Addable};
+ghost use Rattle.stream.specs.Good.{Going, Counted, GoodTask, Fit, addedTo, Addable};
 ghost use Rattle.stream.specs.Moves.{Turned, Moved, WorkedOff};
 
 // The byte that ends a line.

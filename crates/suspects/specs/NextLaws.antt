@@ -18,7 +18,7 @@ use Rattle.search.specs.Multiples.{ceilDiv-ge, ceilDiv-le}
 use Rattle.search.specs.SearchLaws.{searchFrom-finds}
 use Rattle.factor.specs.Context.{Context, Fine}
 use Rattle.factor.specs.Parts.{partsAt}
-use Rattle.factor.specs.UnitParts.{End}
+use Rattle.factor.specs.Ends.{End}
 use Rattle.suspects.specs.declared.Sought.{Sought}
 use Rattle.suspects.specs.Suspects.{windowW, widening, isLow, halfStep, inWindow, isSuspect}
 use Rattle.suspects.specs.Window.{in-window, room}

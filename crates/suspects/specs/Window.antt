@@ -13,7 +13,8 @@ use Rattle.rounding.specs.Digits.{pow-half}
 use Rattle.rounding.specs.Unit.{rn}
 use Rattle.factor.specs.Context.{Context, Fine}
 use Rattle.factor.specs.Parts.{partsAt}
-use Rattle.factor.specs.UnitParts.{End, unitParts}
+use Rattle.factor.specs.UnitParts.{unitParts}
+use Rattle.factor.specs.Ends.{End}
 use Rattle.factor.specs.PartsLaws.{top-is}
 use Rattle.factor.specs.Accepted.{spread}
 use Rattle.product.specs.Product.{product}

@@ -3,13 +3,13 @@
 use mathlib.Core.Path.{_≡_, subst}
 use mathlib.Core.Bool.{true, false, not, _||_}
 use mathlib.Core.Logic.{_≢_, _↔_}
-use Prim.Native.Nat.{ℕ, suc, _-_, _≤_}
+use Prim.Native.Nat.{ℕ, suc, _≤_}
 use native.Mathlib.Omega.{arith}
 use lib.Dec.{ltb}
 use borrow.Author.Tests.{ltb-false, not-false}
 use Rattle.marks.specs.declared.Mark.the-variants.{Right}
 use Rattle.marks.specs.AnswerLaws.{or-false}
-use Rattle.rounding.specs.RoundLaws.{HasBits}
+use Rattle.rounding.specs.Round.{HasBits}
 use Rattle.factor.specs.declared.Parts.{Parts}
 use Rattle.factor.specs.declared.Factor.{Factor}
 use Rattle.factor.specs.Precision.{significandOut}

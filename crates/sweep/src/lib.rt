@@ -13,7 +13,7 @@ ghost use Rattle.search.specs.declared.Place.the-variants.{Nowhere};
 ghost use Rattle.factor.specs.Precision.{ValidPrecision};
 ghost use Rattle.wide.specs.Value.{wordBits, halfWord};
 ghost use Rattle.suspects.specs.Next.{Askable};
-ghost use Rattle.marks.specs.AnswerLaws.{First};
+ghost use Rattle.marks.specs.Answers.{First};
 ghost use Rattle.calls.specs.Call.{newState, conditions, sweepCall};
 ghost use Rattle.calls.specs.Call;
 ghost use Rattle.sweep.specs.Engine.{rangeOut, stateOut, engine};

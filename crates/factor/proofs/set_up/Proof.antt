@@ -15,11 +15,12 @@ use Rattle.factor.specs.declared.Precision.{Precision}
 use Rattle.factor.specs.Precision.{ValidPrecision, precisionOut, precisionSays}
 use Rattle.factor.specs.Context.{Context, contextAt, contextFor}
 use Rattle.factor.specs.ContextLaws.{fine-at}
-use Rattle.factor.specs.UnitParts.{End}
+use Rattle.factor.specs.Ends.{End}
 use Rattle.factor.specs.Parts.{partsAt}
 use Rattle.factor.specs.SetUp.{endOut, scaleOut, sameHigh, sameLow, appliedOf, factorOf, setUp}
 use Rattle.factor.specs.SetUpLaws.{valid-in, end-in}
-use Rattle.factor.specs.Stored.{Storable, storable, appliedFrom, applied-from}
+use Rattle.factor.specs.Stored.{Storable, appliedFrom}
+use Rattle.factor.specs.StoredLaws.{storable, applied-from}
 use Rattle.factor.proofs.set_up.Statement.{statement}
 use Rattle.factor.proofs.set_up.Tie as tie
 

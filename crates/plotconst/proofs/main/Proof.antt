@@ -7,7 +7,7 @@ use lib.ListN.{length}
 use lib.Seq.{length-take-le}
 use borrow.Author.Needs.{needs}
 use Rattle.stream.specs.Step.{mostWritten}
-use Rattle.stream.specs.StepLaws.{Fit}
+use Rattle.stream.specs.Good.{Fit}
 use Rattle.plotconst.proofs.main.Statement.{statement}
 use Rattle.plotconst.proofs.main.Tie as tie
 

@@ -5,7 +5,7 @@ use borrow.Author.Needs.{needs}
 use borrow.Author.Tests.{not-false}
 use Rattle.marks.specs.Answers.{accepted}
 use Rattle.marks.specs.AnswerLaws.{pass, stop, end, refuses, accepts}
-use Rattle.rounding.specs.RoundLaws.{HasBits}
+use Rattle.rounding.specs.Round.{HasBits}
 use Rattle.factor.specs.Precision.{significandOut}
 use Rattle.factor.specs.SetUp.{intact, Sound}
 use Rattle.factor.specs.SetUpLaws.{intact-sound}

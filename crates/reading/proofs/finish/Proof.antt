@@ -11,7 +11,7 @@ use borrow.Author.Needs.{needs}
 use Rattle.marks.specs.declared.Mark.{Mark}
 use Rattle.marks.specs.Answers.{accepted}
 use Rattle.marks.specs.AnswerLaws.{pass, stop, end, refuses, accepts}
-use Rattle.rounding.specs.RoundLaws.{HasBits}
+use Rattle.rounding.specs.Round.{HasBits}
 use Rattle.floats.specs.Fields.{signOf, biasedExponent, floatOf}
 use Rattle.floats.specs.Pattern.{significand-bits}
 use Rattle.product.specs.Marks.{markBy}

@@ -21,7 +21,7 @@ use Rattle.factor.specs.Precision.{scaleOf}
 use Rattle.factor.specs.Context.{contextAt}
 use Rattle.factor.specs.UnitParts.{unitPartsOf}
 use Rattle.product.specs.Units.{firstUnits}
-use Rattle.factor.specs.Stored.{low-number}
+use Rattle.factor.specs.StoredLaws.{low-number}
 use Rattle.reading.specs.FirstLaws.{K32, first-float, first-told}
 use Rattle.reading.proofs.first_step.Statement.{statement}
 use Rattle.reading.proofs.first_step.Tie as tie

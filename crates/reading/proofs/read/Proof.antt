@@ -6,7 +6,7 @@ use lib.Ieee.{Float, binary32, prec}
 use borrow.Author.Needs.{needs}
 use Rattle.marks.specs.declared.Mark.{Mark}
 use Rattle.marks.specs.Answers.{NoneHolds, accepted}
-use Rattle.rounding.specs.RoundLaws.{HasBits}
+use Rattle.rounding.specs.Round.{HasBits}
 use Rattle.floats.specs.Fields.{zeroBits, significandOf}
 use Rattle.floats.specs.Pattern.{significand-bits}
 use Rattle.factor.specs.SetUp.{Sound}

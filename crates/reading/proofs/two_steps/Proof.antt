@@ -3,7 +3,7 @@ use mathlib.Core.Path.{sym, ap, _∙_, subst}
 use Prim.Native.Nat.{ℕ}
 use lib.Ieee.{binary32, prec}
 use borrow.Author.Needs.{needs}
-use Rattle.rounding.specs.RoundLaws.{HasBits}
+use Rattle.rounding.specs.Round.{HasBits}
 use Rattle.floats.specs.Pattern.{significand-bits}
 use Rattle.product.specs.Product.{productBy}
 use Rattle.reading.proofs.two_steps.Statement.{statement}

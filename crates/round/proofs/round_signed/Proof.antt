@@ -1,7 +1,7 @@
 -- `round::round_signed` meets its contract: sign and size apart. Assumes nothing.
 use mathlib.Core.Path.{_≡_, ap, _∙_}
 use mathlib.Core.Bool.{Bool}
-use Prim.Native.Nat.{ℕ, _-_, zero, suc, _^_, _<_}
+use Prim.Native.Nat.{ℕ, _-_, zero, suc, _<_}
 use native.Mathlib.Nat.{lt-of-lt-of-le}
 use native.Mathlib.Omega.{arith}
 use lib.IntN.{ℤ, pos, natAbs}

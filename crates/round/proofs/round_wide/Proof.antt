@@ -9,7 +9,7 @@ use borrow.Author.Needs.{needs}
 use Rattle.rounding.specs.declared.Location.{Location}
 use Rattle.rounding.specs.Grid.{ruleOf, location, choose, nearest}
 use Rattle.rounding.specs.Round.{normalised, rounded}
-use Rattle.rounding.specs.ByDigits.{rounded-many}
+use Rattle.rounding.specs.ByDigitsLaws.{rounded-many}
 use Rattle.wide.specs.declared.Wide.{Wide}
 use Rattle.wide.specs.Value.{wordBits, halfWord, valueOf}
 use Rattle.round.proofs.Laws.{longer, kept-digits}

@@ -6,7 +6,7 @@ use lib.Ieee.Digits.{size-lt}
 use borrow.Author.Needs.{needs}
 use Rattle.rounding.specs.Grid.{ruleOf}
 use Rattle.rounding.specs.Round.{normalised, rounded}
-use Rattle.rounding.specs.ByDigits.{rounded-few, rounded-many}
+use Rattle.rounding.specs.ByDigitsLaws.{rounded-few, rounded-many}
 use Rattle.round.specs.declared.Neighbour.{Neighbour}
 use Rattle.round.proofs.round_word.Statement.{statement}
 use Rattle.round.proofs.round_word.Tie as tie

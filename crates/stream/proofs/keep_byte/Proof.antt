@@ -2,7 +2,7 @@
 use mathlib.Core.Path.{_∙_}
 use native.Mathlib.Omega.{arith}
 use lib.ListN.{length-set}
-use Rattle.stream.specs.Keep.{keep-room, keep-full}
+use Rattle.stream.specs.KeepLaws.{keep-room, keep-full}
 use borrow.Author.Needs.{needs}
 use Rattle.stream.proofs.keep_byte.Statement.{statement}
 use Rattle.stream.proofs.keep_byte.Tie as tie

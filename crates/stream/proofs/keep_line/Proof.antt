@@ -7,8 +7,8 @@ use native.Mathlib.Omega.{arith}
 use lib.ListN.{length, take, drop, getD}
 use borrow.Author.Needs.{needs}
 use Rattle.frame.specs.Lines.{lineFeed}
-use Rattle.stream.specs.PieceLaws.{mostKept}
-use Rattle.stream.specs.Keep.{keep, kept, upToFeed, kept-end, end-up, kept-feed, feed-up, kept-byte, byte-up}
+use Rattle.stream.specs.Keep.{keep, kept, upToFeed, mostKept}
+use Rattle.stream.specs.KeepLaws.{kept-end, end-up, kept-feed, feed-up, kept-byte, byte-up}
 use Rattle.stream.proofs.keep_line.Statement.{statement}
 use Rattle.stream.proofs.keep_line.Tie as tie
 

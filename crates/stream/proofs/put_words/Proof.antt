@@ -13,8 +13,8 @@ use borrow.Author.Needs.{needs}
 use Rattle.frame.specs.Report.{wordLine}
 use Rattle.frame.specs.Written.{Written}
 use Rattle.frame.specs.WrittenLaws.{written-then, written-length}
-use Rattle.stream.specs.Output.{wordLines}
-use Rattle.stream.specs.SweepLaws.{odds, odds-few, lines-last, odds-last, length-lines}
+use Rattle.stream.specs.Output.{wordLines, odds}
+use Rattle.stream.specs.SweepLaws.{odds-few, lines-last, odds-last, length-lines}
 use Rattle.stream.proofs.put_words.Statement.{statement}
 use Rattle.stream.proofs.put_words.Tie as tie
 

@@ -1,7 +1,7 @@
 -- `stream::step` meets its contract. Assumes nothing.
 use mathlib.Core.Path.{subst}
 use native.Mathlib.Omega.{arith}
-use Rattle.stream.specs.StepLaws.{GoodTask}
+use Rattle.stream.specs.Good.{GoodTask}
 use Rattle.stream.specs.MoveLaws.{with-room, moved-swept, moved-past, moved-kept, moved-line}
 use borrow.Author.Needs.{needs}
 use Rattle.stream.proofs.step.Statement.{statement}

@@ -4,8 +4,7 @@ use Prim.Native.Nat.{_^_, _<_}
 use native.Mathlib.Omega.{arith}
 use lib.ListN.{length}
 use borrow.Author.Needs.{needs}
-use Rattle.marks.specs.Answers.{none}
-use Rattle.marks.specs.AnswerLaws.{First}
+use Rattle.marks.specs.Answers.{none, First}
 use Rattle.calls.specs.Call.{conditions}
 use Rattle.calls.specs.Refusals.{call-refused}
 use Rattle.sweep.specs.declared.SweepAnswer.{SweepAnswer}
