@@ -1,4 +1,4 @@
--- Ends with the same parts: they are close, and every fraction between them has these parts. Assumes nothing.
+-- Laws of ends with the same parts: they are close, and every fraction between them has these parts. Assumes nothing.
 use mathlib.Core.Path.{_≡_, refl, sym, ap, _∙_, subst}
 use mathlib.Core.Bool.{Bool, true, false}
 use Prim.Native.Nat.{ℕ, zero, suc, _+_, _-_, _*_, _^_, _≤_, _<_}

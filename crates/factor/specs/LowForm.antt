@@ -1,4 +1,4 @@
--- The low part as a signed whole number over a power of two: the form in which it is kept. Assumes nothing.
+-- Laws of the low part as a signed whole number over a power of two, the form in which it is kept. Assumes nothing.
 use mathlib.Core.Path.{_≡_, refl, sym, ap, _∙_}
 use mathlib.Core.Bool.{Bool, true, false}
 use Prim.Native.Nat.{ℕ, zero, suc, _+_, _-_, _*_, _/_, _^_, _≤_, _<_}

@@ -1,4 +1,4 @@
--- What the fields of a pattern say of its value: every number of a format is infinite or NaN, zero, subnormal, or sign * significand / 2 ^ (prec - 1) * 2 ^ exponent. Assumes nothing.
+-- Laws: what the fields of a pattern say of its value. Every number of a format is infinite or NaN, zero, subnormal, or sign * significand / 2 ^ (prec - 1) * 2 ^ exponent. Assumes nothing.
 use mathlib.Core.Path.{_≡_, refl, sym, ap, ap₂, _∙_, subst}
 use mathlib.Core.Bool.{Bool, true, false, not, _&&_, cond, true≢false}
 use mathlib.Core.Logic.{_⊎_, inl, inr}

@@ -1,4 +1,4 @@
--- A format's floats by their bit patterns: sign, exponent's field and digits, the classes that they tell, and the float of a sign, an exponent and a significand. Definitions only. Assumes nothing.
+-- A format's floats by their bit patterns: sign, biased exponent and trailing significand, the classes that they tell, and the float of a sign, an exponent and a significand. Definitions only. Assumes nothing.
 use mathlib.Core.Bool.{Bool, true, false, not, _&&_, cond}
 use Prim.Native.Nat.{ℕ, suc, _+_, _-_, _*_, _/_, _%_, _^_, _≤_, _<_}
 use lib.Dec.{eqb, leb}
@@ -6,7 +6,7 @@ use lib.IntN.{ℤ, pos}
 use lib.Ieee
 use lib.Ieee.{Float, fin, Format, prec, emax, low, hid, ones, top, minus, toBits}
 
--- ---- the fields of a pattern b: the sign, the exponent's field, and the digits below the leading one
+-- ---- the fields of a pattern b: the sign, the biased exponent, and the trailing significand, which is the digits below the leading one
 abbrev pub signOf : Format → ℕ → Bool
 signOf f b = leb (top f) b
 
@@ -57,7 +57,7 @@ exponentOf f b = minus (biasedExponent f b) (emax f)
 abbrev pub floatOf : Format → Bool → (k m : ℕ) → Float
 floatOf f s k m = Ieee.round f s (m * 2 ^ k) (2 ^ low f)
 
--- m has all digits of the format, or is the power of two above them, and the field of infinities is not reached
+-- m has all digits of the format, or is the power of two above them, and the biased exponent of infinities is not reached
 pub record Normalized (f : Format) (k m : ℕ) : Type 0 where
   pub least : hid f ≤ m
   pub most : m ≤ 2 ^ prec f
@@ -80,7 +80,7 @@ unitsOf f d b = cond (eqb (b % top f) 0) 0 (significandOf f b * 2 ^ (biasedExpon
 abbrev pub unitAt : Format → (E : ℕ) → ℕ
 unitAt f E = emax f - 1 - E
 
--- what code asks to count it: it is finite, by its field whole in the unit, or zero, and its size below 2 ^ w
+-- what code asks to count it: it is finite, by its exponent whole in the unit, or zero, and its size below 2 ^ w
 pub record WholeInUnits (f : Format) (w d b : ℕ) : Type 0 where
   pub finite : biasedExponent f b < ones f
   pub from : 0 < b % top f → suc d ≤ biasedExponent f b

@@ -1,4 +1,4 @@
--- A number of at most n digits is a float of each format that has so many: rounding leaves it, and moved up to the format's precision it is put together from its bits. Assumes nothing.
+-- Laws: a number of at most n digits is a float of each format that has so many: rounding leaves it, and moved up to the format's precision it is put together from its bits. Assumes nothing.
 use mathlib.Core.Path.{_≡_, sym, ap, _∙_}
 use mathlib.Core.Bool.{Bool}
 use Prim.Native.Nat.{ℕ, suc, _+_, _-_, _*_, _^_, _≤_, _<_}

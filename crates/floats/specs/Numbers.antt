@@ -1,4 +1,4 @@
--- Which floats are numbers, and which one is not. Assumes nothing.
+-- Laws: which floats are numbers, and which one is not; floats with the same bits are the same. Assumes nothing.
 use mathlib.Core.Path.{_≡_, refl, sym, ap, _∙_, subst}
 use mathlib.Core.Bool.{Bool, true, false, not, true≢false}
 use Prim.Native.Nat.{ℕ, _*_, _%_, _≤_, _<_}

@@ -1,4 +1,4 @@
--- The pattern of a sign, a field and digits, and that of a sign, an exponent and a significand: which float it is, and its value. Assumes nothing.
+-- Laws: the pattern of a sign, a biased exponent and a trailing significand, and that of a sign, an exponent and a significand: which float it is, and its value. Assumes nothing.
 use mathlib.Core.Path.{_≡_, refl, sym, ap, _∙_, subst}
 use mathlib.Core.Bool.{Bool, true, false, not}
 use mathlib.Core.Logic.{_⊎_, inl, inr}

@@ -1,4 +1,4 @@
--- 2 ^ z for an integer z, in natural numbers and in units of a format's smallest value. Assumes nothing.
+-- Laws of 2 ^ z for an integer z, in natural numbers and in units of a format's smallest value. Assumes nothing.
 use mathlib.Core.Path.{_≡_, refl, sym, ap, ap₂, _∙_}
 use mathlib.Core.Bool.{Bool, true, false}
 use Prim.Native.Nat.{ℕ, suc, _+_, _-_, _*_, _^_, _≤_, _<_}

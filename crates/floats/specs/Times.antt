@@ -1,4 +1,4 @@
--- A product of two floats is the exact product, rounded. In a unit in which it is whole that is RN in whole numbers, and its bits tell it. Assumes nothing.
+-- Laws: a product of two floats is the exact product, rounded. In a unit in which it is whole that is RN in whole numbers, and its bits tell it. Assumes nothing.
 use mathlib.Core.Path.{_≡_, refl, sym, ap, ap₂, _∙_, subst}
 use mathlib.Core.Bool.{Bool, true, false, cond}
 use mathlib.Core.Logic.{_⊎_, inl, inr}

@@ -14,16 +14,16 @@ pub const PRECISION: u32 = 24;
 // The largest exponent.
 const MOST_EXPONENT: u32 = 127;
 
-// The exponent's field of infinities and NaNs.
-pub const ENDLESS: u32 = 2 * MOST_EXPONENT + 1;
+// The biased exponent of infinities and NaNs.
+pub const INFINITE_OR_NAN: u32 = 2 * MOST_EXPONENT + 1;
 
-// The weight of the exponent's field, which the leading digit has too, and that of the sign.
+// The weight of the biased exponent in a pattern, which the leading digit has too, and that of the sign.
 const LEADING: u32 = 8388608;
 
-const SIGN: u32 = LEADING * (ENDLESS + 1);
+const SIGN: u32 = LEADING * (INFINITE_OR_NAN + 1);
 
 // The patterns of plus infinity and of NaN.
-const INFINITY: u32 = ENDLESS * LEADING;
+const INFINITY: u32 = INFINITE_OR_NAN * LEADING;
 
 const NAN: u32 = INFINITY + LEADING / 2;
 
@@ -34,14 +34,14 @@ pub fn is_minus(bits: u32) -> bool
     SIGN <= bits
 }
 
-// The exponent's field of a pattern.
+// The biased exponent of a pattern.
 pub fn biased_exponent(bits: u32) -> u32
     ensures { λ r. ⌜ r ≡ biasedExponent binary32 bits ⌝ }
 {
     bits % SIGN / LEADING
 }
 
-// The digits of a pattern below the leading one.
+// The trailing significand of a pattern: its digits below the leading one.
 pub fn trailing_significand(bits: u32) -> u32
     ensures { λ r. ⌜ r ≡ trailingSignificand binary32 bits ⌝ }
 {

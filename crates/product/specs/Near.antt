@@ -1,4 +1,4 @@
--- How near the fused sum is to C * x, for every fraction C between the ends: less than 2 ^ (1 - 2 * n) apart, ties included. Assumes nothing.
+-- Laws: how near the fused sum is to C * x, for every fraction C between the ends: less than 2 ^ (1 - 2 * n) apart, ties included. Assumes nothing.
 use mathlib.Core.Path.{_≡_, sym, subst}
 use Prim.Native.Nat.{ℕ, _+_, _-_, _*_, _^_, _<_}
 use native.Mathlib.Nat.{mul-le-mul-right, mul-lt-mul-of-pos-right}

@@ -1,4 +1,4 @@
--- Exponents as code counts them: from the least that a reading and a scale allow, so that none is negative. Assumes nothing.
+-- Laws of exponents as code counts them: from the least that a reading and a scale allow, so that none is negative. Assumes nothing.
 use mathlib.Core.Path.{_≡_, refl, sym, ap, ap₂, _∙_}
 use mathlib.Core.Bool.{Bool, true, false, _||_, true≢false}
 use Prim.Native.Nat.{ℕ, suc, _+_, _-_, _*_, _≤_, _<_}
@@ -21,7 +21,7 @@ lifted-scale (negsuc m) e = go (ltb 99 m) refl e
     go true t x = absurd (true≢false x)
     go false t x = let l = ltb-false 99 m t in (99 - m, sub-le 100 (suc m) (99 - m) (omega arith), omega arith)
 
--- ---- the product's exponent z, counted from -(emax + 100): the field of the reading and the scale and the binade added up
+-- ---- the product's exponent z, counted from -(emax + 100): the biased exponent of the reading, the scale and the binade added up
 left-comm : (a b c : ℤ) → a +ℤ (b +ℤ c) ≡ b +ℤ (a +ℤ c)
 left-comm a b c = sym (+ℤ-assoc a b c) ∙ ap (λ (z : ℤ). z +ℤ c) (+ℤ-comm a b) ∙ +ℤ-assoc b a c
 

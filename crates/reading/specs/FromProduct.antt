@@ -1,4 +1,4 @@
--- A reading's product is the product of its significand with sign and exponent put on. Assumes nothing.
+-- A law: a reading's product is the product of its significand with sign and exponent put on. Assumes nothing.
 use mathlib.Core.Path.{_≡_, ap}
 use mathlib.Core.Bool.{true, false, not}
 use Prim.Native.Nat.{ℕ, _^_}

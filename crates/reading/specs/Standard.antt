@@ -1,4 +1,4 @@
--- Both steps in the standard's own operations, on the values of the stored parts: u1 is the binary32 product of the stored low part and x, and u2 is
+-- Laws: both steps in the standard's own operations, on the values of the stored parts: u1 is the binary32 product of the stored low part and x, and u2 is
 -- IEEE 754-2019's fusedMultiplyAdd of the stored high part, x and u1: their exact sum of product and u1, rounded once to binary32. Assumes nothing.
 use mathlib.Core.Path.{_≡_, sym, ap, _∙_, subst}
 use mathlib.Core.Bool.{Bool, false}

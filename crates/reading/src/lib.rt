@@ -17,10 +17,10 @@ ghost use Rattle.product.specs.Product.{productBy};
 ghost use Rattle.product.specs.Units.{firstUnits};
 ghost use Rattle.reading.specs.Reading.{unreadable, kindOf, finished, applied, outcomeOf, takenOf};
 
-// The product's exponent field plus 100, as the scale is counted from -100: the fields of normal numbers are these places.
+// The product's biased exponent plus 100, as the scale is counted from -100: those of normal numbers are these places.
 const LEAST_PLACE: u32 = 101;
 
-const MOST_PLACE: u32 = floats::ENDLESS + 99;
+const MOST_PLACE: u32 = floats::INFINITE_OR_NAN + 99;
 
 // The answer to a reading: the product as a binary32 number in the case of its mark, or a refusal: 31, 20, 21, 22 or 23.
 pub enum ReadingAnswer {
@@ -102,7 +102,7 @@ fn take(f: Factor, reading: f32) -> Taken
     let bits = floats::bits_of(reading);
     let field = floats::biased_exponent(bits);
     let digits = floats::trailing_significand(bits);
-    if field == floats::ENDLESS {
+    if field == floats::INFINITE_OR_NAN {
         return Taken::Refused(21);
     }
     if field == 0 {

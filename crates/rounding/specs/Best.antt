@@ -1,4 +1,4 @@
--- What RN means, in the standard's words: no number of n bits is nearer, and half way between two the rule decides, with ties to even the even one. Assumes nothing.
+-- Laws: what RN means, in the standard's sense. No number of n bits is nearer, and half way between two the rule decides, with ties to even the even one. Assumes nothing.
 use mathlib.Core.Path.{_≡_, refl, sym, ap, _∙_}
 use mathlib.Core.Bool.{Bool, true, false, cond}
 use Prim.Native.Nat.{ℕ, suc, _+_, _-_, _*_, _%_, _^_, _≤_, _<_}

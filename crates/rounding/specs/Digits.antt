@@ -1,4 +1,4 @@
--- How many of a fraction's digits are dropped, by the bounds of a binade: after these bounds the digit count is not needed. Assumes nothing.
+-- Laws: how many of a fraction's digits are dropped, by the bounds of a binade: after these bounds the digit count is not needed. Assumes nothing.
 use mathlib.Core.Path.{_≡_, refl, ap, _∙_}
 use Prim.Native.Nat.{ℕ, zero, suc, _+_, _-_, _*_, _/_, _^_, _≤_, _<_}
 use native.Mathlib.Nat.{add-zero, mul-le-mul-right, mul-lt-mul-of-pos-right, le-of-mul-le-mul-right, lt-of-mul-lt-mul-right, mul-pos, lt-of-lt-of-le, le-div-iff-mul-le, div-lt-iff-lt-mul, le-antisymm, pow-succ', lt-of-not-le, not-le-of-lt}

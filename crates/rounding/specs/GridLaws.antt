@@ -1,4 +1,4 @@
--- Laws of the nearest whole number, for every tie rule: what nearest means, and that it is monotone, exact where it can be and constant where no midpoint lies. Assumes nothing.
+-- Laws of the nearest whole number, for every tie rule: what nearest means, and that it is monotone, exact where it can be, and on its side of each midpoint. Assumes nothing.
 use mathlib.Core.Path.{_≡_, refl, sym, ap, _∙_, subst}
 use mathlib.Core.Bool.{Bool, true, false, cond}
 use Prim.Native.Nat.{ℕ, suc, _+_, _*_, _/_, _%_, _≤_, _<_}

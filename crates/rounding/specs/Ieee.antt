@@ -1,4 +1,4 @@
--- RN with ties to even is the toolchain's own account of the standard: over a format of 24 or 53 bits, for every fraction in its normal range,
+-- Laws: RN with ties to even is the toolchain's own account of the standard: over a format of 24 or 53 bits, for every fraction in its normal range,
 -- the value that `lib.Ieee.round` gives. Assumes nothing.
 use mathlib.Core.Path.{_≡_, refl, sym, ap, _∙_, subst}
 use mathlib.Core.Bool.{Bool, true, false, cond}

@@ -1,6 +1,5 @@
--- IEEE 754-2019, 4.3.1: "the floating-point number nearest to the infinitely precise result shall be delivered; if the two nearest floating-point numbers
--- bracketing an unrepresentable infinitely precise result are equally near, the one with an even least significant digit shall be delivered".
--- RN with ties to even is just that, with exponents unbounded. Assumes nothing.
+-- Laws: RN is round to nearest in the sense of IEEE 754-2019, 4.3.1, with exponents unbounded. No number of n bits is nearer, and of two that are equally near
+-- the rule decides, with ties to even the one whose least significant digit is even. Assumes nothing.
 use mathlib.Core.Path.{_≡_, refl, sym, ap, _∙_}
 use mathlib.Core.Bool.{cond}
 use Prim.Native.Nat.{ℕ, suc, _+_, _-_, _*_, _%_, _^_, _≤_, _<_}

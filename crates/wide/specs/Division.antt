@@ -1,4 +1,4 @@
--- What long division starts from: a divisor made normal, and an estimate of the quotient.
+-- What long division starts from: a divisor made normal, and an estimate of the quotient. Definitions only.
 use mathlib.Core.Path.{_≡_}
 use Prim.Native.Nat.{ℕ, _+_, _*_, _^_, _≤_, _<_}
 
