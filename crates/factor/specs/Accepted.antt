@@ -20,7 +20,7 @@ use Rattle.factor.specs.Context.{Context, Fine}
 use Rattle.factor.specs.Parts.{highPart, lowPart, partsAt}
 use Rattle.factor.specs.UnitParts.{UnitParts, step, plusOrMinus, unitParts, worth, unitPartsOf}
 use Rattle.factor.specs.Ends.{End, Between}
-use Rattle.factor.specs.PartsLaws.{top-is, width-is, worth-near, high-in-units, low-in-units, rn-high, units-of-parts}
+use Rattle.factor.specs.PartsLaws.{width-is, worth-near, high-in-units, low-in-units, rn-high, units-of-parts}
 
 -- it is above zero, as L is
 pub between-positive : (K : Context) (L U : ℕ) → 0 < L → (C : Fraction) → Between K L U C → 0 < C .num
@@ -46,11 +46,6 @@ module _ (K : Context) (ok : Fine K) (L U : ℕ) (le : End K L) (ue : End K U) (
   -- D ≤ W
   pub spread : (U - L) * 2 ^ n ≤ 2 ^ (E - n)
   spread = let c : U - L ≤ 2 ^ (E - 2 * n) = omega (arith, close) in omega (arith, mul-le-mul-right (2 ^ n) c, width-is K ok)
-
-  pub narrow : (U - L) * 2 ^ (2 * n) ≤ 2 ^ E
-  narrow =
-      let w : 2 ^ (2 * n) ≡ 2 ^ n * 2 ^ n = ap (λ (z : ℕ). 2 ^ z) (omega arith) ∙ pow-add 2 n n in
-      omega (arith, mul-le-mul-right (2 ^ n) spread, ap (λ (z : ℕ). (U - L) * z) w, top-is K ok)
 
   -- ---- a fraction between them, num / den of the unit 2 ^ - E
   module _ (num den : ℕ) (d : 0 < den) (l : L * den ≤ num) (u : num ≤ U * den) where

@@ -12,12 +12,14 @@ use lib.Ieee.{Float, binary32, prec, emax, hid, mul, down, unlike, fits}
 use lib.Ieee.Exact.{HasValue}
 use lib.Ieee.Fits.{down-pos}
 use lib.Ieee.Scale.{round-same}
+use Rattle.marks.specs.Answers.{accepted}
 use Rattle.rounding.specs.Round.{rounded, HasBits}
 use Rattle.rounding.specs.Fraction.{Fraction, times, plus, Same}
 use Rattle.rounding.specs.FractionLaws.{InUnits, plus-some, plus-same}
 use Rattle.rounding.specs.Ieee.{revalue, one-value, InRange, rounded-is-ieee}
 use Rattle.floats.specs.Fields.{unitAt}
 use Rattle.floats.specs.Times.{unlike-plus, unit-is}
+use Rattle.factor.specs.declared.Description.{Description}
 use Rattle.factor.specs.declared.Factor.{Factor}
 use Rattle.factor.specs.declared.Parts.{Parts}
 use Rattle.factor.specs.Precision.{scaleOf}
@@ -26,8 +28,9 @@ use Rattle.factor.specs.Parts.{partsAt}
 use Rattle.factor.specs.UnitParts.{UnitParts, unitParts, unitPartsOf}
 use Rattle.factor.specs.Ends.{End}
 use Rattle.factor.specs.PartsLaws.{units-of-parts}
-use Rattle.factor.specs.SetUp.{floatIn, Sound}
-use Rattle.factor.specs.StoredLaws.{high-number, low-number}
+use Rattle.factor.specs.SetUp.{floatIn, setUp, Sound}
+use Rattle.factor.specs.SetUpLaws.{intact-sound, accepted-intact}
+use Rattle.factor.specs.StoredLaws.{high-number, low-number, accepted-fits}
 use Rattle.product.specs.Product.{argument, high, low, first, fused, product, productBy, valueOf}
 use Rattle.product.specs.Units.{firstUnits, fusedUnits}
 use Rattle.product.specs.ProductLaws.{first-in-units, fused-in-units, fused-least, fused-near, product-value}
@@ -163,3 +166,7 @@ module _ (f : Factor) (s : Sound f) (n : f .precision .bits ≡ prec binary32) (
 
     pub stored-steps : StoredSteps f X y
     stored-steps = record { high-is = stored-high; low-is = low-number f s low-fits; first-is = first-is y low-fits x-is; second-is = second }
+
+-- of every factor that set-up accepted
+pub accepted-steps : (d : Description) (f : Factor) → setUp d ≡ accepted f → f .precision .bits ≡ prec binary32 → (X : ℕ) → HasBits (prec binary32) X → (y : Float) → HasValue y false X (hid binary32) → StoredSteps f X y
+accepted-steps d f e n X xb y v = let h = accepted-fits d f e in stored-steps f (intact-sound f (accepted-intact d f e)) n X xb (h .0) (h .1) y v

@@ -1,4 +1,4 @@
--- Laws of the nearest whole number, for every tie rule: what nearest means, and that it is monotone, exact where it can be, and on its side of each midpoint. Assumes nothing.
+-- Laws of the nearest whole number, for every tie rule: what nearest means, and that it is monotone, exact where it can be, and not above q below the midpoint that follows it. Assumes nothing.
 use mathlib.Core.Path.{_≡_, refl, sym, ap, _∙_, subst}
 use mathlib.Core.Bool.{Bool, true, false, cond}
 use Prim.Native.Nat.{ℕ, suc, _+_, _*_, _/_, _%_, _≤_, _<_}
@@ -95,12 +95,9 @@ nearest-le rule N d k D h = subst (λ (z : ℕ). nearest rule N d ≤ z) (neares
 pub nearest-ge : (rule : Rule) (N d k : ℕ) → 0 < d → k * d ≤ N → k ≤ nearest rule N d
 nearest-ge rule N d k D h = subst (λ (z : ℕ). z ≤ nearest rule N d) (nearest-exact rule k d D) (nearest-mono rule (k * d) d N d D D (mul-le-mul-right d h))
 
--- ---- below the midpoint above q it is at most q, above that midpoint more
+-- ---- below the midpoint above q it is at most q
 pub nearest-below : (rule : Rule) (N d q : ℕ) → 0 < d → 2 * N < 2 * (q * d) + d → nearest rule N d ≤ q
 nearest-below rule N d q D h = omega (arith, lt-of-mul-lt-mul-right d {m = nearest rule N d} {n = suc q} (omega (arith, nearest-is rule N d D .low)))
-
-pub nearest-above : (rule : Rule) (N d q : ℕ) → 0 < d → 2 * (q * d) + d < 2 * N → suc q ≤ nearest rule N d
-nearest-above rule N d q D h = lt-of-mul-lt-mul-right d {m = q} {n = nearest rule N d} (omega (arith, nearest-is rule N d D .high))
 
 -- ---- the location, too, depends on the fraction alone
 cross : (N d M e : ℕ) → 0 < d → 0 < e → N * e ≡ M * d → N % d * e ≡ M % e * d

@@ -10,7 +10,7 @@ use lib.Pow.{pow-add, pow-pos, pow-mono}
 use lib.Ieee.Order.{drop}
 use Rattle.rounding.specs.Apart.{apart}
 use Rattle.rounding.specs.Grid.{Rule, nearest}
-use Rattle.rounding.specs.GridLaws.{nearest-is, nearest-mono, nearest-same, nearest-exact, nearest-le, nearest-ge, nearest-below, nearest-above}
+use Rattle.rounding.specs.GridLaws.{nearest-is, nearest-mono, nearest-same, nearest-exact, nearest-le, nearest-ge, nearest-below}
 use Rattle.rounding.specs.Unit.{kept, rn}
 use Rattle.rounding.specs.Digits.{pow-half, drop-upper, drop-le, drop-some, drop-lower, drop-at, drop-finer}
 
@@ -169,19 +169,6 @@ module _ (rule : Rule) (n : ℕ) (P : 0 < n) where
           let w = ap (λ (z : ℕ). z * d) (pow-add 2 n k) in
           let v = ap (λ (z : ℕ). z * 2 ^ k * d) (pow-half n P) in
           le-trans (rn-le N d (2 ^ (n - 1)) k D (omega (arith, pow-half n P)) (omega (arith, lt-of-not-le l))) (mul-le-mul-right (2 ^ k) lo)
-
-  pub rn-above : (N d j k : ℕ) → 0 < d → 2 ^ (n - 1) ≤ j → j < 2 ^ n → (2 * j + 1) * 2 ^ k * d < 2 * N → suc j * 2 ^ k ≤ rn rule n N d
-  rn-above N d j k D lo hi h = go (decLt N (2 ^ (n + k) * d))
-    where
-      go : Dec (N < 2 ^ (n + k) * d) → suc j * 2 ^ k ≤ rn rule n N d
-      go (yes u) =
-          let w = ap (λ (z : ℕ). z * d) (pow-add 2 n k) in
-          let v = ap (λ (z : ℕ). z * 2 ^ k * d) (pow-half n P) in
-          let l : 2 ^ (n + k) * d ≤ 2 * N = omega (arith, mul-le-mul-right (2 ^ k * d) lo) in
-          rw (rn-in-binade N d k (drop-at n N d D k P l u)) (mul-le-mul-right (2 ^ k) (nearest-above rule N (d * 2 ^ k) j (step-pos d k D) (omega arith)))
-      go (no u) =
-          let w = ap (λ (z : ℕ). z * d) (pow-add 2 n k) in
-          le-trans (mul-le-mul-right (2 ^ k) hi) (rn-ge N d (2 ^ n) k D (le-of-eq refl) (omega (arith, lt-of-not-le u)))
 
   pub normal : (N d : ℕ) → 0 < d → 2 ^ n * d ≤ 2 * N → Normal rule n N d
   unfolding rn kept
