@@ -1,15 +1,15 @@
--- Definitions: a sweep call read off the row of suspects from the next significand on. It says where each search starts, so that a call's rounds are given a second time.
-use mathlib.Core.Bool.{Bool, true, _&&_}
+-- Definitions: a sweep call read off the row of suspects from the next significand on. It says where each search starts, so that a call's rounds are given a second time, and how many searches there are.
+use mathlib.Core.Bool.{Bool, true, false, cond, not, _&&_}
 use mathlib.Core.List.{List, [], _∷_, _++_}
-use Prim.Native.Nat.{ℕ, zero, suc, _+_}
+use Prim.Native.Nat.{ℕ, zero, suc, _+_, _-_}
 use lib.Dec.{leb, ltb}
 use lib.ListN.{length, take, drop}
 use Rattle.marks.specs.Answers.{judged}
 use Rattle.search.specs.declared.Place.{Place}
 use Rattle.search.specs.declared.Place.the-variants.{At, Nowhere}
 use Rattle.calls.specs.State.{State, Call, termsOf, roomIn}
-use Rattle.calls.specs.Engine.{halfOf, Engine}
-use Rattle.calls.specs.Call.{Reply, Run, conditions, replied}
+use Rattle.calls.specs.Engine.{halfOf, lowEnd, Engine}
+use Rattle.calls.specs.Call.{Reply, highStart, Run, conditions, replied}
 use Rattle.calls.specs.Plain.{keep, row, tries, wordsOf}
 
 -- The first of a row, or none.
@@ -40,6 +40,33 @@ starts firstHigh last a (suc k) (x ∷ l) = legs firstHigh last a (At x) ++ star
 unfoldable pub roundsFrom : {F : Type 0} → Engine F → F → List ℕ → ℕ
 roundsFrom e f [] = 0
 roundsFrom e f (a ∷ l) = e .find f (halfOf (e .firstHigh f) a) a .rounds + roundsFrom e f l
+
+-- ---- how many searches
+
+-- 1 where a test holds.
+abbrev pub once : Bool → ℕ
+once t = cond t 1 0
+
+-- Whether a call stops at a suspect, and so leaves some.
+abbrev pub stopsAt : Place → Bool
+stopsAt (At X) = true
+stopsAt Nowhere = false
+
+-- Whether a half that is completed takes a search that finds none. Of the range it has the significands from a up to but not including end.
+-- "A half in which no significand of the range is left is passed over without a search": where a is past it, and where its last one is a suspect, which was then tried last.
+abbrev pub closing : (ℕ → Bool) → (a end : ℕ) → Bool
+closing suspect a end = ltb a end && not (suspect (end - 1))
+
+-- The number of searches of a call from a on that tries k suspects and stops at a place, or at none: "one search for each suspect tried, one search that finds none for each half
+-- completed, and one for the suspect stopped at". The low half is completed where the call stops past it, the high half where no suspect remains.
+abbrev pub searchesOf : (ℕ → Bool) → (firstHigh last a k : ℕ) → Place → ℕ
+searchesOf suspect firstHigh last a k stop =
+    k
+    + once (stopsAt stop)
+    + once (pastLow firstHigh stop && closing suspect a (lowEnd firstHigh last))
+    + once (not (stopsAt stop) && closing suspect (highStart firstHigh a) (suc last))
+
+-- ---- the call
 
 -- A call from a on that tries k of the row of suspects from a on.
 abbrev pub rowRun : {F : Type 0} → Engine F → F → (last a k : ℕ) → List ℕ → Run

@@ -1,6 +1,6 @@
 -- Definitions: a factor as a sweep sees it, and the few facts that the numerics must supply of it.
 use mathlib.Core.Path.{_≡_}
-use mathlib.Core.Bool.{Bool, true, false, cond}
+use mathlib.Core.Bool.{Bool, true, cond}
 use mathlib.Core.Logic.{_≢_, _↔_}
 use mathlib.Core.List.{List}
 use Prim.Native.Nat.{ℕ, suc, _-_, _≤_, _<_, min}
@@ -9,9 +9,8 @@ use lib.ListN.{length}
 use Rattle.marks.specs.declared.Mark.{Mark}
 use Rattle.marks.specs.declared.Mark.the-variants.{Right}
 use Rattle.marks.specs.Answers.{NoneHolds}
-use Rattle.search.specs.declared.Place.{Place}
-use Rattle.search.specs.declared.Place.the-variants.{At, Nowhere}
 use Rattle.search.specs.declared.Found.{Found}
+use Rattle.search.specs.Finds.{LeastFrom}
 use Rattle.calls.specs.State.{State, Terms, Listing}
 
 -- The halves of the significands: "X is low if L × X < 2^(62+n), else high".
@@ -41,11 +40,6 @@ pub record Engine (F : Type 0) : Type 0 where
   -- the search in a half, from a significand on: the place that it finds, be it past the half or past the range, and its rounds
   pub find : F → Half → ℕ → Found
 
--- The place is the least suspect from a on, as far as it lies before the end; a place at or past the end says that none lies before the end.
-abbrev pub Least : (ℕ → Bool) → ℕ → ℕ → Place → Type 0
-Least suspect end a (At X) = (a ≤ X) × (X < end → suspect X ≡ true) × ((Y : ℕ) → a ≤ Y → Y < X → Y < end → suspect Y ≡ false)
-Least suspect end a Nowhere = (Y : ℕ) → a ≤ Y → Y < end → suspect Y ≡ false
-
 -- What is asked of how lists are kept. Which calls are refused is the listing's own: demand 3 is about those that are not.
 pub record ListingLaws (l : Listing) : Type 0 where
   -- an entry takes a place
@@ -67,9 +61,9 @@ pub record Laws {F : Type 0} (suspect : ℕ → Bool) (e : Engine F) (f : F) (B 
   -- "every X that is not right is a suspect"
   pub suspected : (X : ℕ) → first ≤ X → X ≤ last → e .mark f X ≢ Right → suspect X ≡ true
   -- the search in the low half finds the least suspect from its start on, as far as the half and the range go
-  pub finds-low : (a : ℕ) → first ≤ a → a ≤ last → a < e .firstHigh f → Least suspect (lowEnd (e .firstHigh f) last) a (e .find f low a .place)
+  pub finds-low : (a : ℕ) → first ≤ a → a ≤ last → a < e .firstHigh f → LeastFrom suspect (lowEnd (e .firstHigh f) last) a (e .find f low a .place)
   -- the search in the high half does so too, as far as the range goes
-  pub finds-high : (a : ℕ) → first ≤ a → a ≤ last → e .firstHigh f ≤ a → Least suspect (suc last) a (e .find f high a .place)
+  pub finds-high : (a : ℕ) → first ≤ a → a ≤ last → e .firstHigh f ≤ a → LeastFrom suspect (suc last) a (e .find f high a .place)
   -- a search takes at most B rounds
   pub few : (a : ℕ) → first ≤ a → a ≤ last → e .find f (halfOf (e .firstHigh f) a) a .rounds ≤ B
 

@@ -1,20 +1,21 @@
--- The theory of sweep calls. Definitions: State, Engine, Call, Plain, ByRow and Whole. Laws: the others, of which Demand has demand 3 and Loop what a loop over a call's steps wants. Examples: Toy.
+-- The theory of sweep calls. Definitions: State, Engine, Call, Plain, ByRow and Whole. Laws: the others, of which LoopLaws has what a loop over a call's steps wants. Demand 3 stands in Whole, its proof in Demand3. Examples: Toy.
 pub mod State
 pub mod Engine
 pub mod Call
 pub mod Plain
 pub mod ByRow
 pub mod Whole
-pub mod Rows
-pub mod Tries
-pub mod Words
-pub mod Lists
-pub mod Refusals
-pub mod Runs
-pub mod One
-pub mod Same
-pub mod Sums
-pub mod Finish
-pub mod Demand
-pub mod Loop
+pub mod RowLaws
+pub mod TrialLaws
+pub mod WordLaws
+pub mod ListLaws
+pub mod RefusalLaws
+pub mod StartLaws
+pub mod RunLaws
+pub mod CallLaws
+pub mod SameLaws
+pub mod SumLaws
+pub mod FinishLaws
+pub mod Demand3
+pub mod LoopLaws
 pub mod Toy

@@ -11,15 +11,17 @@ use Rattle.marks.specs.declared.Mark.{Mark}
 use Rattle.marks.specs.declared.Mark.the-variants.{Right, Open, Wrong}
 use Rattle.marks.specs.Answers.{refused, accepted, answer}
 use Rattle.marks.specs.AnswerLaws.{or-false}
-use Rattle.search.specs.declared.Place.the-variants.{At}
+use Rattle.search.specs.declared.Place.the-variants.{At, Nowhere}
+use Rattle.search.specs.Finds.{LeastFrom}
 use Rattle.calls.specs.State.{State, fresh, outOfRange, Call, Listing, wordList}
-use Rattle.calls.specs.Engine.{Half, low, high, halfOf, lowEnd, Engine, Least, ListingLaws, Lawful}
+use Rattle.calls.specs.Engine.{Half, low, high, halfOf, lowEnd, Engine, ListingLaws, Lawful}
 use Rattle.calls.specs.Call.{newState, ahead, run, sweepCall}
 use Rattle.calls.specs.Plain.{row, tries, wordsOf, Fed, fed, begun, plainCall, Seen, stateOf, plains}
+use Rattle.calls.specs.ByRow.{searchesOf}
 use Rattle.calls.specs.Whole.{Whole}
-use Rattle.calls.specs.Lists.{word-laws}
-use Rattle.calls.specs.Refusals.{in-range}
-use Rattle.calls.specs.Demand.{whole-sweep}
+use Rattle.calls.specs.ListLaws.{word-laws}
+use Rattle.calls.specs.RefusalLaws.{in-range}
+use Rattle.calls.specs.Demand3.{whole-sweep}
 
 -- X is a suspect for the factor f, from 0 to 6, if X + f is a multiple of 7.
 abbrev pub toySuspect : ℕ → ℕ → Bool
@@ -71,7 +73,7 @@ two-laws =
       takes = λ t h. (omega (arith, eqb-false (t .cap) 0 (h .1 .0)), ltb-false (t .size - t .free) 2 (h .1 .1 .0));
     }
 
-least : (f end a : ℕ) → Least (toySuspect f) end a (At (a + (6 * (a + f)) % 7))
+least : (f end a : ℕ) → LeastFrom (toySuspect f) end a (At (a + (6 * (a + f)) % 7))
 least f end a = (omega arith, (λ h. eq-eqb ((a + (6 * (a + f)) % 7 + f) % 7) 0 (omega arith)), λ Y u v w. ne-eqb ((Y + f) % 7) 0 (λ z. omega arith))
 
 few : (h : Half) (a : ℕ) → toyRounds h a ≤ 4
@@ -153,6 +155,16 @@ closing-call : sweepCall toy (fresh 2 121 124) (asked 5 (9 ∷ []) 0)
     }
 unfolding sweepCall run ahead
 closing-call = refl
+
+-- The searches of these three: one for each trial and one for the suspect stopped at; of the second call also one that finds none in the low half, from 97 to 99; of the last no more than its trial's.
+first-searches : searchesOf (toySuspect 2) 100 127 81 2 (At 96) ≡ 3
+first-searches = refl
+
+resumed-searches : searchesOf (toySuspect 2) 100 127 96 4 (At 124) ≡ 6
+resumed-searches = refl
+
+closing-searches : searchesOf (toySuspect 2) 100 124 121 1 Nowhere ≡ 1
+closing-searches = refl
 
 -- A finished state is refused before a cap of 0.
 finished-call : sweepCall toy end (asked 0 [] 0) ≡ record { answer = refused 33; state = end; list = [] }

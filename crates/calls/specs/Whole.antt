@@ -1,6 +1,6 @@
 -- Definitions: lists of sweep calls (document 01, "Whole sweeps"), and demand 3 as one record. What stands in quotes is document 01's or the demand's.
 use mathlib.Core.Path.{_≡_}
-use mathlib.Core.Bool.{Bool, true}
+use mathlib.Core.Bool.{Bool, true, cond}
 use mathlib.Core.Logic.{_⊎_, _↔_}
 use mathlib.Core.List.{List, [], _∷_, _++_, List·Memᴰ}
 use Prim.Native.Nat.{ℕ, suc, _+_, _*_, _≤_, _<_, min, max}
@@ -9,11 +9,13 @@ use lib.Seq.{slice}
 use Rattle.marks.specs.declared.Mark.{Mark}
 use Rattle.marks.specs.declared.Mark.the-variants.{Open, Wrong}
 use Rattle.marks.specs.Answers.{Outcome, refused, accepted}
+use Rattle.search.specs.declared.Place.{Place}
+use Rattle.search.specs.declared.Place.the-variants.{At, Nowhere}
 use Rattle.calls.specs.State.{State, Call, Listing, entries, roomIn}
 use Rattle.calls.specs.Engine.{Engine}
 use Rattle.calls.specs.Call.{Result, ReplyOf, Reply}
 use Rattle.calls.specs.Plain.{span, wordsOf, Fed, fed, Plain, begun, untried, Told, SeenOf, Seen, stateOf, plains, plainAfter}
-use Rattle.calls.specs.ByRow.{starts, roundsFrom, rowAhead}
+use Rattle.calls.specs.ByRow.{starts, roundsFrom, searchesOf, rowAhead}
 
 -- ---- what is seen of calls; `call` is any account of a call, good or bad
 
@@ -127,10 +129,27 @@ pub record HoldsAs (l : Listing) (mark : ℕ → Mark) (a b : ℕ) (words : List
   pub are : words ≡ entries l listed
   pub holds : Holds mark a b listed
 
--- An accepted call's rounds are the sum over its searches' starts, read off the row of suspects, and at most B of the factor for each trial and two more.
+-- The starts of an accepted call's searches, read off the row of suspects.
+abbrev pub startsOf : {F : Type 0} → (F → ℕ → Bool) → Engine F → State F → Result → List ℕ
+startsOf suspect e s r = starts (e .firstHigh (s .factor)) (s .last) (s .next) (r .trials) (rowAhead suspect s)
+
+-- Where a call stopped, by the state that it hands back: at a suspect, or at none.
+abbrev pub stopOf : {F : Type 0} → State F → Place
+stopOf t = cond (t .finished) Nowhere (At (t .next))
+
+-- An accepted call's searches are as many as document 01 has it; t is the state that it hands back.
+abbrev pub SearchesRight : {F : Type 0} → (F → ℕ → Bool) → Engine F → (s t : State F) → Result → Type 0
+SearchesRight suspect e s t r =
+    length (startsOf suspect e s r) ≡ searchesOf (suspect (s .factor)) (e .firstHigh (s .factor)) (s .last) (s .next) (r .trials) (stopOf t)
+
+-- An accepted call's rounds are those of its searches, added up over their starts, and at most B of the factor for each trial and two more.
 pub record RoundsRight {F : Type 0} (suspect : F → ℕ → Bool) (e : Engine F) (B : F → ℕ) (s : State F) (r : Result) : Type 0 where
-  pub are : r .rounds ≡ roundsFrom e (s .factor) (starts (e .firstHigh (s .factor)) (s .last) (s .next) (r .trials) (rowAhead suspect s))
+  pub are : r .rounds ≡ roundsFrom e (s .factor) (startsOf suspect e s r)
   pub few : r .rounds ≤ B (s .factor) * (r .trials + 2)
+
+-- "Trials are capped": an accepted call tries at most its cap.
+abbrev pub Capped : Call → Result → Type 0
+Capped c r = r .trials ≤ c .cap
 
 -- An accepted call tries at least the smallest of cap, room for entries and suspects left.
 abbrev pub Ample : {F : Type 0} → (F → ℕ → Bool) → Engine F → State F → Call → Result → Type 0
@@ -166,6 +185,11 @@ pub record Whole {F : Type 0} (suspect : F → ℕ → Bool) (e : Engine F) (B :
   pub finished : (stateAfter call s calls .finished ≡ true) ↔ ((1 ≤ acceptedIn (sweeps call s calls)) × (trialsIn (sweeps call s calls) ≡ length (fedBy suspect e s .suspects)))
   -- "within as many accepted calls as suspects", or one where there are none
   pub latest : max 1 (length (fedBy suspect e s .suspects)) ≤ acceptedIn (sweeps call s calls) → stateAfter call s calls .finished ≡ true
+  -- "Trials are capped"
+  -- (shut out: one that lists all in its first call past the cap)
+  pub capped : Each (λ s c r. IfAccepted (Capped c) (r .answer)) call s calls
+  -- "one search for each suspect tried, one search that finds none for each half completed, and one for the suspect stopped at"
+  pub searches : Each (λ s c r. IfAccepted (SearchesRight suspect e s (r .state)) (r .answer)) call s calls
   -- "rounds are the searches' and at most 64 × (trials + 2)"
   -- (shut out: invented rounds)
   pub rounds : Each (λ s c r. IfAccepted (RoundsRight suspect e B s) (r .answer)) call s calls

@@ -354,9 +354,9 @@ fn read(f: Factor, bits: u64) {
 fn next(f: Factor, high: bool, x: u64) -> Found
     requires { ⌜ Sound f × (x ≤ halfWord) ⌝ }
 {
-    let halves = suspects::prepare(f);
-    let low_half = halves.low;
-    let high_half = halves.high;
+    let windows = suspects::windows_of(f);
+    let low_half = windows.low;
+    let high_half = windows.high;
     if high {
         return suspects::next(high_half, x);
     }

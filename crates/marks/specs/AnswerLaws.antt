@@ -5,7 +5,7 @@ use mathlib.Core.List.{List, [], _∷_, _++_, append-nil}
 use Prim.Native.Nat.{ℕ}
 use native.Mathlib.Omega.{arith}
 use Rattle.marks.specs.declared.Mark.{Mark}
-use Rattle.marks.specs.Answers.{Refusal, First, number, none, judged, NoneHolds, Outcome, refused, accepted, unless, answer, Marked}
+use Rattle.marks.specs.Answers.{Refusal, number, none, judged, First, NoneHolds, Outcome, refused, accepted, unless, answer, Marked}
 
 -- ---- from the tests to the refusal
 -- a condition that does not hold is passed over

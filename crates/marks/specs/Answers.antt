@@ -16,14 +16,14 @@ unfoldable pub judged : List (ℕ × Bool) → Refusal
 judged [] = none
 judged (t ∷ l) = cond (t .1) (number (t .0)) (judged l)
 
+-- v is what the first condition that holds says
+pub record First (l : List (ℕ × Bool)) (v : Refusal) : Type 0 where
+  pub is : judged l ≡ v
+
 -- none of them holds
 abbrev pub NoneHolds : List (ℕ × Bool) → Type 0
 NoneHolds [] = Unit {0}
 NoneHolds (t ∷ l) = (t .1 ≡ false) × NoneHolds l
-
--- v is what the first condition that holds says
-pub record First (l : List (ℕ × Bool)) (v : Refusal) : Type 0 where
-  pub is : judged l ≡ v
 
 -- ---- answers
 -- a refusal's number, or a value

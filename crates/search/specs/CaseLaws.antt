@@ -7,7 +7,7 @@ use native.Mathlib.Omega.{arith}
 use Rattle.search.specs.declared.Found.{Found}
 use Rattle.search.specs.Search.{ceilDiv, negMod, test, afterRound, searchWithin, searchWindow}
 use Rattle.search.specs.Cases.{Ready, Straight, Searched, start, still, mirrored, multiple, rounded, Between}
-use Rattle.search.specs.Multiples.{between}
+use Rattle.search.specs.MultipleLaws.{between}
 
 -- What holds of both arms holds of the answer.
 pub test-cases :

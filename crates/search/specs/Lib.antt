@@ -1,10 +1,10 @@
--- The search by remainders: its definition, what it has to find, and the laws that tie the two and the code together.
+-- The search by remainders. Definitions: Search, what it has to find (Finds), Cases, Winding and what the code carries back (Trace). Laws, which tie these together: the others.
 pub mod Search
 pub mod Finds
 pub mod Cases
 pub mod Winding
-pub mod Multiples
-pub mod Turns
+pub mod MultipleLaws
+pub mod TurnLaws
 pub mod CaseLaws
 pub mod PlaceLaws
 pub mod SearchLaws

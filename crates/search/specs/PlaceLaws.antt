@@ -9,8 +9,8 @@ use Rattle.search.specs.Search.{ceilDiv, negMod, placeAfter, afterRound}
 use Rattle.search.specs.Finds.{Least}
 use Rattle.search.specs.Cases.{Ready, Searched, start, still, mirrored, multiple, rounded, Between}
 use Rattle.search.specs.Winding.{Meets, Hits}
-use Rattle.search.specs.Multiples.{ceilDiv-ge, ceilDiv-le}
-use Rattle.search.specs.Turns.{mirror-meets, round-up, round-down, round-place}
+use Rattle.search.specs.MultipleLaws.{ceilDiv-ge, ceilDiv-le}
+use Rattle.search.specs.TurnLaws.{mirror-meets, round-up, round-down, round-place}
 use Rattle.search.specs.CaseLaws.{mirror-ready, round-between, round-ready}
 
 -- Where the same places are wanted, the least one is the same.

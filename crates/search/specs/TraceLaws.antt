@@ -14,7 +14,7 @@ use Rattle.search.specs.Finds.{Least, Finds}
 use Rattle.search.specs.Cases.{Ready, Straight, Searched, mirrored, rounded, Between}
 use Rattle.search.specs.Winding.{Meets, Hits}
 use Rattle.search.specs.Trace.{winding, wound, unwound, WindsBelow, mirrorWinding, mirrorBack, number, roundPlace, roundBack, Below}
-use Rattle.search.specs.Turns.{mirror-meets, round-place}
+use Rattle.search.specs.TurnLaws.{mirror-meets, round-place}
 use Rattle.search.specs.CaseLaws.{mirror-ready, round-between, round-ready, searched, searched-unique}
 use Rattle.search.specs.PlaceLaws.{round-meets, searched-least}
 use Rattle.search.specs.SearchLaws.{searchWindow-finds}

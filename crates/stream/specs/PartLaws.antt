@@ -10,19 +10,16 @@ use borrow.Author.Tests.{le-ltb}
 use Rattle.marks.specs.declared.Mark.{Mark}
 use Rattle.marks.specs.Answers.{none, judged, Outcome, refused, accepted}
 use Rattle.factor.specs.declared.Factor.{Factor}
-use Rattle.search.specs.declared.Place.{Place}
-use Rattle.search.specs.declared.Place.the-variants.{At, Nowhere}
-use Rattle.calls.specs.State.{State}
 use Rattle.calls.specs.Call.{conditions, handed, Result, Reply, sweepCall}
 use Rattle.calls.specs.Plain.{wordsOf}
 use Rattle.calls.specs.ByRow.{headOf, rowRun}
-use Rattle.calls.specs.Tries.{tries-within, words-fit}
-use Rattle.calls.specs.Lists.{entries-are, read-back}
+use Rattle.calls.specs.TrialLaws.{tries-within, words-fit}
+use Rattle.calls.specs.ListLaws.{entries-are, read-back}
 use Rattle.sweep.specs.declared.SweepState.{SweepState}
 use Rattle.sweep.specs.declared.SweepAnswer
 use Rattle.sweep.specs.declared.SweepAnswer.{SweepAnswer}
 use Rattle.sweep.specs.Engine.{engine}
-use Rattle.sweep.specs.Answers.{viewOf, callOf, termsBy, replyOf}
+use Rattle.sweep.specs.Answers.{viewOf, codeOf, callOf, termsBy, replyOf}
 use Rattle.sweep.specs.Demand3.{call-by-row}
 use Rattle.stream.specs.declared.Tally.{Tally}
 use Rattle.stream.specs.Output.{markOf, isWrong, isOpen, counted, odds}
@@ -92,9 +89,6 @@ abbrev isRefused : Outcome Result → Bool
 isRefused (refused n) = true
 isRefused (accepted r) = false
 
-abbrev codeOf : State Factor → SweepState
-codeOf s = record { factor = s .factor; first = s .first; last = s .last; next = s .next; finished = s .finished }
-
 module _ (s : SweepState) (g : Going s) (list : List ℕ) (size : length list ≡ listSize) where
   not-refused : judged (conditions engine (viewOf s) (termsBy noCap (length list) 0)) ≡ none
   unfolding judged
@@ -124,17 +118,13 @@ module _ (s : SweepState) (g : Going s) (list : List ℕ) (size : length list �
       let p : r .place ≡ length (wordsBy s) = ap (λ (x : Reply Factor). placeIn (x .answer)) all ∙ omega arith in
       let l : left ≡ sets list 0 (wordsBy s) = ap (λ (x : Reply Factor). x .list) all in
       record {
-        state = ap (λ (x : Reply Factor). codeOf (x .state)) all ∙ code-handed (headOf (afterOf s));
+        state = ap (λ (x : Reply Factor). codeOf (x .state)) all;
         trials = ap (λ (x : Reply Factor). trialsIn (x .answer)) all;
         place = p;
         words = ap (λ (k : ℕ). take k left) p ∙ ap (take (length (wordsBy s))) l ∙ front;
         long = ap length l ∙ length-sets list 0 (wordsBy s) ∙ size;
         fits = few-words;
       }
-    where
-      code-handed : (p : Place) → codeOf (handed (viewOf s) p) ≡ stateAt s p
-      code-handed (At X) = refl
-      code-handed Nowhere = refl
   answered (SweepAnswer.Refused r) left e = true≢false (ap (λ (x : Reply Factor). isRefused (x .answer)) (e ∙ reply-is))
 
 -- A part prints at most 576 bytes.

@@ -6,14 +6,15 @@ use lib.Dec.{leb}
 use lib.ListN.{length, take, drop}
 use Rattle.wide.specs.Value.{wordBits}
 use Rattle.search.specs.declared.Place.{Place}
-use Rattle.search.specs.declared.Place.the-variants.{At, Nowhere}
 use Rattle.marks.specs.Answers.{Outcome, refused, accepted}
 use Rattle.factor.specs.declared.Factor.{Factor}
 use Rattle.factor.specs.Precision.{leastOf, mostOf}
+use Rattle.calls.specs.Call.{handed}
 use Rattle.calls.specs.Plain.{row, tries, wordsOf}
 use Rattle.calls.specs.ByRow.{headOf}
 use Rattle.sweep.specs.declared.SweepState.{SweepState}
 use Rattle.sweep.specs.Engine.{suspect}
+use Rattle.sweep.specs.Answers.{viewOf, codeOf}
 use Rattle.frame.specs.declared.Report.{Report}
 use Rattle.frame.specs.Report.{reportLine, refusalLine}
 use Rattle.stream.specs.declared.Tally.{Tally}
@@ -48,8 +49,7 @@ afterOf s = drop (triedBy s) (leftOf s)
 
 -- the state stopped at a suspect, or finished
 abbrev pub stateAt : SweepState → Place → SweepState
-stateAt s (At X) = record { factor = s .factor; first = s .first; last = s .last; next = X; finished = false }
-stateAt s Nowhere = record { factor = s .factor; first = s .first; last = s .last; next = s .last; finished = true }
+stateAt s p = codeOf (handed (viewOf s) p)
 
 -- the sweep over all significands of a factor, at its beginning
 abbrev pub begunWith : Factor → Tally

@@ -22,8 +22,8 @@ use Rattle.factor.specs.SetUp.{setUp, Sound, intact}
 use Rattle.factor.specs.SetUpLaws.{accepted-intact, intact-sound}
 use Rattle.calls.specs.Plain.{row}
 use Rattle.calls.specs.ByRow.{headOf}
-use Rattle.calls.specs.Rows.{begins, row-ascends, ascends-few}
-use Rattle.calls.specs.Tries.{tries-within}
+use Rattle.calls.specs.RowLaws.{begins, row-ascends, ascends-few}
+use Rattle.calls.specs.TrialLaws.{tries-within}
 use Rattle.frame.specs.Frame.{frameOf}
 use Rattle.sweep.specs.declared.SweepState.{SweepState}
 use Rattle.sweep.specs.Engine.{suspect}

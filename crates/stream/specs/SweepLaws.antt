@@ -10,7 +10,7 @@ use Rattle.marks.specs.declared.Mark.the-variants.{Right, Open, Wrong}
 use Rattle.factor.specs.declared.Factor.{Factor}
 use Rattle.calls.specs.State.{listed}
 use Rattle.calls.specs.Plain.{wordsOf}
-use Rattle.calls.specs.Tries.{listed-few}
+use Rattle.calls.specs.TrialLaws.{listed-few, words-append}
 use Rattle.frame.specs.declared.Report.{Report}
 use Rattle.frame.specs.Report.{reportLine, wordLine}
 use Rattle.frame.specs.ReportLaws.{length-word}
@@ -21,11 +21,6 @@ counted-join : (kind : Mark → ℕ) (mark : ℕ → Mark) (a b : List ℕ) → 
 unfolding counted
 counted-join kind mark [] b = omega arith
 counted-join kind mark (x ∷ a) b = omega (arith, counted-join kind mark a b)
-
-words-join : (mark : ℕ → Mark) (a b : List ℕ) → wordsOf mark (a ++ b) ≡ wordsOf mark a ++ wordsOf mark b
-unfolding wordsOf
-words-join mark [] b = refl
-words-join mark (x ∷ a) b = ap (λ (l : List ℕ). listed (mark x) x ++ l) (words-join mark a b) ∙ sym (append-assoc (listed (mark x) x) (wordsOf mark a) (wordsOf mark b))
 
 lines-join : (v w : List ℕ) → wordLines (v ++ w) ≡ wordLines v ++ wordLines w
 unfolding wordLines
@@ -105,7 +100,7 @@ unfolding sweeping
 sweeping-some i mark a b t w o later =
     let r : tally i (t + length (a ++ b)) (w + counted isWrong mark (a ++ b)) (o + counted isOpen mark (a ++ b)) ≡ tally i (t + length a + length b) (w + counted isWrong mark a + counted isWrong mark b) (o + counted isOpen mark a + counted isOpen mark b) =
     λ j. record { number = i; trials = more t (length (a ++ b)) (length a) (length b) (length-append a b) j; wrongs = more w _ _ _ (counted-join isWrong mark a b) j; opens = more o _ _ _ (counted-join isOpen mark a b) j } in
-    ap₂ (λ (l : List ℕ) (x : Report). l ++ (reportLine 8 x ++ later)) (ap wordLines (words-join mark a b) ∙ lines-join (wordsOf mark a) (wordsOf mark b)) r
+    ap₂ (λ (l : List ℕ) (x : Report). l ++ (reportLine 8 x ++ later)) (ap wordLines (words-append mark a b) ∙ lines-join (wordsOf mark a) (wordsOf mark b)) r
     ∙ append-assoc (wordLines (wordsOf mark a)) (wordLines (wordsOf mark b)) _
   where
     more : (t n x y : ℕ) → n ≡ x + y → t + n ≡ t + x + y

@@ -14,7 +14,7 @@ use Rattle.frame.specs.ReportLaws.{length-report}
 use Rattle.marks.specs.Answers.{Outcome, refused, accepted}
 use Rattle.factor.specs.declared.Factor.{Factor}
 use Rattle.calls.specs.Plain.{wordsOf}
-use Rattle.calls.specs.Tries.{tries-full}
+use Rattle.calls.specs.TrialLaws.{tries-full}
 use Rattle.sweep.specs.declared.SweepState.{SweepState}
 use Rattle.stream.specs.declared.Tally.{Tally}
 use Rattle.stream.specs.declared.Task

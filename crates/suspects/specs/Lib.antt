@@ -1,8 +1,8 @@
--- Suspects: their definition, that every significand that is not right is one, and the search for the next of them.
+-- Suspects. Definitions: Suspects, and the search for the next of them (Next). Laws: the others, of which SuspectLaws has that every significand that is not right is one.
 pub mod Suspects
-pub mod Right
-pub mod Window
+pub mod RightLaws
+pub mod SuspectLaws
 pub mod Next
 pub mod NextLaws
-pub mod Asked
+pub mod WindowLaws
 pub mod Examples

@@ -13,16 +13,16 @@ use Rattle.search.specs.declared.Place.{Place}
 use Rattle.search.specs.declared.Place.the-variants.{At, Nowhere}
 use Rattle.search.specs.declared.Found.{Found}
 use Rattle.search.specs.Search.{searchFrom, ceilDiv}
-use Rattle.search.specs.Finds.{Wanted, Least, Finds}
-use Rattle.search.specs.Multiples.{ceilDiv-ge, ceilDiv-le}
+use Rattle.search.specs.Finds.{Wanted, Least, LeastFrom, Finds}
+use Rattle.search.specs.MultipleLaws.{ceilDiv-ge, ceilDiv-le}
 use Rattle.search.specs.SearchLaws.{searchFrom-finds}
 use Rattle.factor.specs.Context.{Context, Fine}
 use Rattle.factor.specs.Parts.{partsAt}
 use Rattle.factor.specs.Ends.{End}
-use Rattle.suspects.specs.declared.Sought.{Sought}
+use Rattle.suspects.specs.declared.Window.{Window}
 use Rattle.suspects.specs.Suspects.{windowW, widening, isLow, halfStep, inWindow, isSuspect}
-use Rattle.suspects.specs.Window.{in-window, room}
-use Rattle.suspects.specs.Next.{soughtNear, movedBy, nextIn, nextFrom, firstHigh, LeastFrom}
+use Rattle.suspects.specs.SuspectLaws.{in-window, room}
+use Rattle.suspects.specs.Next.{windowNear, movedBy, nextIn, nextFrom, firstHigh}
 
 -- ---- where the halves meet
 -- X is low exactly if it is below the first high significand.
@@ -68,8 +68,8 @@ module _ (L h W D : ℕ) (some : 0 < W) (fits : W + D ≤ h) where
   abbrev m : ℕ
   m = 2 * h
 
-  abbrev s : Sought
-  s = soughtNear L h W D
+  abbrev s : Window
+  s = windowNear L h W D
 
   abbrev WantedFrom : (a k : ℕ) → Type 0
   WantedFrom a = Wanted m (s .step) (s .step * a % m) (s .from) (s .to)

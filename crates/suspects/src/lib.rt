@@ -7,20 +7,20 @@ ghost use Prim.Native.Nat.{_+_, _-_, _*_, _%_, _≤_, _<_, _^_};
 ghost use Rattle.factor.specs.Context.{contextOf, lowerOf, upperOf};
 ghost use Rattle.factor.specs.SetUp.{Sound};
 ghost use Rattle.wide.specs.Value.{wordBits, halfWord};
-ghost use Rattle.suspects.specs.Next.{soughtNear, soughtIn, nextIn, firstHigh, halves, Askable};
+ghost use Rattle.suspects.specs.Next.{windowNear, windowIn, nextIn, firstHigh, windows, Askable};
 
-// What is sought in a half: remainders from `from` to `to`, both included, of the multiples of the step modulo the modulus.
-pub struct Sought {
+// The window of a half: the remainders from `from` to `to`, both included, that are wanted of the multiples of the step modulo the modulus.
+pub struct Window {
     pub modulus: u64,
     pub step: u64,
     pub from: u64,
     pub to: u64,
 }
 
-// What is sought in each half, and the first high significand: all that a search needs of a factor.
-pub struct Halves {
-    pub low: Sought,
-    pub high: Sought,
+// The window of each half, and the first high significand: all that a search needs of a factor.
+pub struct Windows {
+    pub low: Window,
+    pub high: Window,
     pub first_high: u64,
 }
 
@@ -37,13 +37,13 @@ pub fn first_high(f: Factor) -> u64
     divided.quotient + 1
 }
 
-// The remainders near half the distance of two midpoints.
-fn sought_near(lower: u64, half: u64, window: u64, widening: u64) -> Sought
+// The window near half the distance of two midpoints.
+fn window_near(lower: u64, half: u64, window: u64, widening: u64) -> Window
     requires { ⌜ (0 < window) × (window + widening ≤ half) × (2 * half ≤ halfWord) ⌝ }
-    ensures { λ r. ⌜ r ≡ soughtNear lower half window widening ⌝ }
+    ensures { λ r. ⌜ r ≡ windowNear lower half window widening ⌝ }
 {
     let modulus = 2 * half;
-    Sought {
+    Window {
         modulus,
         step: lower % modulus,
         from: half - window - widening + 1,
@@ -51,26 +51,26 @@ fn sought_near(lower: u64, half: u64, window: u64, widening: u64) -> Sought
     }
 }
 
-// What is sought in the half whose products drop so many digits: two midpoints are 2 ^ dropped apart.
-fn sought_in(f: Factor, dropped: u32) -> Sought
+// The window of the half whose products drop so many digits: two midpoints are 2 ^ dropped apart.
+fn window_in(f: Factor, dropped: u32) -> Window
     requires { ⌜ Sound f × (contextOf f .E ≤ dropped) × (dropped ≤ contextOf f .E + 1) ⌝ }
-    ensures { λ r. ⌜ r ≡ soughtIn (contextOf f) (lowerOf f) (upperOf f) (2 ^ (dropped - 1)) ⌝ }
+    ensures { λ r. ⌜ r ≡ windowIn (contextOf f) (lowerOf f) (upperOf f) (2 ^ (dropped - 1)) ⌝ }
 {
     let p = f.precision;
     let window = wide::power(p.window_exponent());
     let widening = (f.upper - f.lower) * wide::power(p.bits);
-    sought_near(f.lower, wide::power(dropped - 1), window, widening)
+    window_near(f.lower, wide::power(dropped - 1), window, widening)
 }
 
-// All that a search needs of a factor.
-pub fn prepare(f: Factor) -> Halves
+// The windows of a factor.
+pub fn windows_of(f: Factor) -> Windows
     requires { ⌜ Sound f ⌝ }
-    ensures { λ r. ⌜ r ≡ halves (contextOf f) (lowerOf f) (upperOf f) ⌝ }
+    ensures { λ r. ⌜ r ≡ windows (contextOf f) (lowerOf f) (upperOf f) ⌝ }
 {
     let p = f.precision;
-    Halves {
-        low: sought_in(f, p.low_dropped()),
-        high: sought_in(f, p.high_dropped()),
+    Windows {
+        low: window_in(f, p.low_dropped()),
+        high: window_in(f, p.high_dropped()),
         first_high: first_high(f),
     }
 }
@@ -84,13 +84,13 @@ fn remainder(x: u64, y: u64, m: u64) -> u64
     p.lo % m
 }
 
-// The next suspect from the start on, in the half that is sought in, with the search's rounds.
-pub fn next(s: Sought, start: u64) -> Found
-    requires { ⌜ Askable s × (start ≤ halfWord) ⌝ }
-    ensures { λ r. ⌜ r ≡ nextIn s start ⌝ }
+// The next suspect from the start on, in the half of a window, with the search's rounds.
+pub fn next(w: Window, start: u64) -> Found
+    requires { ⌜ Askable w × (start ≤ halfWord) ⌝ }
+    ensures { λ r. ⌜ r ≡ nextIn w start ⌝ }
 {
-    let base = remainder(s.step, start, s.modulus);
-    let found = search::find_from(s.modulus, s.step, base, s.from, s.to);
+    let base = remainder(w.step, start, w.modulus);
+    let found = search::find_from(w.modulus, w.step, base, w.from, w.to);
     let place = found.place;
     match place {
         Place::At(k) => Found {

@@ -15,6 +15,10 @@ use Rattle.sweep.specs.declared.Verdict.{Verdict}
 abbrev pub viewOf : SweepState → State Factor
 viewOf s = record { factor = s .factor; first = s .first; last = s .last; next = s .next; finished = s .finished }
 
+-- the state that says so
+abbrev pub codeOf : State Factor → SweepState
+codeOf s = record { factor = s .factor; first = s .first; last = s .last; next = s .next; finished = s .finished }
+
 -- the answer to a new sweep: a refusal its number, or the state
 abbrev pub newOf : NewSweep → Outcome (State Factor)
 newOf (NewSweep.Accepted s) = accepted (viewOf s)

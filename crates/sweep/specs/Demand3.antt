@@ -1,76 +1,50 @@
--- Demand 3 of sweeps of a factor: for every list of calls of any function that keeps the contract of `sweep_call`, from a state that one with the contract of
--- `new_state` gave; and of the calls that were made, at the states that occurred. What a suspect is, in document 01's words, is `suspect-is` of `EngineLaws.antt`. `Whole` (in `calls`) has each sentence of the demand as a field, in the demand's order. Assumes nothing.
+-- Demand 3 of sweeps of a factor: of every list of calls that were made from a new state, each of them keeping the contract of `sweep_call` at the state that the one before handed back.
+-- `Whole` (in `calls`) has each sentence of the demand as a field, in the demand's order. Assumes nothing.
 use mathlib.Core.Path.{_≡_, refl, sym, ap, ap₂, _∙_, subst}
-use mathlib.Core.List.{List, [], _∷_}
-use Prim.Native.Nat.{ℕ}
+use mathlib.Core.Bool.{true, false, not}
+use mathlib.Core.Logic.{_↔_}
+use mathlib.Core.List.{List, [], _∷_, List·Memᴰ}
+use Prim.Native.Nat.{ℕ, suc, _≤_}
+use native.Mathlib.Omega.{arith}
+use Rattle.marks.specs.Answers.{accepted}
+use Rattle.marks.specs.AnswerLaws.{only-accepted, pass, end, accepts}
+use Rattle.rounding.specs.Round.{HasBits}
+use Rattle.factor.specs.declared.Description.{Description}
 use Rattle.factor.specs.declared.Factor.{Factor}
-use Rattle.marks.specs.Answers.{Refusal, number, none, judged}
-use Rattle.calls.specs.State.{State, Call, termsOf, wordList}
-use Rattle.calls.specs.Call.{newState, Reply, conditions, replied, runOf, sweepCall}
+use Rattle.factor.specs.Context.{contextOf, lowerOf, upperOf}
+use Rattle.factor.specs.SetUp.{setUp, intact, Sound}
+use Rattle.factor.specs.SetUpLaws.{accepted-intact}
+use Rattle.product.specs.Product.{productBy}
+use Rattle.product.specs.Marks.{markBy, SaysBy}
+use Rattle.suspects.specs.Suspects.{Suspect}
+use Rattle.calls.specs.State.{State, fresh, Call}
+use Rattle.calls.specs.Call.{newState, Reply, sweepCall}
 use Rattle.calls.specs.ByRow.{rowCall}
-use Rattle.calls.specs.Plain.{untried}
-use Rattle.calls.specs.Whole.{sweeps, wordsIn, endOf, Holds, fedBy, plainEnd, Whole}
-use Rattle.calls.specs.Lists.{entries-are}
-use Rattle.calls.specs.One.{by-row}
-use Rattle.calls.specs.Demand.{whole-sweep}
+use Rattle.calls.specs.Plain.{row, untried, Seen}
+use Rattle.calls.specs.Whole.{seen, sweeps, stateAfter, wordsIn, endOf, Ascends, Holds, fedBy, plainEnd, Whole}
+use Rattle.calls.specs.RowLaws.{row-ascends, row-exactly}
+use Rattle.calls.specs.ListLaws.{entries-are}
+use Rattle.calls.specs.CallLaws.{by-row}
+use Rattle.calls.specs.Demand3.{whole-sweep}
 use Rattle.sweep.specs.declared.SweepState.{SweepState}
 use Rattle.sweep.specs.declared.NewSweep.{NewSweep}
 use Rattle.sweep.specs.declared.SweepAnswer.{SweepAnswer}
-use Rattle.sweep.specs.Engine.{suspect, mostRounds, engine}
-use Rattle.sweep.specs.EngineLaws.{lawful}
-use Rattle.sweep.specs.Answers.{viewOf, newOf, callOf, replyOf}
+use Rattle.sweep.specs.Engine.{suspect, rangeOut, mostRounds, engine}
+use Rattle.sweep.specs.EngineLaws.{sound-of, suspect-is, mark-is, lawful}
+use Rattle.sweep.specs.Answers.{viewOf, newOf, replyOf}
 
--- One call, on every state, also one that no calls lead to: what the searches make of it is what is read off the row of suspects, answer, state, list and
--- counts. Its rounds are so given a second time, as a sum over the starts of its searches.
-pub call-by-row : (s : State Factor) (c : Call) → sweepCall engine s c ≡ rowCall suspect engine s c
-call-by-row = by-row lawful
+-- ---- where calls begin
 
--- ---- functions that keep the contracts
+-- Over every factor that 31 lets through and every range that 17 lets through, a new state is accepted: the one with the first significand as next, and not finished.
+pub begins-always : (f : Factor) (first last : ℕ) → intact f ≡ true → rangeOut (f .precision .bits) first last ≡ false → newState engine f first last ≡ accepted (fresh f first last)
+begins-always f first last whole inside = sym (accepts (pass (ap not whole) (pass inside end)) (fresh f first last))
 
--- the answer to a cap, a list and its first free place, at a state, and the list that it leaves
-abbrev pub Sweeper : Type 0
-Sweeper = SweepState → (cap : ℕ) → List ℕ → (free : ℕ) → SweepAnswer × List ℕ
+-- 31 lets every factor through that set-up accepted.
+pub set-up-begins : (d : Description) (f : Factor) (first last : ℕ) → setUp d ≡ accepted f → rangeOut (f .precision .bits) first last ≡ false
+    → newState engine f first last ≡ accepted (fresh f first last)
+set-up-begins d f first last given inside = begins-always f first last (accepted-intact d f given) inside
 
--- the contract of `sweep_call`
-abbrev pub Sweeps : Sweeper → Type 0
-Sweeps call = (s : SweepState) (cap : ℕ) (list : List ℕ) (free : ℕ) → replyOf (call s cap list free .0) (call s cap list free .1) ≡ sweepCall engine (viewOf s) (callOf cap list free)
-
--- the contract of `new_state`
-abbrev pub Begins : (Factor → ℕ → ℕ → NewSweep) → Type 0
-Begins new = (f : Factor) (first last : ℕ) → newOf (new f first last) ≡ newState engine f first last
-
--- a state as code holds it
-abbrev pub held : State Factor → SweepState
-held s = record { factor = s .factor; first = s .first; last = s .last; next = s .next; finished = s .finished }
-
--- a function's calls: "Each call is given the state that the one before returned"
-abbrev pub callsBy : Sweeper → State Factor → Call → Reply Factor
-callsBy call s c = replyOf (call (held s) (c .cap) (c .list) (c .free) .0) (call (held s) (c .cap) (c .list) (c .free) .1)
-
--- document 01's lists ask nothing of the width of their words
-any-width : (s : State Factor) (c : Call) → sweepCall engine s (callOf (c .cap) (c .list) (c .free)) ≡ sweepCall engine s c
-unfolding sweepCall
-any-width s c = go (judged (conditions engine s (termsOf c)))
-  where
-    go : (v : Refusal) → replied wordList s (callOf (c .cap) (c .list) (c .free)) v (runOf engine s c) ≡ replied wordList s c v (runOf engine s c)
-    go (number n) = refl
-    go none = refl
-
--- ---- demand 3
-
-pub demand-3 : (new : Factor → ℕ → ℕ → NewSweep) → Begins new → (call : Sweeper) → Sweeps call
-    → (f : Factor) (first last : ℕ) (s : SweepState) → new f first last ≡ NewSweep.Accepted s
-    → (calls : List Call) → Whole suspect engine mostRounds (callsBy call) (viewOf s) calls
-demand-3 new begins call sweeps f first last s q calls =
-    subst (λ (by : State Factor → Call → Reply Factor). Whole suspect engine mostRounds by (viewOf s) calls) (λ i z c. sym (sweeps (held z) (c .cap) (c .list) (c .free) ∙ any-width z c) i)
-    (whole-sweep lawful f first last (viewOf s) (sym (begins f first last) ∙ ap newOf q) calls)
-
--- Entries are the listed words, so that the joined words themselves hold exactly the significands that are not right, once each, ascending, with their marks.
-pub joined-words : {call : State Factor → Call → Reply Factor} {s : State Factor} {calls : List Call} → Whole suspect engine mostRounds call s calls
-    → Holds (engine .mark (s .factor)) (s .first) (endOf (s .last) (untried (fedBy suspect engine s) (plainEnd suspect engine s calls))) (wordsIn (sweeps call s calls))
-joined-words w = rw (w .words .are ∙ entries-are (w .words .listed)) (w .words .holds)
-
--- ---- the same of calls that were made
+-- ---- calls that were made
 
 -- a call that was made: what was asked, what was answered, and the list that it left
 pub record Made : Type 0 where
@@ -86,18 +60,56 @@ abbrev pub Kept : State Factor → List Made → Type 0
 Kept s [] = Unit {0}
 Kept s (m ∷ made) = (replyIn m ≡ sweepCall engine s (m .asked)) × Kept (replyIn m .state) made
 
+-- what was asked
 abbrev pub askedIn : List Made → List Call
 askedIn [] = []
 askedIn (m ∷ made) = m .asked ∷ askedIn made
 
+-- what was answered
 abbrev pub repliesIn : List Made → List (Reply Factor)
 repliesIn [] = []
 repliesIn (m ∷ made) = replyIn m ∷ repliesIn made
+
+-- what is seen of them, which is compared with the plain sweep
+abbrev pub seenIn : List Made → List (Seen Factor)
+seenIn [] = []
+seenIn (m ∷ made) = seen (m .asked) (replyIn m) ∷ seenIn made
+
+-- the state that the last of them handed back
+abbrev pub lastIn : State Factor → List Made → State Factor
+lastIn s [] = s
+lastIn s (m ∷ made) = lastIn (replyIn m .state) made
 
 -- the replies to a list of calls, each given the state that the one before returned
 abbrev pub repliesBy : (State Factor → Call → Reply Factor) → State Factor → List Call → List (Reply Factor)
 repliesBy call s [] = []
 repliesBy call s (c ∷ calls) = call s c ∷ repliesBy call (call s c .state) calls
+
+-- ---- demand 3
+
+-- The calls that were made from a state s. What stands in quotes is document 01's or the demand's.
+pub record Demand3 (s : State Factor) (made : List Made) : Type 0 where
+  -- the demand, sentence by sentence, of the calls that were asked
+  pub whole : Whole suspect engine mostRounds (sweepCall engine) s (askedIn made)
+  -- it speaks of the calls that were made: of their replies, of what is seen of them, and of the state that the last of them handed back
+  pub replies : repliesIn made ≡ repliesBy (sweepCall engine) s (askedIn made)
+  pub seen : seenIn made ≡ sweeps (sweepCall engine) s (askedIn made)
+  pub last : lastIn s made ≡ stateAfter (sweepCall engine) s (askedIn made)
+  -- "joined words hold exactly the significands in range that are not right below the first suspect not yet tried (all if none is left), once each, ascending, with marks": an entry is its word
+  pub words : Holds (engine .mark (s .factor)) (s .first) (endOf (s .last) (untried (fedBy suspect engine s) (plainEnd suspect engine s (askedIn made)))) (wordsIn (seenIn made))
+  -- the test for a suspect is document 01's definition of one
+  pub suspects : (X : ℕ) → suspect (s .factor) X ≡ true ↔ Suspect (contextOf (s .factor)) (lowerOf (s .factor)) (upperOf (s .factor)) X
+  -- "the row of all suspects in range, ascending"
+  pub row : (X : ℕ) → List·Memᴰ X (fedBy suspect engine s .suspects) ↔ ((s .first ≤ X) × (X ≤ s .last) × Suspect (contextOf (s .factor)) (lowerOf (s .factor)) (upperOf (s .factor)) X)
+  pub ascending : Ascends (s .first) (suc (s .last)) (fedBy suspect engine s .suspects)
+  -- "Marks are those of demand 2": the mark of the product, which says what it must of every fraction between the ends
+  pub marks : (X : ℕ) → fedBy suspect engine s .mark X ≡ markBy (s .factor) X (productBy (s .factor) X)
+  pub tells : (X : ℕ) → HasBits (s .factor .precision .bits) X → SaysBy (s .factor) X (productBy (s .factor) X) (fedBy suspect engine s .mark X)
+
+-- Entries are the listed words, so that the joined words themselves hold exactly the significands that are not right, once each, ascending, with their marks.
+pub joined-words : {call : State Factor → Call → Reply Factor} {s : State Factor} {calls : List Call} → Whole suspect engine mostRounds call s calls
+    → Holds (engine .mark (s .factor)) (s .first) (endOf (s .last) (untried (fedBy suspect engine s) (plainEnd suspect engine s calls))) (wordsIn (sweeps call s calls))
+joined-words w = rw (w .words .are ∙ entries-are (w .words .listed)) (w .words .holds)
 
 kept-replies : (s : State Factor) (made : List Made) → Kept s made → repliesIn made ≡ repliesBy (sweepCall engine) s (askedIn made)
 kept-replies s [] k = refl
@@ -105,12 +117,49 @@ kept-replies s (m ∷ made) k =
     ap₂ (λ (r : Reply Factor) (l : List (Reply Factor)). r ∷ l) (k .0)
     (kept-replies (replyIn m .state) made (k .1) ∙ ap (λ (r : Reply Factor). repliesBy (sweepCall engine) (r .state) (askedIn made)) (k .0))
 
--- The calls that were made from a state that was accepted: demand 3 holds of the calls asked, and the replies are the ones that it speaks of.
-pub record Demand3 (s : State Factor) (made : List Made) : Type 0 where
-  pub whole : Whole suspect engine mostRounds (sweepCall engine) s (askedIn made)
-  pub replies : repliesIn made ≡ repliesBy (sweepCall engine) s (askedIn made)
+kept-seen : (s : State Factor) (made : List Made) → Kept s made → seenIn made ≡ sweeps (sweepCall engine) s (askedIn made)
+unfolding sweeps
+kept-seen s [] k = refl
+kept-seen s (m ∷ made) k =
+    ap₂ (λ (x : Seen Factor) (l : List (Seen Factor)). x ∷ l) (ap (seen (m .asked)) (k .0))
+    (kept-seen (replyIn m .state) made (k .1) ∙ ap (λ (r : Reply Factor). sweeps (sweepCall engine) (r .state) (askedIn made)) (k .0))
 
-pub demand-3-of-calls : (f : Factor) (first last : ℕ) (s : SweepState) → newOf (NewSweep.Accepted s) ≡ newState engine f first last
-    → (made : List Made) → Kept (viewOf s) made → Demand3 (viewOf s) made
-demand-3-of-calls f first last s q made k =
-    record { whole = whole-sweep lawful f first last (viewOf s) (sym q) (askedIn made); replies = kept-replies (viewOf s) made k }
+kept-last : (s : State Factor) (made : List Made) → Kept s made → lastIn s made ≡ stateAfter (sweepCall engine) s (askedIn made)
+unfolding stateAfter
+kept-last s [] k = refl
+kept-last s (m ∷ made) k = kept-last (replyIn m .state) made (k .1) ∙ ap (λ (r : Reply Factor). stateAfter (sweepCall engine) (r .state) (askedIn made)) (k .0)
+
+-- the row holds exactly the suspects in document 01's words
+row-is : (f : Factor) → Sound f → (first last X : ℕ)
+    → List·Memᴰ X (row (suspect f) first (suc last)) ↔ ((first ≤ X) × (X ≤ last) × Suspect (contextOf f) (lowerOf f) (upperOf f) X)
+row-is f s first last X =
+    let exactly = row-exactly (suspect f) first (suc last) X in (
+      (λ m. let i = exactly .0 m in (i .0, omega (arith, i .1), suspect-is f s X .0 (i .2))),
+      (λ i. exactly .1 (i .0, omega (arith, i .1), suspect-is f s X .1 (i .2))),
+    )
+
+-- Demand 3: `new_state` accepted s, and the calls made from it kept the contract of `sweep_call`.
+pub demand-3 : (f : Factor) (first last : ℕ) (s : SweepState) → newOf (NewSweep.Accepted s) ≡ newState engine f first last → (made : List Made) → Kept (viewOf s) made → Demand3 (viewOf s) made
+demand-3 f first last s q made k =
+    let good = only-accepted (engine .newFaults f first last) (fresh f first last) (viewOf s) (sym q) in
+    let sound : Sound (s .factor) = subst (λ (s : State Factor). Sound (s .factor)) (good .1) (sound-of f (good .0 .0)) in
+    let whole = whole-sweep lawful f first last (viewOf s) (sym q) (askedIn made) in
+    record {
+      whole = whole;
+      replies = kept-replies (viewOf s) made k;
+      seen = kept-seen (viewOf s) made k;
+      last = kept-last (viewOf s) made k;
+      words = rw (kept-seen (viewOf s) made k) (joined-words whole);
+      suspects = suspect-is (s .factor) sound;
+      row = row-is (s .factor) sound (s .first) (s .last);
+      ascending = row-ascends (suspect (s .factor)) (s .first) (suc (s .last));
+      marks = λ X. refl;
+      tells = mark-is (s .factor) sound;
+    }
+
+-- ---- one call
+
+-- On every state, also one that no calls lead to, what the searches make of a call is what is read off the row of suspects: answer, state, list and
+-- counts. Its rounds are so given a second time, as a sum over the starts of its searches.
+pub call-by-row : (s : State Factor) (c : Call) → sweepCall engine s c ≡ rowCall suspect engine s c
+call-by-row = by-row lawful

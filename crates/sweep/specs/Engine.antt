@@ -10,9 +10,9 @@ use Rattle.factor.specs.Context.{contextOf, lowerOf, upperOf}
 use Rattle.factor.specs.SetUp.{intact}
 use Rattle.product.specs.Product.{productBy}
 use Rattle.product.specs.Marks.{markBy}
-use Rattle.suspects.specs.declared.Halves.{Halves}
+use Rattle.suspects.specs.declared.Windows.{Windows}
 use Rattle.suspects.specs.Suspects.{isSuspect}
-use Rattle.suspects.specs.Next.{nextFrom, firstHigh, halves}
+use Rattle.suspects.specs.Next.{nextFrom, firstHigh, windows}
 use Rattle.calls.specs.State.{State, outOfRange, wordList}
 use Rattle.calls.specs.Engine.{Half, low, high, Engine}
 
@@ -28,9 +28,9 @@ rangeOut n first last = significandOut n first || significandOut n last || ltb l
 abbrev pub stateOut : State Factor → Bool
 stateOut s = outOfRange (rangeOut (s .factor .precision .bits) (s .first) (s .last)) s
 
--- what is sought in each half, and the first high significand
-abbrev pub halvesOf : Factor → Halves
-halvesOf f = halves (contextOf f) (lowerOf f) (upperOf f)
+-- the window of each half, and the first high significand
+abbrev pub windowsOf : Factor → Windows
+windowsOf f = windows (contextOf f) (lowerOf f) (upperOf f)
 
 -- the search in a half, from a significand on
 abbrev pub findIn : Factor → Half → ℕ → Found

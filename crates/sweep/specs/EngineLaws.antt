@@ -23,11 +23,11 @@ use Rattle.product.specs.Marks.{mark, SaysBy}
 use Rattle.product.specs.Demand2.{mark-tells}
 use Rattle.product.specs.AnswerLaws.{significand-in}
 use Rattle.suspects.specs.Suspects.{Suspect}
-use Rattle.suspects.specs.Window.{suspect-iff, not-right-suspect}
+use Rattle.suspects.specs.SuspectLaws.{suspect-iff, not-right-suspect}
 use Rattle.suspects.specs.NextLaws as next
 use Rattle.calls.specs.Engine.{Half, low, high, halfOf, Lawful}
-use Rattle.calls.specs.Refusals as calls
-use Rattle.calls.specs.Lists.{word-laws}
+use Rattle.calls.specs.RefusalLaws as calls
+use Rattle.calls.specs.ListLaws.{word-laws}
 use Rattle.sweep.specs.Engine.{suspect, rangeOut, findIn, mostRounds, engine}
 
 -- A factor that 31 does not refuse is sound.

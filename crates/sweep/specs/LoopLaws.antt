@@ -15,21 +15,20 @@ use Rattle.search.specs.declared.Place.{Place}
 use Rattle.search.specs.declared.Place.the-variants.{At, Nowhere}
 use Rattle.search.specs.declared.Found.{Found}
 use Rattle.factor.specs.SetUp.{Sound}
-use Rattle.suspects.specs.declared.Halves.{Halves}
+use Rattle.suspects.specs.declared.Windows.{Windows}
 use Rattle.calls.specs.State.{listed, entries, roomIn, wordList}
 use Rattle.calls.specs.Call.{handed, sweepCall}
-use Rattle.calls.specs.Refusals.{ready}
-use Rattle.calls.specs.Runs.{ahead-found}
-use Rattle.calls.specs.Lists.{entries-are, room-is}
-use Rattle.calls.specs.Loop.{Looping, loop-start, loop-ready, loop-end, loop-rounds, loop-trial}
+use Rattle.calls.specs.RefusalLaws.{ready}
+use Rattle.calls.specs.ListLaws.{entries-are, room-is}
+use Rattle.calls.specs.LoopLaws.{Looping, loop-start, loop-ready, loop-end, loop-rounds, loop-trial}
 use Rattle.sweep.specs.declared.SweepState.{SweepState}
 use Rattle.sweep.specs.declared.Work.{Work}
 use Rattle.factor.specs.Precision.{mostPrecision}
-use Rattle.sweep.specs.Engine.{halvesOf, mostRounds, engine}
+use Rattle.sweep.specs.Engine.{windowsOf, mostRounds, engine}
 use Rattle.sweep.specs.EngineLaws.{sound-of, lawful}
 use Rattle.sweep.specs.Answers.{viewOf, callOf, termsBy}
 use Rattle.sweep.specs.Steps.{mustStop, begunAt, haltedAt, passedAt, withWord, triedAt, stepAt, aheadOf, stepOf, resultIn, Stepping, Taken}
-use Rattle.sweep.specs.StepLaws.{must-stop, may-go, last-short}
+use Rattle.sweep.specs.StepLaws.{must-stop, may-go, last-short, found-inside}
 
 -- The call is done: its answer, its state and the tail are what the call comes to.
 abbrev pub Done : SweepState → (cap : ℕ) → (tail₀ : List ℕ) → Work → (tail : List ℕ) → Type 0
@@ -69,7 +68,7 @@ module _ {s : SweepState} {cap : ℕ} {tail₀ : List ℕ} {w : Work} {tail : Li
   short = last-short (s .factor) (s .first) (s .last) (loop-ready lawful l .sound)
 
   -- A step may be made.
-  pub work-steps : {h : Halves} → h ≡ halvesOf (s .factor) → Stepping s h cap (length tail₀) w
+  pub work-steps : {h : Windows} → h ≡ windowsOf (s .factor) → Stepping s h cap (length tail₀) w
   work-steps are =
       let m : suc (s .last) - s .next + 2 ≤ 2 ^ mostPrecision + 2 = omega (arith, short) in
       record {
@@ -106,7 +105,7 @@ module _ {s : SweepState} {cap : ℕ} {tail₀ : List ℕ} {w : Work} {tail : Li
   -- X is tried
   module _ {X : ℕ} (q : found .place ≡ At X) (h : ¬ (w .trials ≡ cap)) (i : ¬ (w .place ≡ length tail₀)) where
     inside : (w .at ≤ X) × (X ≤ s .last)
-    inside = ahead-found (lawful .laws (s .factor) (s .first) (s .last) (loop-ready lawful l .sound)) (w .at) (l .from) X q
+    inside = found-inside s (loop-ready lawful l .sound) (w .at) (l .from) q
 
     -- the loop goes on past it, its word being written
     past : (m : Mark) → mark X ≡ m

@@ -18,17 +18,17 @@ use Rattle.search.specs.declared.Found.{Found}
 use Rattle.rounding.specs.Round.{HasBits}
 use Rattle.factor.specs.declared.Factor.{Factor}
 use Rattle.factor.specs.SetUp.{Sound}
-use Rattle.suspects.specs.declared.Sought.{Sought}
-use Rattle.suspects.specs.declared.Halves.{Halves}
+use Rattle.suspects.specs.declared.Window.{Window}
+use Rattle.suspects.specs.declared.Windows.{Windows}
 use Rattle.suspects.specs.Next.{nextIn, Askable}
-use Rattle.suspects.specs.Asked.{low-askable, high-askable}
+use Rattle.suspects.specs.WindowLaws.{low-askable, high-askable}
 use Rattle.factor.specs.Precision.{mostPrecision}
 use Rattle.calls.specs.Engine.{low, high}
 use Rattle.calls.specs.Call.{within, orElse, highStart, ahead}
-use Rattle.calls.specs.Runs.{ahead-found}
+use Rattle.calls.specs.RunLaws.{ahead-found}
 use Rattle.sweep.specs.declared.SweepState.{SweepState}
 use Rattle.sweep.specs.declared.Work.{Work}
-use Rattle.sweep.specs.Engine.{halvesOf, mostRounds, engine}
+use Rattle.sweep.specs.Engine.{windowsOf, mostRounds, engine}
 use Rattle.sweep.specs.EngineLaws.{sound-of, in-range, few, lawful}
 use Rattle.sweep.specs.Steps.{cutAt, soughtBefore, aheadIn, Searchable, mustStop, haltedAt, triedAt, stepAt, aheadOf, stepOf, Room, Stepping}
 
@@ -46,14 +46,14 @@ module _ (f : Found) (end : ℕ) where
 
 -- ---- the search ahead
 
-module _ {h : Halves} (k : Searchable h) where
+module _ {h : Windows} (k : Searchable h) where
   pub low-asks : Askable (h .low)
-  low-asks = subst (λ (x : Halves). Askable (x .low)) (sym (k .are)) (low-askable (k .of) (k .sound))
+  low-asks = subst (λ (x : Windows). Askable (x .low)) (sym (k .are)) (low-askable (k .of) (k .sound))
 
   pub high-asks : Askable (h .high)
-  high-asks = subst (λ (x : Halves). Askable (x .high)) (sym (k .are)) (high-askable (k .of) (k .sound))
+  high-asks = subst (λ (x : Windows). Askable (x .high)) (sym (k .are)) (high-askable (k .of) (k .sound))
 
-  sought-few : (s : Sought) (a end : ℕ) → nextIn s a .rounds ≤ mostRounds (k .of) → soughtBefore s a end .rounds ≤ mostRounds (k .of)
+  sought-few : (s : Window) (a end : ℕ) → nextIn s a .rounds ≤ mostRounds (k .of) → soughtBefore s a end .rounds ≤ mostRounds (k .of)
   sought-few s a end h = go (ltb a end)
     where
       go : (b : Bool) → cond b (cutAt end (nextIn s a)) (record { place = Nowhere; rounds = 0 }) .rounds ≤ mostRounds (k .of)
@@ -61,13 +61,13 @@ module _ {h : Halves} (k : Searchable h) where
       go false = omega arith
 
   pub low-few : (a end : ℕ) → soughtBefore (h .low) a end .rounds ≤ mostRounds (k .of)
-  low-few a end = sought-few (h .low) a end (subst (λ (x : Halves). nextIn (x .low) a .rounds ≤ mostRounds (k .of)) (sym (k .are)) (few (k .of) (k .sound) low a))
+  low-few a end = sought-few (h .low) a end (subst (λ (x : Windows). nextIn (x .low) a .rounds ≤ mostRounds (k .of)) (sym (k .are)) (few (k .of) (k .sound) low a))
 
   pub high-few : (a end : ℕ) → soughtBefore (h .high) a end .rounds ≤ mostRounds (k .of)
-  high-few a end = sought-few (h .high) a end (subst (λ (x : Halves). nextIn (x .high) a .rounds ≤ mostRounds (k .of)) (sym (k .are)) (few (k .of) (k .sound) high a))
+  high-few a end = sought-few (h .high) a end (subst (λ (x : Windows). nextIn (x .high) a .rounds ≤ mostRounds (k .of)) (sym (k .are)) (few (k .of) (k .sound) high a))
 
 -- the low half's search, as code has it
-module _ (h : Halves) (last a : ℕ) {end : ℕ} (ends : end ≡ min (h .«first_high») (last + 1)) {lower : Found} (is : lower ≡ soughtBefore (h .low) a end) where
+module _ (h : Windows) (last a : ℕ) {end : ℕ} (ends : end ≡ min (h .«first_high») (last + 1)) {lower : Found} (is : lower ≡ soughtBefore (h .low) a end) where
   abbrev upper : Found
   upper = soughtBefore (h .high) (highStart (h .«first_high») a) (suc last)
 
@@ -107,12 +107,16 @@ last-short f first last good =
     let n : ℕ = f .precision .bits in
     omega (arith, in-range n first last (good .1 .0) .last-bits .most, pow-mono {i = n} {j = mostPrecision} (sound-of f (good .0) .precision .most))
 
--- the halves are the factor's, so the search ahead is the engine's
-pub ahead-in : (f : Factor) (last a : ℕ) → aheadIn (halvesOf f) last a ≡ ahead engine f last a
+-- a suspect that the search ahead finds lies in the range
+pub found-inside : (s : SweepState) → NoneHolds (engine .newFaults (s .factor) (s .first) (s .last)) → (a : ℕ) → s .first ≤ a → {X : ℕ} → aheadOf s a .place ≡ At X → (a ≤ X) × (X ≤ s .last)
+found-inside s good a from {X} q = ahead-found (lawful .laws (s .factor) (s .first) (s .last) good) a from X q
+
+-- the windows are the factor's, so the search ahead is the engine's
+pub ahead-in : (f : Factor) (last a : ℕ) → aheadIn (windowsOf f) last a ≡ ahead engine f last a
 unfolding ahead
 ahead-in f last a = refl
 
-module _ {s : SweepState} {h : Halves} {cap size : ℕ} {w : Work} (k : Stepping s h cap size w) where
+module _ {s : SweepState} {h : Windows} {cap size : ℕ} {w : Work} (k : Stepping s h cap size w) where
   abbrev n : ℕ
   n = s .factor .precision .bits
 
@@ -131,16 +135,14 @@ module _ {s : SweepState} {h : Halves} {cap size : ℕ} {w : Work} (k : Stepping
     stop = mustStop (w .trials) cap (w .place) size
 
     step-ahead : found ≡ aheadOf s (w .at)
-    step-ahead = is ∙ ap (λ (h : Halves). aheadIn h (s .last) (w .at)) (k .are) ∙ ahead-in (s .factor) (s .last) (w .at)
+    step-ahead = is ∙ ap (λ (h : Windows). aheadIn h (s .last) (w .at)) (k .are) ∙ ahead-in (s .factor) (s .last) (w .at)
 
     -- the rounds can be counted
     pub step-rounds : w .rounds + found .rounds < 2 ^ wordBits
     step-rounds = rw step-ahead (k .turns)
 
-    -- a suspect that is found lies in the range
     step-found : {X : ℕ} → found .place ≡ At X → (w .at ≤ X) × (X ≤ s .last)
-    step-found {X} q =
-        ahead-found (lawful .laws (s .factor) (s .first) (s .last) (k .sound)) (w .at) (k .from) X (ap (λ (w : Found). w .place) (sym step-ahead) ∙ q)
+    step-found q = found-inside s (k .sound) (w .at) (k .from) (ap (λ (w : Found). w .place) (sym step-ahead) ∙ q)
 
     pub found-bits : {X : ℕ} → found .place ≡ At X → HasBits n X
     found-bits q =

@@ -12,15 +12,15 @@ use Rattle.search.specs.declared.Place.the-variants.{At, Nowhere}
 use Rattle.search.specs.declared.Found.{Found}
 use Rattle.factor.specs.declared.Factor.{Factor}
 use Rattle.factor.specs.SetUp.{Sound}
-use Rattle.suspects.specs.declared.Sought.{Sought}
-use Rattle.suspects.specs.declared.Halves.{Halves}
+use Rattle.suspects.specs.declared.Window.{Window}
+use Rattle.suspects.specs.declared.Windows.{Windows}
 use Rattle.suspects.specs.Next.{nextIn}
 use Rattle.factor.specs.Precision.{mostPrecision}
 use Rattle.calls.specs.Engine.{lowEnd}
 use Rattle.calls.specs.Call.{Result, conditions, within, orElse, highStart, ahead}
 use Rattle.sweep.specs.declared.SweepState.{SweepState}
 use Rattle.sweep.specs.declared.Work.{Work}
-use Rattle.sweep.specs.Engine.{halvesOf, engine}
+use Rattle.sweep.specs.Engine.{windowsOf, engine}
 use Rattle.sweep.specs.Answers.{viewOf, termsBy}
 
 -- ---- searches
@@ -29,21 +29,21 @@ use Rattle.sweep.specs.Answers.{viewOf, termsBy}
 abbrev pub cutAt : (end : ℕ) → Found → Found
 cutAt end f = record { place = within end (f .place); rounds = f .rounds }
 
--- the search for what is sought in a half, from a on, where the half's part of the range ends before the end
-abbrev pub soughtBefore : Sought → (a end : ℕ) → Found
-soughtBefore s a end = cond (ltb a end) (cutAt end (nextIn s a)) (record { place = Nowhere; rounds = 0 })
+-- the search in the window of a half, from a on, where the half's part of the range ends before the end
+abbrev pub soughtBefore : Window → (a end : ℕ) → Found
+soughtBefore w a end = cond (ltb a end) (cutAt end (nextIn w a)) (record { place = Nowhere; rounds = 0 })
 
 -- the first suspect of the range from a on, with the rounds of the searches that lead to it
-abbrev pub aheadIn : Halves → (last a : ℕ) → Found
+abbrev pub aheadIn : Windows → (last a : ℕ) → Found
 aheadIn h last a =
     let lower = soughtBefore (h .low) a (lowEnd (h .«first_high») last) in
     orElse (lower .place) lower (soughtBefore (h .high) (highStart (h .«first_high») a) (suc last))
 
--- the halves are those of a sound factor
-pub record Searchable (h : Halves) : Type 0 where
+-- the windows are those of a sound factor
+pub record Searchable (h : Windows) : Type 0 where
   pub of : Factor
   pub sound : Sound of
-  pub are : h ≡ halvesOf of
+  pub are : h ≡ windowsOf of
 
 -- ---- a step
 
@@ -100,10 +100,10 @@ pub record Room (w : Work) (X : ℕ) : Type 0 where
   pub placed : w .place + 1 < 2 ^ wordBits
   pub found : X < 2 ^ mostPrecision
 
--- a step may be made: a new state over the factor and the range is not refused, the halves are those of the factor, and the counts fit
-pub record Stepping (s : SweepState) (h : Halves) (cap size : ℕ) (w : Work) : Type 0 where
+-- a step may be made: a new state over the factor and the range is not refused, the windows are those of the factor, and the counts fit
+pub record Stepping (s : SweepState) (h : Windows) (cap size : ℕ) (w : Work) : Type 0 where
   pub sound : NoneHolds (engine .newFaults (s .factor) (s .first) (s .last))
-  pub are : h ≡ halvesOf (s .factor)
+  pub are : h ≡ windowsOf (s .factor)
   pub from : s .first ≤ w .at
   pub turns : w .rounds + aheadOf s (w .at) .rounds < 2 ^ wordBits
   pub capped : w .trials ≤ cap

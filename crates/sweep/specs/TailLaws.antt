@@ -7,13 +7,13 @@ use lib.ListN.{length, take, drop, length-drop}
 use lib.Seq.{sets, take-length}
 use borrow.Author.Tests.{lt-leb}
 use borrow.Rule.Slice.PartMut.{putMid, midOf}
-use Rattle.marks.specs.Answers.{none, Outcome, refused, accepted, First}
+use Rattle.marks.specs.Answers.{none, First, Outcome, refused, accepted}
 use Rattle.marks.specs.AnswerLaws.{pass, end, judged-none}
 use Rattle.factor.specs.declared.Factor.{Factor}
 use Rattle.calls.specs.State.{entries, wordList}
 use Rattle.calls.specs.Call.{Result, Reply, conditions, Run, run, runOf, handed, replied, sweepCall}
-use Rattle.calls.specs.Refusals.{ready}
-use Rattle.calls.specs.Lists.{put-tail}
+use Rattle.calls.specs.RefusalLaws.{ready}
+use Rattle.calls.specs.ListLaws.{put-tail}
 use Rattle.sweep.specs.declared.SweepState.{SweepState}
 use Rattle.sweep.specs.Engine.{engine}
 use Rattle.sweep.specs.EngineLaws.{lawful}

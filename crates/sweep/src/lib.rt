@@ -4,8 +4,8 @@ use factor::Precision;
 use marks::Mark;
 use search::Found;
 use search::Place;
-use suspects::Halves;
-use suspects::Sought;
+use suspects::Window;
+use suspects::Windows;
 ghost use mathlib.Core.Path.{_≡_};
 ghost use Prim.Native.Nat.{_+_, _≤_, _<_, _^_, min, max};
 ghost use lib.ListN.{length};
@@ -173,12 +173,12 @@ fn cut(found: Found, end: u64) -> Found
 }
 
 // The search in a half, from `at` on, where the half's part of the range ends before `end`: passed over if nothing is left of it.
-fn sought_before(s: Sought, at: u64, end: u64) -> Found
-    requires { ⌜ Askable s × (end ≤ halfWord) ⌝ }
-    ensures { λ r. ⌜ r ≡ soughtBefore s at end ⌝ }
+fn sought_before(w: Window, at: u64, end: u64) -> Found
+    requires { ⌜ Askable w × (end ≤ halfWord) ⌝ }
+    ensures { λ r. ⌜ r ≡ soughtBefore w at end ⌝ }
 {
     if at < end {
-        return cut(suspects::next(s, at), end);
+        return cut(suspects::next(w, at), end);
     }
     nowhere(0)
 }
@@ -204,18 +204,18 @@ fn larger(a: u64, b: u64) -> u64
 }
 
 // The first suspect of the range from `at` on, low before high, with the rounds of the searches that lead to it.
-fn ahead(h: Halves, last: u64, at: u64) -> Found
-    requires { ⌜ Searchable h × (last < halfWord) ⌝ }
-    ensures { λ r. ⌜ r ≡ aheadIn h last at ⌝ }
+fn ahead(windows: Windows, last: u64, at: u64) -> Found
+    requires { ⌜ Searchable windows × (last < halfWord) ⌝ }
+    ensures { λ r. ⌜ r ≡ aheadIn windows last at ⌝ }
 {
-    let low = h.low;
-    let lower = sought_before(low, at, smaller(h.first_high, last + 1));
+    let low = windows.low;
+    let lower = sought_before(low, at, smaller(windows.first_high, last + 1));
     let place = lower.place;
     match place {
         Place::At(_) => lower,
         Place::Nowhere => {
-            let high = h.high;
-            let upper = sought_before(high, larger(at, h.first_high), last + 1);
+            let high = windows.high;
+            let upper = sought_before(high, larger(at, windows.first_high), last + 1);
             let found = upper.place;
             Found {
                 place: found,
@@ -300,12 +300,12 @@ fn tried(w: Work, rounds: u64, x: u64, mark: Mark) -> Work
 }
 
 // A step: the next suspect and its trial, or where the call stops, or the end.
-fn step(s: SweepState, h: Halves, cap: u64, size: usize, w: Work) -> Work
-    requires { ⌜ Stepping s h cap size w ⌝ }
+fn step(s: SweepState, windows: Windows, cap: u64, size: usize, w: Work) -> Work
+    requires { ⌜ Stepping s windows cap size w ⌝ }
     ensures { λ r. ⌜ r ≡ stepOf s cap size w ⌝ }
 {
     let f = s.factor;
-    let found = ahead(h, s.last, w.at);
+    let found = ahead(windows, s.last, w.at);
     let rounds = w.rounds + found.rounds;
     let place = found.place;
     match place {
@@ -356,11 +356,11 @@ fn sweep_on(s: SweepState, cap: u64, tail: &mut [u32]) -> Swept
     ensures { λ r. ⌜ (replyOf (SweepAnswer.Accepted r) (now (tail .exit)) ≡ sweepCall engine (viewOf s) (callOf cap (now (tail .entry)) 0)) × (r .place ≤ length (now (tail .entry))) ⌝ }
 {
     let f = s.factor;
-    let h = suspects::prepare(f);
+    let windows = suspects::windows_of(f);
     let size = tail.len();
     let mut w = begun(s);
     while w.going {
-        let next = step(s, h, cap, size, w);
+        let next = step(s, windows, cap, size, w);
         let place = w.place;
         if place < next.place {
             tail[place] = next.word as u32;

@@ -10,7 +10,7 @@ use Rattle.search.specs.declared.Trace.{Trace}
 use Rattle.search.specs.Search.{ceilDiv}
 use Rattle.search.specs.Cases.{start, still, multiple}
 use Rattle.search.specs.Trace.{Below}
-use Rattle.search.specs.Multiples.{ceilDiv-lt}
+use Rattle.search.specs.MultipleLaws.{ceilDiv-lt}
 use Rattle.search.specs.TraceLaws.{wound-at, wound-none, wound-mirror, wound-round, searchWindow-below}
 use Rattle.search.proofs.first_place.Reads as reads
 use Rattle.search.proofs.first_place.Kinds as kinds

@@ -10,7 +10,7 @@ use Rattle.factor.specs.Context.{Context, contextOf, lowerOf}
 use Rattle.factor.specs.SetUp.{Sound}
 use Rattle.wide.specs.Value.{valueOf}
 use Rattle.search.specs.Search.{ceilDiv}
-use Rattle.search.specs.Multiples.{ceilDiv-ge, ceilDiv-le}
+use Rattle.search.specs.MultipleLaws.{ceilDiv-ge, ceilDiv-le}
 use Rattle.suspects.specs.Next.{firstHigh}
 use Rattle.suspects.proofs.first_high.Statement.{statement}
 use Rattle.suspects.proofs.first_high.Tie as tie

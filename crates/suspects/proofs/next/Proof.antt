@@ -8,13 +8,13 @@ use Rattle.search.specs.declared.Place.the-variants.{At, Nowhere}
 use Rattle.search.specs.declared.Found.{Found}
 use Rattle.search.specs.Search.{searchFrom}
 use Rattle.search.specs.SearchLaws.{searchFrom-finds}
-use Rattle.suspects.specs.declared.Sought.{Sought}
+use Rattle.suspects.specs.declared.Window.{Window}
 use Rattle.suspects.specs.Next.{movedBy, foundFrom, nextIn, Askable}
 use Rattle.suspects.proofs.next.Statement.{statement}
 use Rattle.suspects.proofs.next.Tie as tie
 
 -- the search's answer, by what the calls ensure
-module _ (s : Sought) (start : ℕ) {base : ℕ} {f : Found} (counted : base ≡ s .step * start % s .modulus) (searched : f ≡ searchFrom (s .modulus) (s .step) base (s .from) (s .to)) where
+module _ (s : Window) (start : ℕ) {base : ℕ} {f : Found} (counted : base ≡ s .step * start % s .modulus) (searched : f ≡ searchFrom (s .modulus) (s .step) base (s .from) (s .to)) where
   place-below : Askable s → (k : ℕ) → f .place ≡ At k → k < s .modulus
   place-below a k e =
       searchFrom-finds (s .modulus) (s .step) base (s .from) (s .to) (a .window, a .below, a .step-below) (omega (arith, mod-lt (s .step * start) {m = s .modulus} (omega arith)))
@@ -32,7 +32,7 @@ module _ (s : Sought) (start : ℕ) {base : ℕ} {f : Found} (counted : base ≡
 
 find-from-requires : tie.Need-find-from-requires
 find-from-requires c κs =
-    let s = c .before .args .s in
+    let s = c .before .args .w in
     let a = c .before .pre .0 in
     (a .window, a .below, a .step-below, omega (arith, c .remainder .ensures, mod-lt (s .step * c .before .args .start) {m = s .modulus} (omega arith)), a .most)
 
@@ -44,7 +44,7 @@ add-t8 c =
     let k = c .before .place .given in
     omega (
       arith,
-      place-below (a .args .s) (a .args .start) (counted .remainder .ensures) (found .find-from .ensures) (a .pre .0) (k .0 .0) (k .1),
+      place-below (a .args .w) (a .args .start) (counted .remainder .ensures) (found .find-from .ensures) (a .pre .0) (k .0 .0) (k .1),
     )
 
 enum-told : tie.Need-enum-told
@@ -56,14 +56,14 @@ returns c =
     let counted = found .before in
     let a = counted .before .args in
     let k = c .before .place .given in
-    at (a .s) (a .start) (counted .remainder .ensures) (found .find-from .ensures) (k .0 .0) (k .1)
+    at (a .w) (a .start) (counted .remainder .ensures) (found .find-from .ensures) (k .0 .0) (k .1)
 
 returns-2 : tie.Need-returns-2
 returns-2 c =
     let found = c .before .before in
     let counted = found .before in
     let a = counted .before .args in
-    nowhere (a .s) (a .start) (counted .remainder .ensures) (found .find-from .ensures) (c .enum-told .given .1)
+    nowhere (a .w) (a .start) (counted .remainder .ensures) (found .find-from .ensures) (c .enum-told .given .1)
 
 pub next-spec : {M : Type 1} → statement M
 next-spec = tie.close (tie.spec (λ c κs. search needs) find-from-requires (λ c. search needs) add-t8 enum-told returns returns-2)

@@ -35,7 +35,7 @@ returns : tie.Need-returns
 returns c =
     let first = c .before .before in
     let a = first .before .before .before .args in
-    ahead-low (a .h) (a .last) (a .at) (first .before .smaller .ensures) (first .sought-before .ensures) (c .enum-told .given .1)
+    ahead-low (a .windows) (a .last) (a .at) (first .before .smaller .ensures) (first .sought-before .ensures) (c .enum-told .given .1)
 
 returns-2 : tie.Need-returns-2
 returns-2 c =
@@ -43,7 +43,7 @@ returns-2 c =
     let none = second .before .before .before in
     let first = none .before .before in
     let a = first .before .before .before .args in
-    ahead-high (a .h) (a .last) (a .at) (first .before .smaller .ensures) (first .sought-before .ensures) (second .before .larger .ensures) (second .sought-before2 .ensures) (none .enum-told2 .given .1)
+    ahead-high (a .windows) (a .last) (a .at) (first .before .smaller .ensures) (first .sought-before .ensures) (second .before .larger .ensures) (second .sought-before2 .ensures) (none .enum-told2 .given .1)
 
 pub ahead-spec : {M : Type 1} → statement M
 ahead-spec =

@@ -10,7 +10,7 @@ use Rattle.sweep.proofs.sought_before.Tie as tie
 returns : tie.Need-returns
 returns c =
     let a = c .before .before .before .args in
-    let found : c .cut .result ≡ cutAt (a .end) (nextIn (a .s) (a .at)) = c .cut .ensures ∙ ap (cutAt (a .end)) (c .before .next .ensures) in
+    let found : c .cut .result ≡ cutAt (a .end) (nextIn (a .w) (a .at)) = c .cut .ensures ∙ ap (cutAt (a .end)) (c .before .next .ensures) in
     rw (lt-ltb (a .at) (a .end) (c .before .before .if1 .taken)) found
 
 returns-2 : tie.Need-returns-2

@@ -6,7 +6,7 @@ use lib.ListN.{length}
 use borrow.Author.Needs.{needs}
 use Rattle.marks.specs.Answers.{none, First}
 use Rattle.calls.specs.Call.{conditions}
-use Rattle.calls.specs.Refusals.{call-refused}
+use Rattle.calls.specs.RefusalLaws.{call-refused}
 use Rattle.sweep.specs.declared.SweepAnswer.{SweepAnswer}
 use Rattle.sweep.specs.Engine.{engine}
 use Rattle.sweep.specs.Answers.{viewOf, callOf, termsBy, replyOf}

@@ -16,14 +16,14 @@ Inv-loop s cap tail₀ h size w₀ tail w = Working s cap tail₀ w tail
 abbrev μ-loop : tie.MeasureT-loop
 μ-loop s cap tail₀ h size w₀ tail w = stepsLeft s w
 
-prepare-requires : tie.Need-prepare-requires Inv-loop μ-loop
-prepare-requires c κs = let start = c .before .before in work-sound (start .args .s) (start .args .cap) (length (start .args .tail .now)) (start .pre)
+windows-of-requires : tie.Need-windows-of-requires Inv-loop μ-loop
+windows-of-requires c κs = let start = c .before .before in work-sound (start .args .s) (start .args .cap) (length (start .args .tail .now)) (start .pre)
 
 loop-holds : tie.Need-loop-holds Inv-loop μ-loop
 loop-holds c = work-start (c .before .before .before .before .pre) (c .begun .ensures)
 
 step-requires : tie.Need-step-requires Inv-loop μ-loop
-step-requires c κs = let head = c .before in work-steps (head .loop .inv) (c .loop-test .taken) (head .before .before .prepare .ensures)
+step-requires c κs = let head = c .before in work-steps (head .loop .inv) (c .loop-test .taken) (head .before .before .windows-of .ensures)
 
 -- what the step leads to
 module _ (c : tie.After-step Inv-loop μ-loop) where
@@ -82,5 +82,5 @@ returns c =
 
 pub sweep-on-spec : {M : Type 1} → statement M
 sweep-on-spec =
-    tie.close (tie.spec Inv-loop μ-loop prepare-requires (λ c κs. search needs) loop-holds step-requires cast-tail mul-tail slice-write-tail loop-less loop-again loop-less-2 loop-again-2 (λ c κs. search needs)
+    tie.close (tie.spec Inv-loop μ-loop windows-of-requires (λ c κs. search needs) loop-holds step-requires cast-tail mul-tail slice-write-tail loop-less loop-again loop-less-2 loop-again-2 (λ c κs. search needs)
     same-length returns)

@@ -18,11 +18,11 @@ use Rattle.calls.specs.Engine.{Engine, Laws, Lawful}
 use Rattle.calls.specs.Call.{conditions, ahead, Run, stopped, searched, run, handed, runOf, sweepCall}
 use Rattle.calls.specs.Plain.{tries}
 use Rattle.calls.specs.ByRow.{rowAhead}
-use Rattle.calls.specs.Rows.{row-ascends, ascends-few}
-use Rattle.calls.specs.Refusals.{Ready, ready}
-use Rattle.calls.specs.Lists.{entries-append, entries-fit, room-less, sets-append}
-use Rattle.calls.specs.Runs.{ahead-found, run-is, rounds-few}
-use Rattle.calls.specs.Tries.{listed-few, tries-within}
+use Rattle.calls.specs.RowLaws.{row-ascends, ascends-few}
+use Rattle.calls.specs.RefusalLaws.{Ready, ready}
+use Rattle.calls.specs.ListLaws.{entries-append, entries-fit, room-less, sets-append}
+use Rattle.calls.specs.RunLaws.{ahead-found, run-is, rounds-few}
+use Rattle.calls.specs.TrialLaws.{listed-few, tries-within}
 
 -- What a call does, `all`, is what is done so far, with its trials, its rounds, the next free place and the list as it is, and then `rest`.
 pub record Going (l : Listing) (c : Call) (all : Run) (trials rounds place : ℕ) (list : List ℕ) (rest : Run) : Type 0 where
@@ -130,7 +130,7 @@ module _ {F : Type 0} {suspect : F → ℕ → Bool} {e : Engine F} {B : F → �
         let n = tries-within (e .mark f) (c .cap) free (rowAhead suspect s) in
         let m = ascends-few (s .next) (suc (s .last)) (rowAhead suspect s) (row-ascends (suspect f) (s .next) (suc (s .last))) in
         let u : k + 2 ≤ suc (s .last) - s .next + 2 = omega arith in
-        let all : runOf e s c .rounds ≤ B f * (k + 2) = rw (run-is laws (c .cap) free (s .next) i) (rounds-few laws (s .next) k i) in
+        let all : runOf e s c .rounds ≤ B f * (k + 2) = rw (run-is laws (c .cap) free (s .next) i) (rounds-few laws (s .next) k i n) in
         let step = run-rounds e f (s .last) (c .cap - trials) room a in
         omega (arith, l .going .turned, mul-le-mul-left (B f) u)
 

@@ -1,77 +1,27 @@
 -- Laws: what a call does by searches is what the row of suspects says, and its rounds are few. Assumes nothing.
 use mathlib.Core.Path.{_≡_, refl, sym, ap, _∙_}
-use mathlib.Core.Bool.{Bool, true, false, false≢true, _&&_}
+use mathlib.Core.Bool.{Bool, true, false}
 use mathlib.Core.List.{List, [], _∷_, _++_}
-use Prim.Native.Nat.{ℕ, zero, suc, _+_, _-_, _*_, _≤_, _<_, min}
+use Prim.Native.Nat.{ℕ, zero, suc, _+_, _-_, _*_, _≤_, _<_}
 use native.Mathlib.Omega.{arith}
 use native.Mathlib.Nat.{add-zero, zero-add, mul-add, mul-suc, mul-le-mul-left}
 use native.Mathlib.Decide.{decLe, decLt}
-use borrow.Author.Tests.{lt-ltb, le-ltb, le-leb, lt-leb, ltb-true, leb-true}
-use lib.Dec.{leb, ltb}
+use borrow.Author.Tests.{lt-ltb, le-ltb, lt-leb, leb-true}
+use lib.Dec.{leb}
 use lib.ListN.{length, length-append}
 use Rattle.search.specs.declared.Place.{Place}
 use Rattle.search.specs.declared.Place.the-variants.{At, Nowhere}
 use Rattle.search.specs.declared.Found.{Found}
-use Rattle.calls.specs.Engine.{Half, low, high, lowEnd, Engine, Least, Laws}
+use Rattle.search.specs.Finds.{LeastFrom}
+use Rattle.calls.specs.Engine.{Half, low, high, lowEnd, Engine, Laws}
 use Rattle.calls.specs.State.{listed}
 use Rattle.calls.specs.Call.{within, sought, orElse, highStart, ahead, Run, stopped, tried, searched, run}
 use Rattle.calls.specs.Plain.{keep, row, notRight, tries, wordsOf}
-use Rattle.calls.specs.ByRow.{headOf, pastLow, entered, legs, starts, roundsFrom, rowRun}
+use Rattle.calls.specs.ByRow.{headOf, entered, legs, starts, roundsFrom, rowRun}
 use Rattle.calls.specs.Whole.{Ascends}
-use Rattle.calls.specs.Tries.{listed-length, no-cap, no-place}
-use Rattle.calls.specs.Rows.{row-empty, row-at, row-none, row-skip, row-split, row-ascends, begins}
-
--- ---- the legs from a to the first suspect from a on; h is the first high significand
-
-entered-not : (h last a : ℕ) (p : Place) → (a < h → h ≤ last → pastLow h p ≡ false) → entered h last a p ≡ false
-entered-not h last a p q = go (decLt a h) (decLe h last)
-  where
-    go : Dec (a < h) → Dec (h ≤ last) → entered h last a p ≡ false
-    go (no k) d = rw (le-ltb a h (omega arith))
-    go (yes k) (no m) = rw (lt-ltb a h k, lt-leb h last (omega arith))
-    go (yes k) (yes m) = rw (lt-ltb a h k, le-leb h last m) (q k m)
-
-entered-means : (h last a : ℕ) (p : Place) → entered h last a p ≡ true → (a < h) × (h ≤ last)
-entered-means h last a p = go (ltb a h) refl (leb h last) refl
-  where
-    go : (t : Bool) → ltb a h ≡ t → (u : Bool) → leb h last ≡ u → t && u && pastLow h p ≡ true → (a < h) × (h ≤ last)
-    go true i true j q = (ltb-true a h i, leb-true h last j)
-    go true i false j q = absurd (false≢true q)
-    go false i u j q = absurd (false≢true q)
-
-legs-over : (h last a : ℕ) (p : Place) → last < a → legs h last a p ≡ []
-legs-over h last a p k = rw (lt-leb a last k, entered-not h last a p (λ u v. absurd (omega arith)))
-
-legs-one : (h last a : ℕ) (p : Place) → a ≤ last → (a < h → h ≤ last → pastLow h p ≡ false) → legs h last a p ≡ a ∷ []
-legs-one h last a p k q = rw (le-leb a last k, entered-not h last a p q)
-
-legs-two : (h last a : ℕ) (p : Place) → a < h → h ≤ last → pastLow h p ≡ true → legs h last a p ≡ a ∷ h ∷ []
-legs-two h last a p k m q = rw (le-leb a last (omega arith), lt-ltb a h k, le-leb h last m, q)
-
-keep-few : (t : Bool) (x : ℕ) (l : List ℕ) → length (keep t x l) ≤ 1 + length l
-keep-few true x l = omega arith
-keep-few false x l = omega arith
-
--- one search, and one more if a is low
-legs-few : (h last a : ℕ) (p : Place) → length (legs h last a p) ≤ 1 + min 1 (h - a)
-legs-few h last a p = go (decLt a h)
-  where
-    go : Dec (a < h) → length (legs h last a p) ≤ 1 + min 1 (h - a)
-    go (yes k) = omega (arith, keep-few (leb a last) a (keep (entered h last a p) h []), keep-few (entered h last a p) h [])
-    go (no k) = rw (entered-not h last a p (λ u v. absurd (omega arith))) (omega (arith, keep-few (leb a last) a []))
-
--- one search for each trial and one past them, and one more if the call begins at a low significand
-starts-few : (h last a k : ℕ) (l : List ℕ) → Ascends a (suc last) l → length (starts h last a k l) ≤ k + 1 + min 1 (h - a)
-unfolding starts
-starts-few h last a k [] r = omega (arith, legs-few h last a Nowhere)
-starts-few h last a zero (x ∷ l) r = omega (arith, legs-few h last a (At x))
-starts-few h last a (suc k) (x ∷ l) r = go (decLt a h) (decLe h x) (starts-few h last (suc x) k l (r .2))
-  where
-    go : Dec (a < h) → Dec (h ≤ x) → length (starts h last (suc x) k l) ≤ k + 1 + min 1 (h - suc x)
-        → length (legs h last a (At x) ++ starts h last (suc x) k l) ≤ suc k + 1 + min 1 (h - a)
-    go (yes p) (yes q) ih = rw (legs-two h last a (At x) p (omega arith) (le-leb h x q)) (omega arith)
-    go (yes p) (no q) ih = rw (legs-one h last a (At x) (omega arith) (λ u v. lt-leb h x (omega arith))) (omega arith)
-    go (no p) d ih = rw (legs-one h last a (At x) (omega arith) (λ u v. absurd (omega arith))) (omega arith)
+use Rattle.calls.specs.TrialLaws.{listed-length, no-cap, no-place}
+use Rattle.calls.specs.RowLaws.{row-empty, row-at, row-none, row-skip, row-split, row-ascends, begins}
+use Rattle.calls.specs.StartLaws.{entered-means, legs-over, legs-one, legs-two, past-low, starts-few}
 
 -- ---- what needs no law of the factor
 
@@ -90,7 +40,7 @@ module _ {F : Type 0} (e : Engine F) (f : F) where
       rw (passed low a (lowEnd (e .firstHigh f) last) (omega arith), passed high (highStart (e .firstHigh f) a) (suc last) (omega arith))
 
 -- the least suspect is the head of the row
-within-head : (suspect : ℕ → Bool) (end a : ℕ) (p : Place) → Least suspect end a p → within end p ≡ headOf (row suspect a end)
+within-head : (suspect : ℕ → Bool) (end a : ℕ) (p : Place) → LeastFrom suspect end a p → within end p ≡ headOf (row suspect a end)
 within-head suspect end a Nowhere l = rw (row-none suspect a end l)
 within-head suspect end a (At X) l = go (decLt X end)
   where
@@ -102,14 +52,6 @@ within-head suspect end a (At X) l = go (decLt X end)
           row-at suspect X end k (l .1 k),
         )
     go (no k) = rw (le-ltb X end (omega arith), row-none suspect a end (λ Y u v. l .2 Y u (omega arith) v))
-
--- the row from the first high significand on shows that the low half is passed
-past-low : (suspect : ℕ → Bool) (h b : ℕ) → pastLow h (headOf (row suspect h b)) ≡ true
-past-low suspect h b = go (row suspect h b) refl
-  where
-    go : (l : List ℕ) → row suspect h b ≡ l → pastLow h (headOf l) ≡ true
-    go [] q = refl
-    go (x ∷ l) q = le-leb h x (begins suspect h b 0 x l q .from)
 
 module _ {F : Type 0} {suspect : ℕ → Bool} {e : Engine F} {f : F} {B first last : ℕ} (laws : Laws suspect e f B first last) where
   abbrev h : ℕ
@@ -125,7 +67,7 @@ module _ {F : Type 0} {suspect : ℕ → Bool} {e : Engine F} {f : F} {B first l
   abbrev to : ℕ → List ℕ → Found
   to a l = record { place = headOf l; rounds = roundsFrom e f (legs h last a (headOf l)) }
 
-  found-in : (half : Half) (a end : ℕ) → a < end → Least suspect end a (e .find f half a .place)
+  found-in : (half : Half) (a end : ℕ) → a < end → LeastFrom suspect end a (e .find f half a .place)
       → sought e f half a end ≡ record { place = headOf (row suspect a end); rounds = e .find f half a .rounds }
   found-in half a end k l = rw (lt-ltb a end k, within-head suspect end a (e .find f half a .place) l)
 
@@ -184,7 +126,7 @@ module _ {F : Type 0} {suspect : ℕ → Bool} {e : Engine F} {f : F} {B first l
           → orElse (headOf l) (record { place = headOf l; rounds = e .find f low a .rounds }) (record { place = headOf (rowFrom h); rounds = e .find f high h .rounds }) ≡ to a (l ++ rowFrom h)
       go [] q =
           rw (
-            legs-two h last a (headOf (rowFrom h)) k j (past-low suspect h (suc last)),
+            legs-two h last a (headOf (rowFrom h)) k j (past-low suspect h h (suc last) 0 (omega arith)),
             lt-ltb a h k,
             le-ltb h h (omega arith),
             add-zero (e .find f high h .rounds),
@@ -268,9 +210,6 @@ module _ {F : Type 0} {suspect : ℕ → Bool} {e : Engine F} {f : F} {B first l
       (omega (arith, legs-rounds a (At x) i, starts-rounds (suc x) k l (omega arith) (r .2)))
 
   -- The rounds of a call from a on that tries k are at most B for each trial and two more.
-  pub rounds-few : (a k : ℕ) → first ≤ a → roundsFrom e f (starts h last a k (rowFrom a)) ≤ B * (k + 2)
-  rounds-few a k i =
-      let up = row-ascends suspect a (suc last) in
-      let n = starts-few h last a k (rowFrom a) up in
-      let m : length (starts h last a k (rowFrom a)) ≤ k + 2 = omega arith in
-      omega (arith, starts-rounds a k (rowFrom a) i up, mul-le-mul-left B m)
+  pub rounds-few : (a k : ℕ) → first ≤ a → k ≤ length (rowFrom a) → roundsFrom e f (starts h last a k (rowFrom a)) ≤ B * (k + 2)
+  rounds-few a k i fits =
+      omega (arith, starts-rounds a k (rowFrom a) i (row-ascends suspect a (suc last)), mul-le-mul-left B (starts-few suspect h last a k fits))

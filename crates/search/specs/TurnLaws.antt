@@ -6,7 +6,7 @@ use native.Mathlib.Omega.{arith}
 use Rattle.search.specs.Search.{ceilDiv, negMod}
 use Rattle.search.specs.Cases.{Between}
 use Rattle.search.specs.Winding.{Meets}
-use Rattle.search.specs.Multiples.{ceilDiv-ge, ceilDiv-le}
+use Rattle.search.specs.MultipleLaws.{ceilDiv-ge, ceilDiv-le}
 
 -- Mirrored, a place is met with the steps, less one, that its winding leaves. (The mirror of s, l and r is t, k and n.)
 pub mirror-meets :

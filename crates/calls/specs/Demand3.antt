@@ -16,11 +16,11 @@ use Rattle.calls.specs.Engine.{Engine, Laws, Lawful}
 use Rattle.calls.specs.Call.{ReplyOf, newState, sweepCall}
 use Rattle.calls.specs.Plain.{wordsOf, Fed, Plain, begun, untried, stateOf, plains, plainAfter}
 use Rattle.calls.specs.Whole.{sweeps, stateAfter, Each, trialsIn, wordsIn, acceptedIn, endOf, fedBy, Whole}
-use Rattle.calls.specs.One.{list-kept, rounds-right, ample}
-use Rattle.calls.specs.Same.{sweeps-same, after-same}
-use Rattle.calls.specs.Sums.{trials-add, words-join}
-use Rattle.calls.specs.Finish.{AllRoomy, Count, counted, closes}
-use Rattle.calls.specs.Words.{holds, stop-from, words-before}
+use Rattle.calls.specs.CallLaws.{list-kept, capped, searches-right, rounds-right, ample}
+use Rattle.calls.specs.SameLaws.{sweeps-same, after-same}
+use Rattle.calls.specs.SumLaws.{trials-add, words-join}
+use Rattle.calls.specs.FinishLaws.{AllRoomy, Count, counted, closes}
+use Rattle.calls.specs.WordLaws.{holds, stop-from, words-before}
 
 -- What holds of a call on every state holds of each call of a list.
 pub each : {S : Type 0} (P : S → Call → ReplyOf S → Type 0) (call : S → Call → ReplyOf S) → ((s : S) (c : Call) → P s c (call s c)) → (s : S) (calls : List Call)
@@ -100,6 +100,8 @@ module _ {F : Type 0} {suspect : F → ℕ → Bool} {e : Engine F} {B : F → �
             (λ h. finished-alike ∙ closes (count 1 (roomy-one (w .listing) calls)) (h .0) (λ u v. omega (arith, trials-are))),
           );
           latest = λ h. finished-by 1 (roomy-one (w .listing) calls) (omega arith) (omega (arith, mul-one n));
+          capped = each _ (sweepCall e) (capped lawful) s calls;
+          searches = each _ (sweepCall e) (searches-right lawful) s calls;
           rounds = each _ (sweepCall e) (rounds-right lawful) s calls;
           ample = each _ (sweepCall e) (ample lawful) s calls;
         }

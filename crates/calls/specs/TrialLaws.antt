@@ -41,6 +41,14 @@ tries-within mark zero f (x ∷ l) = omega arith
 tries-within mark (suc c) zero (x ∷ l) = omega arith
 tries-within mark (suc c) (suc f) (x ∷ l) = omega (arith, tries-within mark c (suc f - notRight (mark x)) l)
 
+-- A call tries no more than its cap.
+pub tries-capped : (mark : ℕ → Mark) (c f : ℕ) (l : List ℕ) → tries mark c f l ≤ c
+unfolding tries
+tries-capped mark c f [] = omega arith
+tries-capped mark zero f (x ∷ l) = omega arith
+tries-capped mark (suc c) zero (x ∷ l) = omega arith
+tries-capped mark (suc c) (suc f) (x ∷ l) = omega (arith, tries-capped mark c (suc f - notRight (mark x)) l)
+
 -- A call tries as many as the cap, the places and the row all allow.
 pub tries-ample : (mark : ℕ → Mark) (m c f : ℕ) (l : List ℕ) → m ≤ c → m ≤ f → m ≤ length l → m ≤ tries mark c f l
 unfolding tries

@@ -14,11 +14,11 @@ use Rattle.calls.specs.Call.{conditions, handed, replied, sweepCall}
 use Rattle.calls.specs.Plain.{row, tries, wordsOf, Fed, fed, Plain, begun, untried, moved, plainReplied, plainRefusal, plainCall, Seen, stateOf, plainNext, plains, plainAfter}
 use Rattle.calls.specs.ByRow.{headOf, rowRun}
 use Rattle.calls.specs.Whole.{seen, sweeps, stateAfter}
-use Rattle.calls.specs.Rows.{begins}
-use Rattle.calls.specs.Refusals.{ready}
-use Rattle.calls.specs.Tries.{words-fit}
-use Rattle.calls.specs.Lists.{entries-fit, read-back}
-use Rattle.calls.specs.One.{by-row}
+use Rattle.calls.specs.RowLaws.{begins}
+use Rattle.calls.specs.RefusalLaws.{ready}
+use Rattle.calls.specs.TrialLaws.{words-fit}
+use Rattle.calls.specs.ListLaws.{entries-fit, read-back}
+use Rattle.calls.specs.CallLaws.{by-row}
 
 -- What the plain sweep is, wherever calls lead it: in range, and with the row from its next significand on untried.
 pub record Reached {F : Type 0} (suspect : ℕ → Bool) (w : Fed F) (p : Plain) : Type 0 where

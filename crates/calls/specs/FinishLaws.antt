@@ -11,8 +11,8 @@ use Rattle.calls.specs.State.{Call, termsOf, Listing, roomIn}
 use Rattle.calls.specs.Engine.{ListingLaws}
 use Rattle.calls.specs.Plain.{tries, Fed, Plain, begun, untried, moved, plainReplied, plainRefusal, plainCall, plainNext, plains, plainAfter}
 use Rattle.calls.specs.Whole.{acceptedTold, acceptedIn}
-use Rattle.calls.specs.Refusals.{taken}
-use Rattle.calls.specs.Tries.{tries-within, tries-ample}
+use Rattle.calls.specs.RefusalLaws.{taken}
+use Rattle.calls.specs.TrialLaws.{tries-within, tries-ample}
 
 -- A call that may be accepted has a cap and room of at least m.
 abbrev pub Roomy : Listing → ℕ → Call → Type 0

@@ -13,7 +13,7 @@ use Rattle.marks.specs.declared.Mark.the-variants.{Right, Open, Wrong}
 use Rattle.calls.specs.State.{listed}
 use Rattle.calls.specs.Plain.{spanOf, span, row, wordsOf}
 use Rattle.calls.specs.Whole.{endOf, WordOf, Listed, Ascends, Holds}
-use Rattle.calls.specs.Rows.{span-empty, span-cons, ascends-from, row-empty, row-at, row-next, begins}
+use Rattle.calls.specs.RowLaws.{span-empty, span-cons, ascends-from, row-empty, row-at, row-next, begins}
 
 -- ---- the words ascend, so that none stands twice
 

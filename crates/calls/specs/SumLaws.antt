@@ -9,8 +9,8 @@ use lib.Seq.{take-add}
 use Rattle.marks.specs.Answers.{Refusal, number, none}
 use Rattle.calls.specs.State.{Call, termsOf, entries, roomIn}
 use Rattle.calls.specs.Plain.{tries, wordsOf, Fed, Plain, untried, moved, plainReplied, plainRefusal, plainCall, plainNext, plains, plainAfter}
-use Rattle.calls.specs.Tries.{words-append}
-use Rattle.calls.specs.Lists.{entries-append}
+use Rattle.calls.specs.TrialLaws.{words-append}
+use Rattle.calls.specs.ListLaws.{entries-append}
 use Rattle.calls.specs.Whole.{trialsTold, wordsTold, trialsIn, wordsIn}
 
 moved-tried : (last t : ℕ) (l : List ℕ) → moved last t l .tried ≡ t

@@ -1,20 +1,28 @@
--- Laws of one call, on every state: it is the one read off the row of suspects; what it does to the list; its rounds; how many it tries at least. Assumes nothing.
-use mathlib.Core.Path.{_≡_, refl, ap}
+-- Laws of one call, on every state: it is the one read off the row of suspects; what it does to the list; its searches and rounds; how many it tries at most and at least. Assumes nothing.
+use mathlib.Core.Path.{_≡_, refl, sym, ap, _∙_}
 use mathlib.Core.Bool.{Bool}
-use Prim.Native.Nat.{ℕ, min}
+use Prim.Native.Nat.{ℕ, _≤_, min}
 use native.Mathlib.Omega.{arith}
-use lib.ListN.{length}
+use lib.ListN.{length, drop}
 use Rattle.marks.specs.Answers.{Refusal, number, none, judged}
+use Rattle.search.specs.declared.Place.{Place}
+use Rattle.search.specs.declared.Place.the-variants.{At, Nowhere}
 use Rattle.calls.specs.State.{State, Call, termsOf, Listing, entries, roomIn}
 use Rattle.calls.specs.Engine.{Engine, Laws, Lawful}
-use Rattle.calls.specs.Call.{conditions, Run, runOf, replied, sweepCall}
+use Rattle.calls.specs.Call.{conditions, Run, handed, runOf, replied, sweepCall}
 use Rattle.calls.specs.Plain.{tries}
-use Rattle.calls.specs.ByRow.{rowRun, rowAhead, rowCall}
-use Rattle.calls.specs.Whole.{IfAccepted, ListKept, RoundsRight, Ample}
-use Rattle.calls.specs.Runs.{run-is, rounds-few}
-use Rattle.calls.specs.Refusals.{Ready, ready}
-use Rattle.calls.specs.Tries.{tries-ample, words-fit}
-use Rattle.calls.specs.Lists.{entries-fit, tail-kept}
+use Rattle.calls.specs.ByRow.{headOf, searchesOf, rowRun, rowAhead, rowCall}
+use Rattle.calls.specs.Whole.{IfAccepted, ListKept, stopOf, SearchesRight, RoundsRight, Capped, Ample}
+use Rattle.calls.specs.StartLaws.{searches-are}
+use Rattle.calls.specs.RunLaws.{run-is, rounds-few}
+use Rattle.calls.specs.RefusalLaws.{Ready, ready}
+use Rattle.calls.specs.TrialLaws.{tries-within, tries-capped, tries-ample, words-fit}
+use Rattle.calls.specs.ListLaws.{entries-fit, tail-kept}
+
+-- The state that is handed back tells where a call stopped.
+pub stop-is : {F : Type 0} (s : State F) (p : Place) → stopOf (handed s p) ≡ p
+stop-is s (At X) = refl
+stop-is s Nowhere = refl
 
 module _ {F : Type 0} {suspect : F → ℕ → Bool} {e : Engine F} {B : F → ℕ} (lawful : Lawful suspect e B) (s : State F) (c : Call) where
   abbrev l : Listing
@@ -54,6 +62,28 @@ module _ {F : Type 0} {suspect : F → ℕ → Bool} {e : Engine F} {B : F → �
           let w = words-fit (e .mark (s .factor)) (c .cap) room (rowAhead suspect s) in
           tail-kept c (entries l (byRow .words)) (omega (arith, r .takes .places, r .lists .some, entries-fit (r .lists) (length (c .list)) (c .free) (byRow .words) w))
 
+  -- no more are tried than are left
+  within : trials ≤ length (rowAhead suspect s)
+  within = tries-within (e .mark (s .factor)) (c .cap) room (rowAhead suspect s)
+
+  -- An accepted call's searches are as many as document 01 has it.
+  pub searches-right : IfAccepted (SearchesRight suspect e s (sweepCall e s c .state)) (sweepCall e s c .answer)
+  searches-right = rw by-row (go (judged (conditions e s (termsOf c))))
+    where
+      go : (v : Refusal) → IfAccepted (SearchesRight suspect e s (replied l s c v byRow .state)) (replied l s c v byRow .answer)
+      go (number n) = tt
+      go none =
+          searches-are (suspect (s .factor)) (e .firstHigh (s .factor)) (s .last) trials (s .next) within
+          ∙ ap (searchesOf (suspect (s .factor)) (e .firstHigh (s .factor)) (s .last) (s .next) trials) (sym (stop-is s (headOf (drop trials (rowAhead suspect s)))))
+
+  -- It tries at most its cap.
+  pub capped : IfAccepted (Capped c) (sweepCall e s c .answer)
+  capped = rw by-row (go (judged (conditions e s (termsOf c))))
+    where
+      go : (v : Refusal) → IfAccepted (Capped c) (replied l s c v byRow .answer)
+      go (number n) = tt
+      go none = tries-capped (e .mark (s .factor)) (c .cap) room (rowAhead suspect s)
+
   -- An accepted call's rounds are those of its searches, by their starts, and few.
   pub rounds-right : IfAccepted (RoundsRight suspect e B s) (sweepCall e s c .answer)
   rounds-right = rw by-row (go (judged (conditions e s (termsOf c))) refl)
@@ -64,7 +94,7 @@ module _ {F : Type 0} {suspect : F → ℕ → Bool} {e : Engine F} {B : F → �
           let r = ready lawful s (termsOf c) q in
           record {
             are = refl;
-            few = rounds-few (laws-of r) (s .next) trials (r .from);
+            few = rounds-few (laws-of r) (s .next) trials (r .from) within;
           }
 
   -- An accepted call tries at least the smallest of cap, room and suspects left.

@@ -1,7 +1,8 @@
--- Laws of the row of suspects: where it begins, how it is split, and that it ascends. Assumes nothing.
+-- Laws of the row of suspects: where it begins, how it is split, that it ascends, and that it holds exactly the suspects. Assumes nothing.
 use mathlib.Core.Path.{_≡_, refl, sym, _∙_}
 use mathlib.Core.Bool.{Bool, true, false}
-use mathlib.Core.List.{List, [], _∷_, _++_}
+use mathlib.Core.Logic.{_⊎_, inl, inr, _↔_}
+use mathlib.Core.List.{List, [], _∷_, _++_, List·Memᴰ, List·Memᴰ·head, List·Memᴰ·tail, List·Memᴰ·cases-cons, List·Memᴰ·not-nil}
 use Prim.Native.Nat.{ℕ, zero, suc, _+_, _-_, _≤_, _<_}
 use native.Mathlib.Omega.{arith}
 use native.Mathlib.Decide.{decLt}
@@ -125,6 +126,72 @@ module _ (suspect : ℕ → Bool) where
   -- A row ascends within its bounds.
   pub row-ascends : (a b : ℕ) → Ascends a b (row suspect a b)
   row-ascends a b = ascends-of b a b (omega arith)
+
+  -- X is a suspect from a up to but not including b
+  abbrev Inside : (a b X : ℕ) → Type 0
+  Inside a b X = (a ≤ X) × (X < b) × (suspect X ≡ true)
+
+  inside-of : (n a b X : ℕ) → b ≤ a + n → List·Memᴰ X (row suspect a b) → Inside a b X
+  inside-of zero a b X h m = absurd (List·Memᴰ·not-nil (rw (row-empty a b (omega arith)) at m))
+  inside-of (suc n) a b X h m = go (decLt a b) (inside-of n (suc a) b X (omega arith))
+    where
+      up : Inside (suc a) b X → Inside a b X
+      up r = (omega arith, r .1, r .2)
+
+      first : a < b → suspect a ≡ true → (List·Memᴰ X (row suspect (suc a) b) → Inside (suc a) b X) → (X ≡ a) ⊎ List·Memᴰ X (row suspect (suc a) b) → Inside a b X
+      first k s ih (inl e) = rw e (omega arith, k, s)
+      first k s ih (inr r) = up (ih r)
+
+      by : (t : Bool) → suspect a ≡ t → a < b → (List·Memᴰ X (row suspect (suc a) b) → Inside (suc a) b X) → Inside a b X
+      by true s k ih = first k s ih (List·Memᴰ·cases-cons (rw (row-at a b k s) at m))
+      by false s k ih = up (ih (rw (row-next a b k s) at m))
+
+      go : Dec (a < b) → (List·Memᴰ X (row suspect (suc a) b) → Inside (suc a) b X) → Inside a b X
+      go (yes k) ih = by (suspect a) refl k ih
+      go (no k) ih = absurd (List·Memᴰ·not-nil (rw (row-empty a b (omega arith)) at m))
+
+  of-inside : (n a b X : ℕ) → b ≤ a + n → Inside a b X → List·Memᴰ X (row suspect a b)
+  of-inside zero a b X h r = absurd (omega arith)
+  of-inside (suc n) a b X h r = go (decLt a X) (λ k. of-inside n (suc a) b X (omega arith) (k, r .1, r .2))
+    where
+      by : (t : Bool) → suspect a ≡ t → List·Memᴰ X (row suspect (suc a) b) → List·Memᴰ X (row suspect a b)
+      by true s m = rw (row-at a b (omega arith) s) (List·Memᴰ·tail m)
+      by false s m = rw (row-next a b (omega arith) s) m
+
+      go : Dec (a < X) → (a < X → List·Memᴰ X (row suspect (suc a) b)) → List·Memᴰ X (row suspect a b)
+      go (yes k) ih = by (suspect a) refl (ih k)
+      go (no k) ih =
+          let e : X ≡ a = omega arith in
+          rw (row-at a b (omega arith) (rw e at (r .2))) (List·Memᴰ·head e)
+
+  -- A row holds exactly the suspects within its bounds.
+  pub row-exactly : (a b X : ℕ) → List·Memᴰ X (row suspect a b) ↔ ((a ≤ X) × (X < b) × (suspect X ≡ true))
+  row-exactly a b X = (inside-of b a b X (omega arith), of-inside b a b X (omega arith))
+
+  no-suspect : (X : ℕ) → (suspect X ≡ true → ⊥) → suspect X ≡ false
+  no-suspect X q = go (suspect X) refl
+    where
+      go : (t : Bool) → suspect X ≡ t → t ≡ false
+      go true e = absurd (q e)
+      go false e = refl
+
+  -- Where a row is empty, there is no suspect.
+  pub row-clear : (a b X : ℕ) → row suspect a b ≡ [] → a ≤ X → X < b → suspect X ≡ false
+  row-clear a b X e h k = no-suspect X (λ s. List·Memᴰ·not-nil (rw e at (row-exactly a b X .1 (h, k, s))))
+
+  -- The first of a row is a suspect.
+  pub first-suspect : (a b x : ℕ) (l : List ℕ) → row suspect a b ≡ x ∷ l → suspect x ≡ true
+  first-suspect a b x l e = row-exactly a b x .0 (rw e (List·Memᴰ·head refl)) .2
+
+  -- Before it there is none.
+  pub first-clear : (a b x : ℕ) (l : List ℕ) → row suspect a b ≡ x ∷ l → (X : ℕ) → a ≤ X → X < x → suspect X ≡ false
+  first-clear a b x l e X h k =
+      let z = begins a b 0 x l e in
+      no-suspect X (λ s. go (List·Memᴰ·cases-cons (rw e at (row-exactly a b X .1 (h, omega (arith, z .below), s)))) (z .rest))
+    where
+      go : (X ≡ x) ⊎ List·Memᴰ X l → l ≡ row suspect (suc x) b → ⊥
+      go (inl q) r = omega arith
+      go (inr m) r = let y = row-exactly (suc x) b X .0 (rw (← r) m) in omega arith
 
 -- What ascends from a up to b has at most as many as lie there.
 pub ascends-few : (a b : ℕ) (l : List ℕ) → Ascends a b l → length l ≤ b - a

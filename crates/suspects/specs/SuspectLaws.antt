@@ -23,7 +23,7 @@ use Rattle.product.specs.Marks.{mark}
 use Rattle.product.specs.ProductLaws.{product-is}
 use Rattle.product.specs.MarkLaws.{mark-units, right-units}
 use Rattle.suspects.specs.Suspects.{windowW, widening, isLow, halfStep, midpoint, Suspect, inWindow, isSuspect}
-use Rattle.suspects.specs.Right.{ends-alike, product-alike}
+use Rattle.suspects.specs.RightLaws.{ends-alike, product-alike}
 
 -- ---- an odd multiple of h strictly between N - W and N + W + D, by the remainder of N modulo 2 * h
 module _ (N h W D : ℕ) (H : 0 < h) (room : W + D ≤ h) where

@@ -1,4 +1,4 @@
--- `suspects::sought_in` is what is sought in a half: with an accepted factor the window fits. Assumes nothing.
+-- `suspects::window_in` is the window of a half: with an accepted factor the window fits. Assumes nothing.
 use mathlib.Core.Path.{_≡_, ap, _∙_}
 use Prim.Native.Nat.{ℕ, suc, _+_, _-_, _*_, _^_, _≤_, _<_}
 use native.Mathlib.Nat.{pow-succ'}
@@ -10,10 +10,10 @@ use Rattle.factor.specs.Context.{Context, contextOf, lowerOf, upperOf}
 use Rattle.factor.specs.SetUp.{Sound}
 use Rattle.wide.specs.Value.{wordBits, halfWord}
 use Rattle.suspects.specs.Suspects.{windowW, widening}
-use Rattle.suspects.specs.Next.{soughtNear}
-use Rattle.suspects.specs.Asked.{fits}
-use Rattle.suspects.proofs.sought_in.Statement.{statement}
-use Rattle.suspects.proofs.sought_in.Tie as tie
+use Rattle.suspects.specs.Next.{windowNear}
+use Rattle.suspects.specs.WindowLaws.{fits}
+use Rattle.suspects.proofs.window_in.Statement.{statement}
+use Rattle.suspects.proofs.window_in.Tie as tie
 
 -- with the powers as the calls ensure them
 module _ (f : Factor) (sound : Sound f) {power : ℕ} (is : power ≡ 2 ^ f .precision .bits) where
@@ -42,8 +42,8 @@ mul-widening c =
     let start = c .before .before .before .before .before in
     omega (arith, rw (start .pre .0 .precision .scale) at (fits (start .args .f) (start .pre .0)), widened (start .args .f) (start .pre .0) (c .power2 .ensures))
 
-sought-near-requires : tie.Need-sought-near-requires
-sought-near-requires c κs =
+window-near-requires : tie.Need-window-near-requires
+window-near-requires c κs =
     let window = c .before .before .before in
     let start = window .before .before .before in
     window-fits (start .args .f) (start .pre .0) (c .before .power2 .ensures) (window-is window) (c .power3 .ensures) (start .pre .1) (start .pre .2)
@@ -56,8 +56,8 @@ returns c =
     let w = window-is window in
     let p = half .before .power2 .ensures in
     let h = half .power3 .ensures in
-    c .sought-near .ensures ∙ λ i. soughtNear (f .lower) (h i) (w i) ((f .upper - f .lower) * p i)
+    c .window-near .ensures ∙ λ i. windowNear (f .lower) (h i) (w i) ((f .upper - f .lower) * p i)
 
-pub sought-in-spec : {M : Type 1} → statement M
-sought-in-spec =
-    tie.close (tie.spec (λ c κs. search needs) power-requires (λ c. search needs) (λ c κs. search needs) mul-widening (λ c. search needs) (λ c κs. search needs) sought-near-requires returns)
+pub window-in-spec : {M : Type 1} → statement M
+window-in-spec =
+    tie.close (tie.spec (λ c κs. search needs) power-requires (λ c. search needs) (λ c κs. search needs) mul-widening (λ c. search needs) (λ c κs. search needs) window-near-requires returns)
