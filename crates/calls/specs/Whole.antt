@@ -1,4 +1,4 @@
--- Definitions: lists of sweep calls (document 01, "Whole sweeps"), and demand 3 as one record. What stands in quotes is document 01's or the demand's.
+-- Definitions: lists of sweep calls (document 01, "Whole sweeps"), and demand 3 as one record. Demand 3 is in its own words; what stands in quotes is document 01's.
 use mathlib.Core.Path.{_≡_}
 use mathlib.Core.Bool.{Bool, true, cond}
 use mathlib.Core.Logic.{_⊎_, _↔_}
@@ -169,28 +169,28 @@ plainEnd suspect e s calls = plainAfter (fedBy suspect e s) (begun (fedBy suspec
 
 -- ---- demand 3
 
--- "For every list of sweep calls from a new state, refused ones included, whatever their caps, lists and free places". Each field says which of the engines that condition (c) names it shuts out.
+-- For every list of sweep calls from a new state, refused ones included, whatever their caps, lists and free places. Each field says which of the engines that condition (c) names it shuts out.
 pub record Whole {F : Type 0} (suspect : F → ℕ → Bool) (e : Engine F) (B : F → ℕ) (call : State F → Call → Reply F) (s : State F) (calls : List Call) : Type 0 where
-  -- "each call's answer, trials, words and state are those of document 01's plain sweep"
+  -- each call's answer, trials, words and state are those of document 01's plain sweep
   -- (shut out: one that lists all in its first call past the cap; invented trials)
   pub same : sweeps call s calls ≡ plainly suspect e s calls
   -- the words of a call are all that it writes: places before its first free place and unused ones are as they were, and a refused call leaves the list
   pub lists : Each (λ s c r. ListKept c (r .answer) (r .list)) call s calls
-  -- "joined words hold exactly the significands in range that are not right below the first suspect not yet tried (all if none is left), once each, ascending, with marks"
+  -- joined words hold exactly the significands in range that are not right below the first suspect not yet tried (all if none is left), once each, ascending, with marks
   pub words : HoldsAs (e .listing (s .factor)) (e .mark (s .factor)) (s .first) (endOf (s .last) (untried (fedBy suspect e s) (plainEnd suspect e s calls))) (wordsIn (sweeps call s calls))
-  -- "trials add up": to the number of suspects tried
+  -- trials add up, to the number of suspects tried
   pub trials : trialsIn (sweeps call s calls) ≡ plainEnd suspect e s calls .tried
-  -- "it is finished exactly when all suspects are tried", and a call was accepted
+  -- it is finished exactly when all suspects are tried and a call was accepted
   -- (shut out: one that calls itself finished with nothing tried)
   pub finished : (stateAfter call s calls .finished ≡ true) ↔ ((1 ≤ acceptedIn (sweeps call s calls)) × (trialsIn (sweeps call s calls) ≡ length (fedBy suspect e s .suspects)))
-  -- "within as many accepted calls as suspects", or one where there are none
+  -- within as many accepted calls as suspects, or one where there are none
   pub latest : max 1 (length (fedBy suspect e s .suspects)) ≤ acceptedIn (sweeps call s calls) → stateAfter call s calls .finished ≡ true
   -- "Trials are capped"
   -- (shut out: one that lists all in its first call past the cap)
   pub capped : Each (λ s c r. IfAccepted (Capped c) (r .answer)) call s calls
   -- "one search for each suspect tried, one search that finds none for each half completed, and one for the suspect stopped at"
   pub searches : Each (λ s c r. IfAccepted (SearchesRight suspect e s (r .state)) (r .answer)) call s calls
-  -- "rounds are the searches' and at most 64 × (trials + 2)"
+  -- rounds are the searches' and at most 64 × (trials + 2)
   -- (shut out: invented rounds)
   pub rounds : Each (λ s c r. IfAccepted (RoundsRight suspect e B s) (r .answer)) call s calls
   -- the stop rule's least: an accepted call has a cap of at least 1 and room for an entry, so it tries its first suspect

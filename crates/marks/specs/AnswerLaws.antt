@@ -1,4 +1,4 @@
--- The law of answers, "the first condition that holds", both ways: from the tests to the answer, and from the answer to the tests. Assumes nothing.
+-- The law of answers, the first condition that holds, both ways: from the tests to the answer, and from the answer to the tests. Assumes nothing.
 use mathlib.Core.Path.{_≡_, refl, sym, ap, _∙_}
 use mathlib.Core.Bool.{Bool, true, false, cond, _&&_, _||_, true≢false}
 use mathlib.Core.List.{List, [], _∷_, _++_, append-nil}

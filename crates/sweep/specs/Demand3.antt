@@ -87,7 +87,7 @@ repliesBy call s (c ∷ calls) = call s c ∷ repliesBy call (call s c .state) c
 
 -- ---- demand 3
 
--- The calls that were made from a state s. What stands in quotes is document 01's or the demand's.
+-- The calls that were made from a state s. What stands in quotes is document 01's.
 pub record Demand3 (s : State Factor) (made : List Made) : Type 0 where
   -- the demand, sentence by sentence, of the calls that were asked
   pub whole : Whole suspect engine mostRounds (sweepCall engine) s (askedIn made)
@@ -95,7 +95,7 @@ pub record Demand3 (s : State Factor) (made : List Made) : Type 0 where
   pub replies : repliesIn made ≡ repliesBy (sweepCall engine) s (askedIn made)
   pub seen : seenIn made ≡ sweeps (sweepCall engine) s (askedIn made)
   pub last : lastIn s made ≡ stateAfter (sweepCall engine) s (askedIn made)
-  -- "joined words hold exactly the significands in range that are not right below the first suspect not yet tried (all if none is left), once each, ascending, with marks": an entry is its word
+  -- joined words hold exactly the significands in range that are not right below the first suspect not yet tried (all if none is left), once each, ascending, with marks: an entry is its word
   pub words : Holds (engine .mark (s .factor)) (s .first) (endOf (s .last) (untried (fedBy suspect engine s) (plainEnd suspect engine s (askedIn made)))) (wordsIn (seenIn made))
   -- the test for a suspect is document 01's definition of one
   pub suspects : (X : ℕ) → suspect (s .factor) X ≡ true ↔ Suspect (contextOf (s .factor)) (lowerOf (s .factor)) (upperOf (s .factor)) X
