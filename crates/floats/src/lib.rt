@@ -1,10 +1,8 @@
 // Binary32 numbers by their bit patterns: the one crate that knows how a float is laid out. What it knows is stated over a format, of which binary32 is one.
 ghost use mathlib.Core.Path.{_≡_};
-ghost use mathlib.Core.Bool.{not};
 ghost use Prim.Native.Nat.{_<_, _^_};
-ghost use lib.Dec.{T};
 ghost use lib.Ieee;
-ghost use lib.Ieee.{binary32, emax, isNan, ofBits, toBits};
+ghost use lib.Ieee.{binary32, emax, ofBits, toBits};
 ghost use Rattle.wide.specs.Value.{wordBits};
 ghost use Rattle.floats.specs.Fields.{signOf, biasedExponent, trailingSignificand, significandOf, plusZero, sameFloat, floatOf, Normalized, Narrow, unitAt, WholeInUnits, unitsOf};
 
@@ -120,7 +118,7 @@ pub fn unit_at(scale: u32) -> u32
 
 // The size of a number that is whole in units of 2 ^ d times the smallest positive value, counted in them.
 pub fn units_of(x: f32, d: u32) -> u64
-    requires { ⌜ T (not (isNan x)) × WholeInUnits binary32 wordBits d (toBits binary32 x) ⌝ }
+    requires { ⌜ WholeInUnits binary32 wordBits d (toBits binary32 x) ⌝ }
     ensures { λ r. ⌜ r ≡ unitsOf binary32 d (toBits binary32 x) ⌝ }
 {
     let bits = f32::to_bits(x);

@@ -27,7 +27,7 @@ use Rattle.factor.specs.Ends.{End}
 use Rattle.factor.specs.PartsLaws.{high-most, low-kept, low-tells, units-of-parts}
 use Rattle.factor.specs.LowForm.{top-is}
 use Rattle.product.specs.Product.{product}
-use Rattle.product.specs.Units.{firstUnits, fusedUnits, secondUnits, roundedUnits, PartsAtEnd}
+use Rattle.product.specs.Units.{firstUnits, fusedUnits, secondUnits, roundedUnits, Within, PartsAtEnd}
 use Rattle.product.specs.ProductLaws.{IsProduct, is-product, exponent-from, product-only, product-is, first-most, first-under, fused-least, second-most}
 
 -- ---- RN of a whole number N of the unit, at least 1
@@ -79,17 +79,18 @@ module _ (K : Context) (P : 0 < K .n) (N : ℕ) (from : 2 ^ (K .n - 1) * 2 ^ K .
       let d = dropped in
       subst (λ (z : ℤ). IsProduct K (rn rule n N 1) (record { significand = r .significand; binade = natAbs z - E })) (sym (d .exponent)) (is-product K P (rn rule n N 1) rn-from (r .significand) (d .count) bits (d .value) to)
 
--- ---- at an end c, with X a significand: RN(C * x)
-module _ (K : Context) (P : 0 < K .n) (c : ℕ) (ce : End K c) (X : ℕ) (xb : HasBits (K .n) X) where
+-- ---- and of one that is also below 4
+module _ (K : Context) (P : 0 < K .n) (N : ℕ) (N-in : Within K N) where
   open Context K using (rule, n, E)
 
-  pub end-from : 2 ^ (n - 1) * 2 ^ E ≤ c * X
-  end-from = omega (arith, mul-le-mul (ce .from) (xb .least))
+  pub within-is : IsProduct K (rn rule n N 1) (roundedUnits K N)
+  within-is = rounded-units-is K P N (N-in .from) (rn-le rule n P N 1 (2 ^ n - 1) (suc E) (omega arith) (omega arith) (omega (arith, N-in .to)))
 
-  pub end-is : IsProduct K (rn rule n (c * X) 1) (roundedUnits K (c * X))
-  end-is =
-      let u : X ≤ 2 ^ n - 1 = omega (arith, xb .most) in
-      rounded-units-is K P (c * X) end-from (rn-le rule n P (c * X) 1 (2 ^ n - 1) (suc E) (omega arith) (omega arith) (omega (arith, mul-le-mul u (le-of-lt (ce .to)))))
+-- C * x at an end c, with X a significand, is such a one
+pub end-within : (K : Context) (c : ℕ) → End K c → (X : ℕ) → HasBits (K .n) X → Within K (c * X)
+end-within K c ce X xb =
+    let u : X ≤ 2 ^ K .n - 1 = omega (arith, xb .most) in
+    record { from = omega (arith, mul-le-mul (ce .from) (xb .least)); to = omega (arith, mul-le-mul u (le-of-lt (ce .to))) }
 
 -- u1 = u as code has it: m is |s| * X of d digits, for the low significand s of q places. All but n digits are dropped, and what is kept is shifted into the unit
 module _ (K : Context) where

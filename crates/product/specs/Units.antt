@@ -1,7 +1,7 @@
 -- The two steps of the product as whole numbers of the unit 2 ^ - (E + n - 1), in which proofs are made and code counts. Definitions only. Assumes nothing.
 use mathlib.Core.Path.{_≡_}
 use mathlib.Core.Bool.{_&&_, cond}
-use Prim.Native.Nat.{ℕ, _+_, _-_, _*_, _^_, _≤_}
+use Prim.Native.Nat.{ℕ, suc, _+_, _-_, _*_, _^_, _≤_}
 use lib.Dec.{ltb, eqb}
 use lib.IntN.{natAbs}
 use Rattle.marks.specs.declared.Mark.{Mark}
@@ -40,6 +40,11 @@ module _ (K : Context) where
   unfoldable pub roundedUnits : ℕ → Product
   unfolding rounded
   roundedUnits N = let r = rounded rule n N 1 in record { significand = r .significand; binade = natAbs (r .exponent) - E }
+
+  -- N is from 1 to below 4, and so is what it rounds to
+  pub record Within (N : ℕ) : Type 0 where
+    pub from : 2 ^ (n - 1) * 2 ^ E ≤ N
+    pub to : N ≤ (2 ^ n - 1) * 2 ^ suc E
 
   -- the other way: a product S * 2 ^ b / 2 ^ (n - 1) in units
   abbrev pub units : Product → ℕ

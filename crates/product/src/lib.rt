@@ -14,11 +14,10 @@ ghost use Rattle.wide.specs.Value.{wordBits, valueOf};
 ghost use Rattle.factor.specs.Precision.{ValidPrecision, scaleOf, significandOut};
 ghost use Rattle.factor.specs.Context.{tieRule, contextAt, contextOf};
 ghost use Rattle.factor.specs.UnitParts.{unitPartsOf};
-ghost use Rattle.factor.specs.Ends.{End};
 ghost use Rattle.factor.specs.SetUp.{Sound};
 ghost use Rattle.product.specs.Product.{productBy};
 ghost use Rattle.product.specs.Marks.{markBy};
-ghost use Rattle.product.specs.Units.{firstUnits, fusedUnits, roundedUnits, markUnits, PartsAtEnd};
+ghost use Rattle.product.specs.Units.{firstUnits, fusedUnits, roundedUnits, markUnits, Within, PartsAtEnd};
 ghost use Rattle.product.specs.Answer.{multiplied, outcomeOf};
 
 // A product from 1 to below 4: a significand of n bits, and its binade, 0 for [1, 2) and 1 for [2, 4).
@@ -102,12 +101,12 @@ fn steps_of(v: Product) -> u64
     v.significand << v.binade
 }
 
-// RN(C * x) at an end, in the same steps.
-fn end_steps(p: Precision, c: u64, x: u64) -> u64
-    requires { ⌜ ValidPrecision (p .bits) × End (contextAt (p .bits)) c × HasBits (p .bits) x ⌝ }
-    ensures { λ r. ⌜ r * 2 ^ scaleOf (p .bits) ≡ rn tieRule (p .bits) (c * x) 1 ⌝ }
+// RN(C * x) at an end, in the same steps, by C * x of that unit.
+fn end_steps(p: Precision, y: Wide) -> u64
+    requires { ⌜ ValidPrecision (p .bits) × Within (contextAt (p .bits)) (valueOf y) ⌝ }
+    ensures { λ r. ⌜ r * 2 ^ scaleOf (p .bits) ≡ rn tieRule (p .bits) (valueOf y) 1 ⌝ }
 {
-    steps_of(rounded_units(p, wide::product(c, x)))
+    steps_of(rounded_units(p, y))
 }
 
 // The mark of a value between or outside the two that the ends round to.
@@ -129,17 +128,15 @@ fn compared(a: u64, b: u64, v: u64) -> Mark
     Mark::Open
 }
 
-// The mark of a value, whoever made it, by what both ends times x round to.
+// The mark of a value, whoever made it, by what both ends times x round to. The ends are close: what the upper product has more is one word.
 pub fn mark_of(f: Factor, x: u64, v: Product) -> Mark
     requires { ⌜ Sound f × HasBits (f .precision .bits) x × HasBits (f .precision .bits) (v .significand) × (v .binade ≤ 1) ⌝ }
     ensures { λ r. ⌜ r ≡ markBy f x v ⌝ }
 {
     let p = f.precision;
-    compared(
-        end_steps(p, f.lower, x),
-        end_steps(p, f.upper, x),
-        steps_of(v),
-    )
+    let lower = wide::product_by_digit(f.lower, x);
+    let upper = wide::sum(lower, wide::from_word((f.upper - f.lower) * x));
+    compared(end_steps(p, lower), end_steps(p, upper), steps_of(v))
 }
 
 // The mark of the product: what a sweep asks of a suspect.

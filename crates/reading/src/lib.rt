@@ -93,10 +93,11 @@ fn finish(f: Factor, bits: u32, v: Product) -> ReadingAnswer
 fn take(f: Factor, reading: f32) -> Taken
     ensures { λ r. ⌜ takenOf r ≡ answer (unreadable f (toBits binary32 reading)) (kindOf (toBits binary32 reading)) ⌝ }
 {
+    let n = f.precision.bits;
     if !factor::is_intact(f) {
         return Taken::Refused(31);
     }
-    if f.precision.bits != floats::PRECISION {
+    if n != floats::PRECISION {
         return Taken::Refused(20);
     }
     let bits = floats::bits_of(reading);

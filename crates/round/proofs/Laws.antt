@@ -1,20 +1,25 @@
 -- Small laws that the proofs of several functions cite. Assumes nothing.
 use mathlib.Core.Path.{_≡_, refl, sym, ap, _∙_}
-use mathlib.Core.Bool.{true, false, true≢false}
+use mathlib.Core.Bool.{Bool, true, false, cond, true≢false}
 use Prim.Native.Nat.{ℕ, zero, suc, _+_, _-_, _*_, _/_, _^_, _≤_, _<_, zero-le}
 use native.Mathlib.Nat.{not-suc-le-zero, lt-of-not-le, lt-of-lt-of-le, le-of-eq, mul-le-mul-right, div-lt-iff-lt-mul, mul-comm, le-trans, mul-le-mul-left, div-mul-le-self}
 use native.Mathlib.Omega.{arith}
 use lib.IntN.{ℤ, pos, negsuc, negℤ, natAbs, _+ℤ_, _-ℤ_, +ℤ-idl}
-use lib.Dec.{T}
+use lib.Dec.{T, ltb}
 use lib.Signed.{nonNeg, ltZ}
 use lib.Ieee.{size}
 use lib.Ieee.Digits.{size-lt}
 use lib.Pow.{pow-mono, pow-add, pow-pos}
 use borrow.Author.Tests.{ltb-true, lt-ltb, le-ltb}
+use Rattle.rounding.specs.declared.Location.{Location}
+use Rattle.rounding.specs.declared.Location.the-variants.{Exact, BelowHalf, Half, AboveHalf}
+use Rattle.rounding.specs.Grid.{Rule, location, choose}
+use Rattle.rounding.specs.GridLaws.{Lies, location-lies}
 use Rattle.rounding.specs.Signed.{negative}
 use mir.Syntax.{Width, w64}
-use mir.Val.{SFits, Fits, hbits}
+use mir.Val.{SFits, Fits, hbits, boolByte}
 use Rattle.rounding.specs.Digits.{pow-half}
+use Rattle.wide.specs.OrderLaws.{high-lt}
 
 -- a number that is not zero has a digit
 pub some-digit : (r k : ℕ) → ¬ (r ≡ 0) → r < 2 ^ k → 1 ≤ k
@@ -28,6 +33,31 @@ half-of k h p e = ap (λ (z : ℕ). z * 2) e ∙ mul-comm (2 ^ (k - 1)) 2 ∙ sy
 -- a quotient by 2 ^ k leaves room for one more
 pub quotient-room : (x u k : ℕ) → u ≡ 2 ^ k → 1 ≤ k → x / u * 2 ≤ x
 quotient-room x u k e h = let t : 2 ≤ u = rw e (pow-mono {i = 1} {j = k} h) in le-trans (mul-le-mul-left (x / u) t) (div-mul-le-self x u)
+
+-- a test as a number, 1 or 0
+pub test-most : (b : Bool) → boolByte b ≤ 1
+test-most true = omega arith
+test-most false = omega arith
+
+-- the neighbour that is taken by one comparison with the half, h: at a tie the rule adds one to the remainder
+pub chosen-by-half : (rule : Rule) (q r h : ℕ) → 0 < h → q + boolByte (ltb h (r + boolByte (rule q))) ≡ choose rule q (location r (h * 2))
+chosen-by-half rule q r h H = go (location r (h * 2)) (location-lies r (h * 2))
+  where
+    down : r + boolByte (rule q) ≤ h → q + boolByte (ltb h (r + boolByte (rule q))) ≡ q
+    down l = ap (λ (b : Bool). q + boolByte b) (le-ltb h (r + boolByte (rule q)) l) ∙ omega arith
+
+    up : h < r + boolByte (rule q) → q + boolByte (ltb h (r + boolByte (rule q))) ≡ suc q
+    up l = ap (λ (b : Bool). q + boolByte b) (lt-ltb h (r + boolByte (rule q)) l) ∙ omega arith
+
+    tie : (b : Bool) → r ≡ h → q + boolByte (ltb h (r + boolByte b)) ≡ cond b (suc q) q
+    tie true e = ap (λ (c : Bool). q + boolByte c) (lt-ltb h (r + 1) (omega arith)) ∙ omega arith
+    tie false e = ap (λ (c : Bool). q + boolByte c) (le-ltb h (r + 0) (omega arith)) ∙ omega arith
+
+    go : (l : Location) → Lies l r (h * 2) → q + boolByte (ltb h (r + boolByte (rule q))) ≡ choose rule q l
+    go Exact a = down (omega (arith, test-most (rule q)))
+    go BelowHalf a = down (omega (arith, test-most (rule q)))
+    go Half a = tie (rule q) (omega arith)
+    go AboveHalf a = up (omega arith)
 
 -- ---- signed numbers
 pub neg-is : (z : ℤ) → pos 0 -ℤ z ≡ negℤ z
@@ -48,6 +78,11 @@ longer h l w z = lt-of-not-le (λ (g : size (h * 2 ^ w + l) ≤ w). clash g)
         let one : 1 ≤ h = omega (arith, z) in
         let a : 2 ^ size (h * 2 ^ w + l) ≤ 2 ^ w = pow-mono g in
         omega (arith, size-lt (h * 2 ^ w + l), mul-le-mul-right (2 ^ w) one)
+
+-- and of fewer than 2 * w, whose high part leaves room for a carry
+pub high-room : (h l w k : ℕ) → h * 2 ^ w + l < 2 ^ k → k < 2 * w → h < 2 ^ (w - 1)
+high-room h l w k a b =
+    high-lt (2 ^ w) h l (2 ^ (w - 1)) (lt-of-lt-of-le a (le-trans (pow-mono {i = k} {j = w - 1 + w} (omega arith)) (le-of-eq (pow-add 2 (w - 1) w))))
 
 -- what is left of b digits when all but n are dropped
 pub kept-digits : (x b n : ℕ) → b ≡ size x → n ≤ b → x / 2 ^ (b - n) < 2 ^ n

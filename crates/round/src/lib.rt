@@ -60,20 +60,13 @@ pub fn tie_up(q: u64, rule: TieRule) -> bool
     }
 }
 
-// The neighbour that is taken, q or q + 1: by the location, and at half by the rule.
-pub fn choose_neighbour(q: u64, l: Location, rule: TieRule) -> u64
-    requires { ⌜ q + 1 < 2 ^ wordBits ⌝ }
-    ensures { λ r. ⌜ r ≡ choose (ruleOf rule) q l ⌝ }
+// The neighbour of q + r / 2 ^ k that is taken, q or q + 1: the upper one past half, and at half where the rule says so. By a comparison and no branch, since which one it is cannot be foreseen.
+pub fn choose_neighbour(q: u64, r: Wide, k: u32, rule: TieRule) -> u64
+    requires { ⌜ (q + 1 < 2 ^ wordBits) × (1 ≤ k) × (k < 2 * wordBits) × (valueOf r < 2 ^ k) ⌝ }
+    ensures { λ v. ⌜ v ≡ choose (ruleOf rule) q (location (valueOf r) (2 ^ k)) ⌝ }
 {
-    match l {
-        Location::Exact => q,
-        Location::BelowHalf => q,
-        Location::Half => {
-            let up = tie_up(q, rule);
-            if up { q + 1 } else { q }
-        }
-        Location::AboveHalf => q + 1,
-    }
+    let past = wide::sum(r, wide::from_word(tie_up(q, rule) as u64));
+    q + wide::below(wide::wide_power(k - 1), past) as u64
 }
 
 // A whole number that a fraction was rounded to, and where the fraction lay.
@@ -88,10 +81,10 @@ pub fn nearest_word(x: u64, k: u32, rule: TieRule) -> Neighbour
     ensures { λ r. ⌜ r ≡ record { taken = nearest (ruleOf rule) x (2 ^ k); location = location (x % 2 ^ k) (2 ^ k) } ⌝ }
 {
     let u = wide::power(k);
-    let l = locate(x % u, k);
+    let r = x % u;
     Neighbour {
-        taken: choose_neighbour(x / u, l, rule),
-        location: l,
+        taken: choose_neighbour(x / u, wide::from_word(r), k, rule),
+        location: locate(r, k),
     }
 }
 
@@ -160,8 +153,9 @@ pub fn round_wide(u: Wide, n: u32, rule: TieRule) -> Rounded
     }
     let k = wide::digits(u) - n;
     let kept = wide::shifted_right(u, k);
-    let l = locate_wide(wide::low_digits(u, k), k);
-    normalise(choose_neighbour(kept.lo, l, rule), n, k, l)
+    let rest = wide::low_digits(u, k);
+    let l = locate_wide(rest, k);
+    normalise(choose_neighbour(kept.lo, rest, k, rule), n, k, l)
 }
 
 // The size of a signed number, also of the least.

@@ -16,6 +16,10 @@ below-base W h l below =
     let zero : h ≡ 0 = omega arith in
     omega (arith, ap (λ (x : ℕ). x * W) zero)
 
+-- A number below A times the base has a high part below A.
+pub high-lt : (W h l A : ℕ) → h * W + l < A * W → h < A
+high-lt W h l A lt = lt-of-mul-lt-mul-right W (omega arith)
+
 -- The number with the smaller high part is the smaller one.
 below-by-high : (W uh ul vh vl : ℕ) → ul < W → uh < vh → uh * W + ul < vh * W + vl
 below-by-high W uh ul vh vl hu h = lt-of-lt-of-le (digits-lt h hu) (le-add-right (vh * W) vl)

@@ -21,6 +21,14 @@ columns B p₁₁ p₁₀ p₀₁ p₀₀ m n em en =
     let second = ap (λ (x : ℕ). x * B) (div-add-mod' n B ∙ en) in
     simp add-mul (omega (arith, simp (add-mul, mul-assoc) at first, simp (add-mul, mul-assoc) at second))
 
+-- The product by one digit d is two of them: p is that of the lowest digit, m the next one with its carry.
+pub digit-columns : (B a d p m : ℕ) → p ≡ a % B * d → m ≡ a / B * d + p / B → m / B * (B * B) + (m % B * B + p % B) ≡ a * d
+digit-columns B a d p m ep em =
+    let lowest = div-add-mod' p B in
+    let next = ap (λ (x : ℕ). x * B) (div-add-mod' m B ∙ em) in
+    let whole = ap (λ (x : ℕ). x * d) (div-add-mod' a B) in
+    omega (arith, ep, lowest, next, whole)
+
 -- A product of two digits leaves room for two digits more.
 pub product-room : (B x y : ℕ) → x < B → y < B → x * y + 2 * B ≤ B * B + 1
 product-room B x y hx hy = subst (λ (b : ℕ). x * y + 2 * b ≤ b * b + 1) e (largest (B - 1) (omega arith) (omega arith))

@@ -54,6 +54,19 @@ pub fn product(a: u64, b: u64) -> Wide
     }
 }
 
+// The same where the second is one digit: two columns.
+pub fn product_by_digit(a: u64, d: u64) -> Wide
+    requires { ⌜ d < 2 ^ 32 ⌝ }
+    ensures { λ r. ⌜ valueOf r ≡ a * d ⌝ }
+{
+    let lowest = a % BASE * d;
+    let next = a / BASE * d + lowest / BASE;
+    Wide {
+        hi: next / BASE,
+        lo: next % BASE * BASE + lowest % BASE,
+    }
+}
+
 // The sum, where the high words leave room for a carry.
 pub fn sum(u: Wide, v: Wide) -> Wide
     requires { ⌜ u .hi + v .hi + 1 < 2 ^ 64 ⌝ }

@@ -140,11 +140,11 @@ returns-5 : tie.Need-returns-5
 unfolding setUp
 returns-5 c =
     let w = c .before .before .before in
-    let other : not (sameHigh (partsAt (contextFor (e w)) (e w .lower)) (partsAt (contextFor (e w)) (e w .upper))) ≡ true = ap not (ap₂ sameHigh (sym (lower-parts w)) (sym (upper-parts w)) ∙ ne-eqb _ _ (c .if4 .taken)) in
+    let other : not (sameHigh (partsAt (contextFor (e w)) (e w .lower)) (partsAt (contextFor (e w)) (e w .upper))) ≡ true = ap not (ap₂ sameHigh (sym (lower-parts w)) (sym (upper-parts w)) ∙ ne-eqb (w .before .parts-at .result .high) (w .parts-at2 .result .high) (c .if4 .taken)) in
     refuses (pass (precision-in (first (ends (past w)))) (pass (ends-in (ends (past w))) (pass (in-order w) (pass (scale-in w) (stop other))))) _
 
 high-same : (c : tie.Else4) → let w = c .before .before .before in not (sameHigh (partsAt (contextFor (e w)) (e w .lower)) (partsAt (contextFor (e w)) (e w .upper))) ≡ false
-high-same c = let w = c .before .before .before in ap not (ap₂ sameHigh (sym (lower-parts w)) (sym (upper-parts w)) ∙ eq-eqb _ _ (c .if4 .left))
+high-same c = let w = c .before .before .before in ap not (ap₂ sameHigh (sym (lower-parts w)) (sym (upper-parts w)) ∙ eq-eqb (w .before .parts-at .result .high) (w .parts-at2 .result .high) (c .if4 .left))
 
 low-is : (c : tie.After-same-low) → let w = c .before .before .before .before in not (c .same-low .result) ≡ not (sameLow (partsAt (contextFor (e w)) (e w .lower)) (partsAt (contextFor (e w)) (e w .upper)))
 low-is c = let w = c .before .before .before .before in ap not (c .same-low .ensures ∙ ap₂ sameLow (lower-parts w) (upper-parts w))

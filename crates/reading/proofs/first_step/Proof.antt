@@ -13,7 +13,6 @@ use borrow.Author.Needs.{needs}
 use Rattle.rounding.specs.Signed.{negative}
 use Rattle.wide.specs.Value.{wordBits}
 use Rattle.floats.specs.Fields.{unitAt}
-use Rattle.floats.specs.Numbers.{value-number}
 use Rattle.floats.specs.Narrow.{stored-exactly}
 use Rattle.floats.specs.Times.{Told}
 use Rattle.factor.specs.declared.Factor.{Factor}
@@ -22,7 +21,7 @@ use Rattle.factor.specs.Context.{contextAt}
 use Rattle.factor.specs.UnitParts.{unitPartsOf}
 use Rattle.product.specs.Units.{firstUnits}
 use Rattle.factor.specs.StoredLaws.{low-number}
-use Rattle.reading.specs.FirstLaws.{K32, first-float, first-told}
+use Rattle.reading.specs.FirstLaws.{K32, first-told}
 use Rattle.reading.proofs.first_step.Statement.{statement}
 use Rattle.reading.proofs.first_step.Tie as tie
 
@@ -53,9 +52,7 @@ module _ (c : tie.After-narrow-float) where
   bits-tell = subst Tells (sym unit-is) (first-told f (a .pre .0) (a .pre .1) (a .args .x) (a .pre .2) (f .applied .low) (c .narrow-float .result) low-is x-is)
 
 units-of-requires : tie.Need-units-of-requires
-units-of-requires c κs =
-    let s = a c in
-    (value-number _ _ _ _ (first-float (f c) (s .pre .0) (s .pre .1) (s .args .x) (s .pre .2) (f c .applied .low) (c .narrow-float .result) (low-is c) (x-is c)), bits-tell c .fits)
+units-of-requires c κs = bits-tell c .fits
 
 returns : tie.Need-returns
 returns c =

@@ -22,10 +22,10 @@ through : (c : tie.Else1) → not (intact (c .before .before .args .f)) ≡ fals
 through c = ap not (sym (c .before .is-intact .ensures)) ∙ c .if1 .left
 
 returns-2 : tie.Need-returns-2
-returns-2 c = refuses (pass (through (c .before .before)) (stop (ap not (ne-eqb _ (prec binary32) (c .if2 .taken))))) _
+returns-2 c = refuses (pass (through (c .before)) (stop (ap not (ne-eqb _ (prec binary32) (c .if2 .taken))))) _
 
 -- and 20
-precise : (c : tie.Else2) → not (eqb (c .before .before .before .before .args .f .precision .bits) (prec binary32)) ≡ false
+precise : (c : tie.Else2) → not (eqb (c .before .before .before .args .f .precision .bits) (prec binary32)) ≡ false
 precise c = ap not (eq-eqb _ (prec binary32) (c .if2 .left))
 
 -- ---- the reading's fields
@@ -34,7 +34,7 @@ module _ (c : tie.After-trailing-significand) where
   e = c .before .before .before
 
   abbrev t : tie.Else1
-  t = e .before .before
+  t = e .before
 
   abbrev b : ℕ
   b = toBits binary32 (t .before .before .args .reading)

@@ -51,7 +51,11 @@ kept-word c =
     one-word (c .shifted-right .result) (2 ^ a .n) small (pow-mono {i = a .n} {j = wordBits - 1} (omega (arith, d .before .before .pre .1)))
 
 choose-neighbour-requires : tie.Need-choose-neighbour-requires
-choose-neighbour-requires c κs = kept-word (c .before .before) .1
+choose-neighbour-requires c κs =
+    let rest = c .before in
+    let d = rest .before .before in
+    let within = locate-wide-requires rest κs in
+    (kept-word (rest .before) .1, omega (arith, long d, d .before .before .pre .1), within .0, within .1)
 
 returns-2 : tie.Need-returns-2
 unfolding nearest
@@ -65,7 +69,7 @@ returns-2 c =
     let k = d .digits .result - a .n in
     let l : located .locate-wide .result ≡ location (x % 2 ^ k) (2 ^ k) = located .locate-wide .ensures ∙ ap (λ (z : ℕ). location z (2 ^ k)) (located .before .low-digits .ensures) in
     let q : shifted .shifted-right .result .lo ≡ x / 2 ^ k = kept-word shifted .0 ∙ shifted .shifted-right .ensures in
-    let t : c .before .choose-neighbour .result ≡ nearest rule x (2 ^ k) = c .before .choose-neighbour .ensures ∙ ap₂ (λ (z : ℕ) (m : Location). choose rule z m) q l in
+    let t : c .before .choose-neighbour .result ≡ nearest rule x (2 ^ k) = c .before .choose-neighbour .ensures ∙ ap₂ (λ (z r : ℕ). choose rule z (location r (2 ^ k))) q (located .before .low-digits .ensures) in
     c .normalise .ensures
     ∙ ap₂ (λ (z : ℕ) (m : Location). normalised (a .n) z k 0 m) t l
     ∙ rounded-many rule (a .n) (d .before .before .pre .0) x (d .digits .result) (d .digits .ensures .0) (omega (arith, longer-pos x (d .digits .result) (d .digits .ensures .0) (long d))) (omega (arith, long d, d .before .before .pre .1))
