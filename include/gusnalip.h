@@ -1,13 +1,16 @@
-/* The engine's exported functions: link target/staticlib/libexports.a, which `rt staticlib exports` makes (x86-64 Linux).
+/* The engine's exported functions, for C and C++: link target/staticlib/libexports.a, which `rt staticlib exports` makes (x86-64 Linux). example.c, beside this file, calls each of them.
  *
  * A list is a pointer and the number of its words. Lists given to one call must not overlap. A list that is too short is answered
- * with GUSNALIP_TOO_SHORT, and nothing is written (the list of a sweep may have any length, 0 too: it is refused with 19). Every other answer and every word written is fixed by the function's contract
- * (crates/exports), for any input.
+ * with GUSNALIP_TOO_SHORT (the list of a sweep may have any length, 0 too: it is refused with 19). Every other answer and every word written is fixed by the function's contract
+ * (crates/exports), for any input. Every refusal writes nothing, GUSNALIP_TOO_SHORT included.
  *
  * A factor is GUSNALIP_FACTOR_WORDS words: precision, lower end, upper end, high significand, low significand (two's complement),
- * its places, high and low part as bits of binary32 numbers, scale (two's complement of 32 bits). Of a word for precision, places,
- * floats and scale the low 32 bits count. A sweep's state is GUSNALIP_STATE_WORDS words: a factor, then the first, last and next
- * significand, and 0 or another word for not finished or finished. Further words of either are not looked at. */
+ * its places, high and low part as bits of binary32 numbers, scale (two's complement of 32 bits). The words for precision, places,
+ * floats and scale are written with an upper half of 0; one with another upper half is damage, and refused with 31. A sweep's state is GUSNALIP_STATE_WORDS words: a factor, then the first, last and next
+ * significand, and 0 or any other word for not finished or finished. Further words of either are not looked at.
+ *
+ * gusnalip_read asks for the machine's default rounding mode, round to nearest (FE_TONEAREST): with another one that the caller has set, readings
+ * whose products lie near a midpoint can come out differently. Nothing else depends on it. */
 #ifndef GUSNALIP_H
 #define GUSNALIP_H
 
@@ -16,6 +19,7 @@
 
 #define GUSNALIP_FACTOR_WORDS 9
 #define GUSNALIP_PRODUCT_WORDS 2
+#define GUSNALIP_READING_WORDS 1
 #define GUSNALIP_STATE_WORDS 13
 #define GUSNALIP_COUNT_WORDS 3
 
@@ -23,7 +27,12 @@
 #define GUSNALIP_RIGHT 1
 #define GUSNALIP_OPEN 2
 #define GUSNALIP_WRONG 3
+#define GUSNALIP_DAMAGED 31
 #define GUSNALIP_TOO_SHORT 255
+
+#ifdef __cplusplus
+extern "C" {
+#endif
 
 /* Sets a factor up: 0 and the factor's words, or a refusal 11 to 16. */
 uint32_t gusnalip_set_up(uint32_t precision, int32_t scale, uint64_t lower, uint64_t upper, uint64_t *out, size_t out_length);
@@ -41,5 +50,9 @@ uint32_t gusnalip_new_sweep(const uint64_t *factor, size_t factor_length, uint64
  * and trials, rounds and the next first free place in counts; or a refusal 31, 32, 33, 18 or 19, and nothing is written. */
 uint32_t gusnalip_sweep(uint64_t *state, size_t state_length, uint64_t cap, uint32_t *list, size_t list_length, size_t free, uint64_t *counts,
                         size_t counts_length);
+
+#ifdef __cplusplus
+}
+#endif
 
 #endif

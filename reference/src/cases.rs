@@ -5,16 +5,17 @@ use crate::frame::{fields, for_lines};
 use crate::product::multiply;
 use crate::reading::read;
 use crate::search;
-use crate::sweep::{call, new_state, State, NOTHING};
+use crate::sweep::{call, new_state};
+use crate::words::{from_words, state_from, state_words, words, FACTOR_WORDS, STATE_WORDS};
 use std::io::{self, BufRead, Write};
 
 struct Cases {
-    state: State,
+    state: [u64; STATE_WORDS],
     list: [u32; 64],
 }
 
 pub fn cases(input: &mut dyn BufRead, output: &mut dyn Write) -> io::Result<()> {
-    let mut cases = Cases { state: NOTHING, list: [u32::MAX; 64] };
+    let mut cases = Cases { state: [0; STATE_WORDS], list: [u32::MAX; 64] };
     for_lines(input, u64::MAX, |_, line, ended| {
         let answer = if ended { cases.answer(line) } else { None };
         output.write_all(line)?;
@@ -42,7 +43,7 @@ impl Cases {
             1 => match set_up(f[1] as u32, f[2] as u32 as i32, f[3], f[4]) {
                 Err(refusal) => refused(refusal),
                 Ok(factor) => {
-                    self.state.factor = factor;
+                    self.state[..FACTOR_WORDS].copy_from_slice(&words(&factor));
                     format!(
                         "00 {:016X} {:016X} {:08X} {:08X} {:08X}",
                         factor.high, factor.low as u64, factor.places, factor.high_float, factor.low_float
@@ -50,16 +51,16 @@ impl Cases {
                 }
             },
             2 => {
-                self.set_field(f[1], f[2])?;
+                *self.state.get_mut(f[1] as usize)? = f[2];
                 "00".to_string()
             }
-            3 => match multiply(&self.state.factor, f[1]) {
+            3 => match from_words(&self.state).and_then(|factor| multiply(&factor, f[1])) {
                 Err(refusal) => refused(refusal),
                 Ok(product) => {
                     format!("{:02} {:016X} {:02X}", product.mark.number(), product.significand, product.binade)
                 }
             },
-            4 => match read(&self.state.factor, f[1] as u32) {
+            4 => match from_words(&self.state).and_then(|factor| read(&factor, f[1] as u32)) {
                 Err(refusal) => refused(refusal),
                 Ok((mark, product)) => format!("{:02} {:08X}", mark.number(), product),
             },
@@ -67,22 +68,24 @@ impl Cases {
                 if f[1] > 1 {
                     return None;
                 }
-                if !self.state.factor.intact() {
-                    refused(31)
-                } else if f[2] > 1 << 63 {
-                    refused(17)
-                } else {
-                    let found = search::next(&self.state.factor, f[1] == 0, f[2]);
-                    match found.place {
-                        Some(place) => format!("01 {:016X} {:016X}", place, found.rounds),
-                        None => format!("00 {:016X}", found.rounds),
+                match from_words(&self.state) {
+                    Ok(factor) if factor.intact() => {
+                        if f[2] > 1 << 63 {
+                            return Some(refused(17));
+                        }
+                        let found = search::next(&factor, f[1] == 0, f[2]);
+                        match found.place {
+                            Some(place) => format!("01 {:016X} {:016X}", place, found.rounds),
+                            None => format!("00 {:016X}", found.rounds),
+                        }
                     }
+                    _ => refused(31),
                 }
             }
-            6 => match new_state(&self.state.factor, f[1], f[2]) {
+            6 => match from_words(&self.state).and_then(|factor| new_state(&factor, f[1], f[2])) {
                 Err(refusal) => refused(refusal),
                 Ok(state) => {
-                    self.state = state;
+                    self.state = state_words(&state);
                     "00".to_string()
                 }
             },
@@ -91,17 +94,17 @@ impl Cases {
                     return None;
                 }
                 let list = &mut self.list[..f[2] as usize];
-                let mut answer = match call(&mut self.state, f[1], list, f[3]) {
+                let called =
+                    state_from(&self.state).and_then(|mut state| Ok((call(&mut state, f[1], list, f[3])?, state)));
+                let mut answer = match called {
                     Err(refusal) => refused(refusal),
-                    Ok(counts) => {
+                    Ok((counts, state)) => {
+                        self.state = state_words(&state);
                         format!("00 {:016X} {:016X} {:016X}", counts.trials, counts.rounds, counts.place)
                     }
                 };
-                let state = &self.state;
-                answer += &format!(
-                    " {:016X} {:016X} {:016X} {:02X}",
-                    state.first, state.last, state.next, state.finished as u32
-                );
+                let [first, last, next, finished] = [9, 10, 11, 12].map(|word| self.state[word]);
+                answer += &format!(" {:016X} {:016X} {:016X} {:02X}", first, last, next, (finished != 0) as u32);
                 for word in list {
                     answer += &format!(" {word:08X}");
                 }
@@ -113,27 +116,5 @@ impl Cases {
             }
         };
         Some(answer)
-    }
-
-    fn set_field(&mut self, field: u64, value: u64) -> Option<()> {
-        let state = &mut self.state;
-        let factor = &mut state.factor;
-        match field {
-            0x0 => factor.bits = value as u32,
-            0x1 => factor.lower = value,
-            0x2 => factor.upper = value,
-            0x3 => factor.high = value,
-            0x4 => factor.low = value as i64,
-            0x5 => factor.places = value as u32,
-            0x6 => factor.high_float = value as u32,
-            0x7 => factor.low_float = value as u32,
-            0x8 => factor.scale = value as u32 as i32,
-            0x9 => state.first = value,
-            0xA => state.last = value,
-            0xB => state.next = value,
-            0xC => state.finished = value != 0,
-            _ => return None,
-        }
-        Some(())
     }
 }

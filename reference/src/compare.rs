@@ -73,6 +73,7 @@ fn parts() -> Vec<Part> {
     parts.push(part("random factors of every precision, their suspects among the significands", large));
     parts.push(part("set-up, with every refusal", set_ups));
     parts.push(part("damaged factors", damaged));
+    parts.push(part("upper halves that are not as written, through every function", upper_halves));
     parts.push(part("lists that are too short", short_lists));
     parts.push(part("readings, random and extreme, with every refusal", readings));
     for (name, scale, lower, upper) in KNOWN.into_iter().chain([("3/2", 0, 3 << 61, 3 << 61)]) {
@@ -94,8 +95,9 @@ fn both_set_up(given: Given) -> Option<Factor> {
     answer.ok()
 }
 
-fn both_multiply(factor: &Factor, words: &[u64], x: u64) {
-    agree!(engine::multiply(words, x), multiply(factor, x), "{factor:X?} times {x:X}");
+fn both_multiply(words: &[u64], x: u64) {
+    let answer = engine::from_words(words).and_then(|factor| multiply(&factor, x));
+    agree!(engine::multiply(words, x), answer, "{words:X?} times {x:X}");
 }
 
 fn every_significand(random: &mut Random, factor: &Factor) -> u64 {
@@ -110,7 +112,7 @@ fn every_significand(random: &mut Random, factor: &Factor) -> u64 {
         agree!((whole.mark, expected.to_bits()), (mark, value.to_bits()), "{factor:X?} times {x:X}, by the machine");
         // As a reading, with any sign and exponent.
         let bits = random.word() as u32 & 0xFF80_0000 | (x - least(24)) as u32;
-        both_read(factor, &words, bits);
+        both_read(&words, bits);
     }
     3 << 23
 }
@@ -124,7 +126,7 @@ fn small(random: &mut Random, bits: u32) -> u64 {
         if let Some(factor) = both_set_up(given(random, bits, i % KINDS)).filter(|factor| factor.bits == bits) {
             let words = words(&factor);
             for x in least(factor.bits) - 1..=greatest(factor.bits) + 1 {
-                both_multiply(&factor, &words, x);
+                both_multiply(&words, x);
                 answers += 1;
             }
         }
@@ -141,16 +143,16 @@ fn large(random: &mut Random) -> u64 {
         let words = words(&factor);
         let (first, last) = (least(factor.bits), greatest(factor.bits));
         for _ in 0..4 {
-            both_multiply(&factor, &words, random.from_to(first, last));
+            both_multiply(&words, random.from_to(first, last));
         }
         // The next suspect after some place in each half, where products fail.
         for low in [true, false] {
             let place = search::next(&factor, low, random.from_to(first, last)).place.unwrap_or(0);
-            both_multiply(&factor, &words, place as u64);
+            both_multiply(&words, place as u64);
         }
         let outside = random.one_of(&[0, first - 1, last + 1, u64::MAX, 1 << 32 | first]);
         for x in [first, last, outside] {
-            both_multiply(&factor, &words, x);
+            both_multiply(&words, x);
         }
         answers += 9;
     }
@@ -180,6 +182,45 @@ pub fn damage(random: &mut Random, words: &mut [u64; FACTOR_WORDS]) {
     }
 }
 
+/// The words of a factor whose fields have 32 bits.
+const NARROW: [usize; 5] = [0, 5, 6, 7, 8];
+
+/// Upper halves that are not as written, one word at a time, through every function, whatever else is asked: 31, and nothing written. Marks of a finished sweep other than 1 are such marks all the same.
+fn upper_halves(random: &mut Random) -> u64 {
+    let mut answers = 0;
+    for i in 0..100_000 {
+        let factor = accepted(random, if i % 2 == 0 { 24 } else { 4 + (i / 2 % 21) as u32 });
+        let good = words(&factor);
+        let (first, last) = range_of(random, &factor);
+        let begun = State { factor, first, last, next: first, finished: false };
+        for field in NARROW {
+            let mut words = good;
+            words[field] |= match random.below(3) {
+                0 => 1 << random.from_to(32, 63),
+                1 => u64::MAX << 32,
+                _ => (random.word() | 1) << 32,
+            };
+            agree!(engine::from_words(&words), Err(31), "{words:X?}");
+            both_multiply(&words, random.one_of(&[0, least(factor.bits), greatest(factor.bits), u64::MAX]));
+            both_read(&words, reading_bits(random, factor.scale));
+            agree!(engine::new_sweep(&words, first, last), Err(31), "a new sweep of {words:X?}");
+            let mut state = engine::state_words(&begun);
+            state[..FACTOR_WORDS].copy_from_slice(&words);
+            state[12] = random.one_of(&[0, 1, u64::MAX]);
+            let (cap, length, free) = call_of(random);
+            let mut list = words_before(random, length);
+            agree!(both_call(&mut state, cap, &mut list, free), Err(31), "a call on {state:X?}");
+            answers += 4;
+        }
+        let mut state = engine::state_words(&begun);
+        state[12] = random.one_of(&[1, 2, 1 << 31, 1 << 32, 1 << 63, u64::MAX]);
+        let refusal = if factor.range_ok(first, last) { 33 } else { 32 };
+        agree!(both_call(&mut state, 1, &mut [7], 0), Err(refusal), "a call on {state:X?}");
+        answers += 1;
+    }
+    answers
+}
+
 /// A factor that set-up accepts.
 pub fn accepted(random: &mut Random, bits: u32) -> Factor {
     loop {
@@ -201,7 +242,7 @@ fn damaged(random: &mut Random) -> u64 {
             0 => random.any_size(),
             _ => random.from_to(least(factor.bits), greatest(factor.bits)),
         };
-        both_multiply(&engine::from_words(&words), &words, x);
+        both_multiply(&words, x);
     }
     count
 }
@@ -288,8 +329,9 @@ fn short_lists(random: &mut Random) -> u64 {
     answers
 }
 
-fn both_read(factor: &Factor, words: &[u64], bits: u32) {
-    agree!(engine::read(words, bits), read(factor, bits), "{factor:X?} applied to the reading {bits:X}");
+fn both_read(words: &[u64], bits: u32) {
+    let answer = engine::from_words(words).and_then(|factor| read(&factor, bits));
+    agree!(engine::read(words, bits), answer, "{words:X?} applied to the reading {bits:X}");
 }
 
 /// Bits of a reading: of every class, and such that the product's exponent lies at a limit.
@@ -317,16 +359,15 @@ fn readings(random: &mut Random) -> u64 {
         if i % 32 == 1 {
             damage(random, &mut words);
         }
-        let factor = engine::from_words(&words);
         for _ in 0..8 {
-            both_read(&factor, &words, reading_bits(random, factor.scale));
+            both_read(&words, reading_bits(random, words[8] as i32));
         }
         // A reading at a suspect, where products fail.
-        if factor.intact() && factor.bits == 24 {
+        if engine::from_words(&words) == Ok(factor) && factor.bits == 24 {
             for low in [true, false] {
                 let start = random.from_to(least(24), greatest(24));
                 let place = search::next(&factor, low, start).place.unwrap_or(0) as u32 & 0x7F_FFFF;
-                both_read(&factor, &words, reading_bits(random, factor.scale) & 0xFF80_0000 | place);
+                both_read(&words, reading_bits(random, factor.scale) & 0xFF80_0000 | place);
             }
         }
     }
@@ -336,12 +377,15 @@ fn readings(random: &mut Random) -> u64 {
 /// One call by both, on the same words: answer, counts, state and whole list.
 fn both_call(state: &mut [u64; STATE_WORDS], cap: u64, list: &mut [u32], free: u64) -> Result<(), u32> {
     let before = *state;
-    let mut ours = engine::state_from(state);
+    let mut handed = before;
     let mut our_list = list.to_vec();
-    let answer = call(&mut ours, cap, &mut our_list, free);
+    let answer = engine::state_from(state).and_then(|mut ours| {
+        let counts = call(&mut ours, cap, &mut our_list, free)?;
+        handed = engine::state_words(&ours);
+        Ok(counts)
+    });
     let theirs = engine::sweep(state, cap, list, free as usize);
     agree!(theirs, answer, "a call with cap {cap:X} and {} words from {free:X} on {before:X?}", list.len());
-    let handed = if answer.is_ok() { engine::state_words(&ours) } else { before };
     agree!(*state, handed, "the state after a call with cap {cap:X} on {before:X?}");
     if list != our_list {
         panic!("the list after a call with cap {cap:X} and {} words from {free:X} on {before:X?}", list.len());

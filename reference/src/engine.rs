@@ -2,11 +2,10 @@
 
 use crate::factor::{Factor, Refusal};
 use crate::product::{Mark, Product};
-use crate::sweep::{Counts, State};
+use crate::sweep::Counts;
+pub use crate::words::{from_words, state_from, state_words, words, FACTOR_WORDS, STATE_WORDS};
 
-pub const FACTOR_WORDS: usize = 9;
 pub const PRODUCT_WORDS: usize = 2;
-pub const STATE_WORDS: usize = 13;
 pub const COUNT_WORDS: usize = 3;
 pub const TOO_SHORT: u32 = 255;
 
@@ -71,34 +70,6 @@ pub fn sweep_to(state: &mut [u64], cap: u64, list: &mut [u32], free: usize, coun
     }
 }
 
-pub fn words(factor: &Factor) -> [u64; FACTOR_WORDS] {
-    [
-        factor.bits as u64,
-        factor.lower,
-        factor.upper,
-        factor.high,
-        factor.low as u64,
-        factor.places as u64,
-        factor.high_float as u64,
-        factor.low_float as u64,
-        factor.scale as u32 as u64,
-    ]
-}
-
-pub fn from_words(words: &[u64]) -> Factor {
-    Factor {
-        bits: words[0] as u32,
-        lower: words[1],
-        upper: words[2],
-        high: words[3],
-        low: words[4] as i64,
-        places: words[5] as u32,
-        high_float: words[6] as u32,
-        low_float: words[7] as u32,
-        scale: words[8] as u32 as i32,
-    }
-}
-
 /// A word that nothing writes: a list still has it where a call left it alone.
 pub const UNTOUCHED: u64 = 0xA5A5_5A5A_A5A5_5A5A;
 
@@ -107,7 +78,7 @@ pub fn set_up(precision: u32, scale: i32, lower: u64, upper: u64) -> Result<Fact
     match set_up_to(precision, scale, lower, upper, &mut out) {
         0 => {
             assert_eq!(out[FACTOR_WORDS], UNTOUCHED);
-            Ok(from_words(&out))
+            from_words(&out)
         }
         refusal => {
             assert_eq!(out, [UNTOUCHED; FACTOR_WORDS + 1]);
@@ -144,17 +115,6 @@ pub fn read(factor: &[u64], reading: u32) -> Result<(Mark, u32), Refusal> {
             Err(number)
         }
     }
-}
-
-pub fn state_words(state: &State) -> [u64; STATE_WORDS] {
-    let mut all = [0; STATE_WORDS];
-    all[..FACTOR_WORDS].copy_from_slice(&words(&state.factor));
-    all[FACTOR_WORDS..].copy_from_slice(&[state.first, state.last, state.next, state.finished as u64]);
-    all
-}
-
-pub fn state_from(words: &[u64]) -> State {
-    State { factor: from_words(words), first: words[9], last: words[10], next: words[11], finished: words[12] != 0 }
 }
 
 pub fn new_sweep(factor: &[u64], first: u64, last: u64) -> Result<[u64; STATE_WORDS], Refusal> {

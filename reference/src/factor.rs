@@ -20,10 +20,6 @@ pub struct Factor {
     pub scale: i32,
 }
 
-/// All fields zero: what nothing was set up in.
-pub const ZERO: Factor =
-    Factor { bits: 0, lower: 0, upper: 0, high: 0, low: 0, places: 0, high_float: 0, low_float: 0, scale: 0 };
-
 /// The least and the greatest significand.
 pub fn least(bits: u32) -> u64 {
     1 << (bits - 1)

@@ -22,6 +22,7 @@ mod rounding;
 mod search;
 mod suspects;
 mod sweep;
+mod words;
 
 use std::io::{self, BufWriter, Write};
 

@@ -1,6 +1,6 @@
 //! Sweep calls by searches, as document 01 tells them, and the plain sweep by its row.
 
-use crate::factor::{Factor, Refusal, ZERO};
+use crate::factor::{Factor, Refusal};
 use crate::product::{product, Mark};
 use crate::{search, suspects};
 
@@ -12,8 +12,6 @@ pub struct State {
     pub next: u64,
     pub finished: bool,
 }
-
-pub const NOTHING: State = State { factor: ZERO, first: 0, last: 0, next: 0, finished: false };
 
 #[derive(Clone, Copy, Debug, PartialEq, Eq)]
 pub struct Counts {

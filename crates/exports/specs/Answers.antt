@@ -1,5 +1,5 @@
--- What an exported function returns and what it leaves in the caller's list, by the engine's own answers. Definitions only. Assumes nothing.
-use mathlib.Core.Bool.{Bool, cond, _||_}
+-- What an exported function returns and what it leaves in the caller's lists, by the engine's own answers. Definitions only. Assumes nothing.
+use mathlib.Core.Bool.{Bool}
 use mathlib.Core.List.{List, [], _∷_}
 use Prim.Native.Nat.{ℕ}
 use lib.Dec.{ltb}
@@ -7,7 +7,7 @@ use lib.ListN.{length}
 use lib.Seq.{sets}
 use lib.Ieee.{Float, binary32, toBits, ofBits}
 use Rattle.marks.specs.declared.Mark.{Mark}
-use Rattle.marks.specs.Answers.{Outcome, refused, accepted, Marked}
+use Rattle.marks.specs.Answers.{Outcome, refused, accepted, answer, andThen, Marked}
 use Rattle.factor.specs.declared.Description.{Description}
 use Rattle.factor.specs.declared.Factor.{Factor}
 use Rattle.factor.specs.SetUp.{setUp}
@@ -18,20 +18,32 @@ use Rattle.calls.specs.State.{State}
 use Rattle.calls.specs.Call.{newState, Result, Reply, sweepCall}
 use Rattle.sweep.specs.Engine.{engine}
 use Rattle.sweep.specs.Answers.{callOf}
-use Rattle.exports.specs.Words.{factorLength, factorFrom, factorWords, stateLength, stateFrom, stateWords}
+use Rattle.exports.specs.declared.TakenFactor.{TakenFactor}
+use Rattle.exports.specs.Words.{factorLength, factorFrom, factorWords, damaged, stateLength, stateOf, stateWords}
 
+-- ---- what is taken from a caller's lists
+-- a list is too short: it has fewer words than are due
+abbrev pub tooShort : (length due : ℕ) → ℕ × Bool
+tooShort length due = (255, ltb length due)
+
+-- the conditions under which the words of a factor or of a state are not taken: they are too few, the list for the answer is too short, or they are damaged
+abbrev pub unfit : (words : List ℕ) (due room needed : ℕ) → List (ℕ × Bool)
+unfit words due room needed = tooShort (length words) due ∷ tooShort room needed ∷ (31, damaged words) ∷ []
+
+-- the factor in such words
+unfoldable pub taken : (words : List ℕ) (due room needed : ℕ) → Outcome Factor
+taken words due room needed = answer (unfit words due room needed) (factorFrom words)
+
+-- what each case of its answer says
+abbrev pub takenOf : TakenFactor → Outcome Factor
+takenOf (TakenFactor.Accepted f) = accepted f
+takenOf (TakenFactor.Refused k) = refused k
+
+-- ---- what is answered
 -- the number returned, and the words written from the list's first place on
 pub record Answer : Type 0 where
   pub number : ℕ
   pub words : List ℕ
-
--- a list is too short: nothing is looked at
-abbrev pub tooShort : Answer
-tooShort = record { number = 255; words = [] }
-
--- the first list has fewer than k words, or the second fewer than l
-abbrev pub short : (k : ℕ) → List ℕ → (l : ℕ) → List ℕ → Bool
-short k xs l ys = ltb (length xs) k || ltb (length ys) l
 
 -- what is left in a list
 abbrev pub leaves : Answer → List ℕ → List ℕ
@@ -58,34 +70,31 @@ setUpAnswer o = toWords (λ f. 0) factorWords o
 
 unfoldable pub setUpTo : Description → (out : List ℕ) → Answer
 unfolding setUp factorWords
-setUpTo d out = cond (ltb (length out) factorLength) tooShort (setUpAnswer (setUp d))
+setUpTo d out = setUpAnswer (andThen (answer (tooShort (length out) factorLength ∷ []) d) setUp)
 
 -- ---- a product: 1 right, 2 open, 3 wrong, with significand and binade, or the refusal
 abbrev pub productWords : Product → List ℕ
 productWords v = v .significand ∷ v .binade ∷ []
 
 unfoldable pub multiplyTo : (factor : List ℕ) (X : ℕ) (out : List ℕ) → Answer
-unfolding multiplied factorFrom
-multiplyTo factor X out =
-    cond (short factorLength factor 2 out) tooShort (markedAnswer productWords (multiplied (factorFrom factor) X))
+unfolding multiplied taken
+multiplyTo factor X out = markedAnswer productWords (andThen (taken factor factorLength (length out) 2) (λ f. multiplied f X))
 
 -- ---- a reading: 1 right, 2 open, 3 wrong, with the product's bits, or the refusal
 abbrev pub readingWords : Float → List ℕ
 readingWords y = toBits binary32 y ∷ []
 
 unfoldable pub readTo : (factor : List ℕ) (reading : ℕ) (out : List ℕ) → Answer
-unfolding applied factorFrom toBits ofBits
-readTo factor reading out =
-    cond (short factorLength factor 1 out) tooShort (markedAnswer readingWords (applied (factorFrom factor) (ofBits binary32 reading)))
+unfolding applied taken toBits ofBits
+readTo factor reading out = markedAnswer readingWords (andThen (taken factor factorLength (length out) 1) (λ f. applied f (ofBits binary32 reading)))
 
 -- ---- a new sweep: 0 and the state, or the refusal
 abbrev pub newSweepAnswer : Outcome (State Factor) → Answer
 newSweepAnswer o = toWords (λ s. 0) stateWords o
 
 unfoldable pub newSweepTo : (factor : List ℕ) (first last : ℕ) (out : List ℕ) → Answer
-unfolding factorFrom stateWords
-newSweepTo factor first last out =
-    cond (short factorLength factor stateLength out) tooShort (newSweepAnswer (newState engine (factorFrom factor) first last))
+unfolding taken stateWords
+newSweepTo factor first last out = newSweepAnswer (andThen (taken factor factorLength (length out) stateLength) (λ f. newState engine f first last))
 
 -- ---- a sweep call: 0, the state handed back, the list as it then is, and trials, rounds and place; or the refusal, and nothing written
 pub record SweepWords : Type 0 where
@@ -94,19 +103,22 @@ pub record SweepWords : Type 0 where
   pub list : List ℕ
   pub counts : List ℕ
 
-abbrev pub tooShortFor : List ℕ → SweepWords
-tooShortFor list = record { number = 255; state = []; list = list; counts = [] }
+-- a refusal leaves all as it was
+abbrev pub refusedWith : ℕ → (list : List ℕ) → SweepWords
+refusedWith k list = record { number = k; state = []; list = list; counts = [] }
 
 abbrev pub sweepAnswer : Outcome Result → State Factor → List ℕ → SweepWords
 sweepAnswer (accepted r) s list = record { number = 0; state = stateWords s; list = list; counts = r .trials ∷ r .rounds ∷ r .place ∷ [] }
-sweepAnswer (refused k) s list = record { number = k; state = []; list = list; counts = [] }
+sweepAnswer (refused k) s list = refusedWith k list
 
 abbrev pub replyWords : Reply Factor → SweepWords
 replyWords r = sweepAnswer (r .answer) (r .state) (r .list)
 
+-- the reply to a call, where its factor is taken
+abbrev pub replyTo : (list : List ℕ) → Outcome Factor → (Factor → Reply Factor) → SweepWords
+replyTo list (accepted f) reply = replyWords (reply f)
+replyTo list (refused k) reply = refusedWith k list
+
 unfoldable pub sweepTo : (state : List ℕ) (cap : ℕ) (list : List ℕ) (free : ℕ) (counts : List ℕ) → SweepWords
-unfolding stateFrom stateWords
-sweepTo state cap list free counts =
-    cond (short stateLength state 3 counts)
-    (tooShortFor list)
-    (replyWords (sweepCall engine (stateFrom state) (callOf cap list free)))
+unfolding taken stateWords
+sweepTo state cap list free counts = replyTo list (taken state stateLength (length counts) 3) (λ f. sweepCall engine (stateOf f state) (callOf cap list free))

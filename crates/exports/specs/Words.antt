@@ -1,12 +1,12 @@
 -- Factors and states as lists of words, for callers in other languages. Definitions only. Assumes nothing.
-use mathlib.Core.Bool.{cond, not}
+use mathlib.Core.Bool.{Bool, cond, not, _||_}
 use mathlib.Core.List.{List, [], _∷_, _++_}
 use Prim.Native.Nat.{ℕ}
 use lib.Dec.{eqb}
 use lib.ListN.{getD}
 use lib.Ieee.{binary32, toBits, ofBits}
 use Rattle.factor.specs.declared.Factor.{Factor}
-use Rattle.words.specs.Words.{unsigned, signed, low32}
+use Rattle.words.specs.Words.{unsigned, signed, low32, pastHalf}
 use Rattle.calls.specs.State.{State}
 
 -- ---- lists of words
@@ -43,14 +43,21 @@ factorWords f =
     ∷ unsigned 32 (f .applied .scale)
     ∷ []
 
+-- damage: precision, places, floats and scale are written with an upper half of 0, so a word of theirs with another one was altered
+unfoldable pub damaged : List ℕ → Bool
+damaged ws = pastHalf (word ws 0) || pastHalf (word ws 5) || pastHalf (word ws 6) || pastHalf (word ws 7) || pastHalf (word ws 8)
+
 -- ---- a sweep's state as 13 words: the factor's, then first, last and next significand, and the finished mark, which is any word but 0
 abbrev pub stateLength : ℕ
 stateLength = 13
 
+-- the state over a factor, from the words behind the factor's
+abbrev pub stateOf : Factor → List ℕ → State Factor
+stateOf f ws = record { factor = f; first = word ws 9; last = word ws 10; next = word ws 11; finished = not (eqb (word ws 12) 0) }
+
 unfoldable pub stateFrom : List ℕ → State Factor
 unfolding factorFrom
-stateFrom ws =
-    record { factor = factorFrom ws; first = word ws 9; last = word ws 10; next = word ws 11; finished = not (eqb (word ws 12) 0) }
+stateFrom ws = stateOf (factorFrom ws) ws
 
 unfoldable pub stateWords : State Factor → List ℕ
 unfolding factorWords

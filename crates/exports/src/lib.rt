@@ -16,21 +16,32 @@ ghost use mathlib.Core.List.{[], _∷_};
 ghost use Prim.Native.Nat.{_≤_};
 ghost use lib.ListN.{length};
 ghost use lib.Seq.{sets};
+ghost use lib.Ieee.{binary32, toBits};
 ghost use Rattle.sweep.specs.Answers.{viewOf};
-ghost use Rattle.exports.specs.Words.{factorFrom, factorWords, stateFrom, stateWords};
-ghost use Rattle.exports.specs.Answers.{leaves, setUpTo, multiplyTo, readTo, newSweepTo, sweepTo};
+ghost use Rattle.exports.specs.Words.{factorFrom, factorWords, damaged, stateOf, stateWords};
+ghost use Rattle.exports.specs.Answers.{taken, takenOf, leaves, setUpTo, multiplyTo, readTo, newSweepTo, sweepTo};
 
-// So many words have a factor, a product, a sweep's state, and what a sweep call counts.
+// So many words have a factor, a product, a reading's product, a sweep's state, and what a sweep call counts.
 const FACTOR_WORDS: usize = 9;
 
 const PRODUCT_WORDS: usize = 2;
+
+const READING_WORDS: usize = 1;
 
 const STATE_WORDS: usize = 13;
 
 const COUNT_WORDS: usize = 3;
 
-// What is answered where a list is too short.
+// What is answered where a list is too short, and where words are damaged.
 const TOO_SHORT: u32 = 255;
+
+const DAMAGED: u32 = 31;
+
+// What a caller's words of a factor tell: the factor, or why it is not taken.
+pub enum TakenFactor {
+    Accepted(Factor),
+    Refused(u32),
+}
 
 // A factor from its words.
 fn factor_from(words: &[u64]) -> Factor
@@ -59,6 +70,35 @@ fn factor_from(words: &[u64]) -> Factor
     }
 }
 
+// Whether a word of precision, places, floats or scale has an upper half that is not as written, 0.
+fn is_damaged(words: &[u64]) -> bool
+    requires { ⌜ 9 ≤ length (now words) ⌝ }
+    ensures { λ r. ⌜ r ≡ damaged (now (words .entry)) ⌝ }
+{
+    words::is_past_half(words[0])
+        | words::is_past_half(words[5])
+        | words::is_past_half(words[6])
+        | words::is_past_half(words[7])
+        | words::is_past_half(words[8])
+}
+
+// The factor in a caller's words, of which so many are due, for an answer that needs so much room; 255 where either is too short, 31 where the words are damaged.
+pub fn take_factor(words: &[u64], due: usize, room: usize, needed: usize) -> TakenFactor
+    requires { ⌜ 9 ≤ due ⌝ }
+    ensures { λ r. ⌜ takenOf r ≡ taken (now (words .entry)) due room needed ⌝ }
+{
+    if words.len() < due {
+        return TakenFactor::Refused(TOO_SHORT);
+    }
+    if room < needed {
+        return TakenFactor::Refused(TOO_SHORT);
+    }
+    if is_damaged(words) {
+        return TakenFactor::Refused(DAMAGED);
+    }
+    TakenFactor::Accepted(factor_from(words))
+}
+
 // The words of a factor.
 fn put_factor(f: Factor, out: &mut [u64])
     requires { ⌜ 9 ≤ length (now out) ⌝ }
@@ -75,21 +115,32 @@ fn put_factor(f: Factor, out: &mut [u64])
     out[8] = words::unsigned_half(f.applied.scale);
 }
 
-// The words of a product.
-fn put_product(v: Product, out: &mut [u64])
+// The words of a product, and its mark as the answer.
+fn put_product(mark: u32, v: Product, out: &mut [u64]) -> u32
     requires { ⌜ 2 ≤ length (now out) ⌝ }
+    ensures { λ r. ⌜ r ≡ mark ⌝ }
     ensures { λ _. ⌜ now (out .exit) ≡ sets (now (out .entry)) 0 (v .significand ∷ v .binade ∷ []) ⌝ }
 {
     out[0] = v.significand;
     out[1] = v.binade as u64;
+    mark
 }
 
-// A sweep's state from its words: a factor's, then the first, last and next significand, and whether it is finished.
-fn state_from(words: &[u64]) -> SweepState
-    requires { ⌜ 13 ≤ length (now words) ⌝ }
-    ensures { λ r. ⌜ viewOf r ≡ stateFrom (now (words .entry)) ⌝ }
+// The bits of a reading's product, and its mark as the answer.
+fn put_reading(mark: u32, y: f32, out: &mut [u32]) -> u32
+    requires { ⌜ 1 ≤ length (now out) ⌝ }
+    ensures { λ r. ⌜ r ≡ mark ⌝ }
+    ensures { λ _. ⌜ now (out .exit) ≡ sets (now (out .entry)) 0 (toBits binary32 y ∷ []) ⌝ }
 {
-    let factor = factor_from(words);
+    out[0] = floats::bits_of(y);
+    mark
+}
+
+// A sweep's state over a factor, from the words behind the factor's: the first, last and next significand, and whether it is finished.
+fn state_of(factor: Factor, words: &[u64]) -> SweepState
+    requires { ⌜ 13 ≤ length (now words) ⌝ }
+    ensures { λ r. ⌜ viewOf r ≡ stateOf factor (now (words .entry)) ⌝ }
+{
     SweepState {
         factor,
         first: words[9],
@@ -142,86 +193,59 @@ pub extern "C" fn gusnalip_set_up(
     }
 }
 
-// Multiplies a significand: 1 right, 2 open, 3 wrong, with significand and binade, or the refusal; 255 where a list is too short.
+// Multiplies a significand: 1 right, 2 open, 3 wrong, with significand and binade, or the refusal; 255 where a list is too short, 31 where the factor's words are damaged.
 #[no_mangle]
 pub extern "C" fn gusnalip_multiply(factor: &[u64], x: u64, out: &mut [u64]) -> u32
     ensures { λ r. ⌜ r ≡ multiplyTo (now (factor .entry)) x (now (out .entry)) .number ⌝ }
     ensures { λ _. ⌜ now (out .exit) ≡ leaves (multiplyTo (now (factor .entry)) x (now (out .entry))) (now (out .entry)) ⌝ }
 {
-    if factor.len() < FACTOR_WORDS {
-        return TOO_SHORT;
-    }
-    if out.len() < PRODUCT_WORDS {
-        return TOO_SHORT;
-    }
-    match product::multiply(factor_from(factor), x) {
-        ProductAnswer::Right(v) => {
-            put_product(v, out);
-            1
-        }
-        ProductAnswer::Open(v) => {
-            put_product(v, out);
-            2
-        }
-        ProductAnswer::Wrong(v) => {
-            put_product(v, out);
-            3
-        }
-        ProductAnswer::Refused(k) => k,
+    match take_factor(factor, FACTOR_WORDS, out.len(), PRODUCT_WORDS) {
+        TakenFactor::Accepted(f) => match product::multiply(f, x) {
+            ProductAnswer::Right(v) => put_product(1, v, out),
+            ProductAnswer::Open(v) => put_product(2, v, out),
+            ProductAnswer::Wrong(v) => put_product(3, v, out),
+            ProductAnswer::Refused(k) => k,
+        },
+        TakenFactor::Refused(k) => k,
     }
 }
 
-// Multiplies a reading given by its bits: 1 right, 2 open, 3 wrong, with the product's bits, or the refusal; 255 where a list is too short.
+// Multiplies a reading given by its bits: 1 right, 2 open, 3 wrong, with the product's bits, or the refusal; 255 where a list is too short, 31 where the factor's words are damaged.
 #[no_mangle]
 pub extern "C" fn gusnalip_read(factor: &[u64], reading: u32, out: &mut [u32]) -> u32
     ensures { λ r. ⌜ r ≡ readTo (now (factor .entry)) reading (now (out .entry)) .number ⌝ }
     ensures { λ _. ⌜ now (out .exit) ≡ leaves (readTo (now (factor .entry)) reading (now (out .entry))) (now (out .entry)) ⌝ }
 {
-    if factor.len() < FACTOR_WORDS {
-        return TOO_SHORT;
-    }
-    if out.len() < 1 {
-        return TOO_SHORT;
-    }
-    match reading::read(factor_from(factor), floats::float_from(reading)) {
-        ReadingAnswer::Right(y) => {
-            out[0] = floats::bits_of(y);
-            1
-        }
-        ReadingAnswer::Open(y) => {
-            out[0] = floats::bits_of(y);
-            2
-        }
-        ReadingAnswer::Wrong(y) => {
-            out[0] = floats::bits_of(y);
-            3
-        }
-        ReadingAnswer::Refused(k) => k,
+    match take_factor(factor, FACTOR_WORDS, out.len(), READING_WORDS) {
+        TakenFactor::Accepted(f) => match reading::read(f, floats::float_from(reading)) {
+            ReadingAnswer::Right(y) => put_reading(1, y, out),
+            ReadingAnswer::Open(y) => put_reading(2, y, out),
+            ReadingAnswer::Wrong(y) => put_reading(3, y, out),
+            ReadingAnswer::Refused(k) => k,
+        },
+        TakenFactor::Refused(k) => k,
     }
 }
 
-// A new sweep: 0 and the state's 13 words, or the refusal; 255 where a list is too short.
+// A new sweep: 0 and the state's 13 words, or the refusal; 255 where a list is too short, 31 where the factor's words are damaged.
 #[no_mangle]
 pub extern "C" fn gusnalip_new_sweep(factor: &[u64], first: u64, last: u64, out: &mut [u64]) -> u32
     ensures { λ r. ⌜ r ≡ newSweepTo (now (factor .entry)) first last (now (out .entry)) .number ⌝ }
     ensures { λ _. ⌜ now (out .exit) ≡ leaves (newSweepTo (now (factor .entry)) first last (now (out .entry))) (now (out .entry)) ⌝ }
 {
-    if factor.len() < FACTOR_WORDS {
-        return TOO_SHORT;
-    }
-    if out.len() < STATE_WORDS {
-        return TOO_SHORT;
-    }
-    match sweep::new_state(factor_from(factor), first, last) {
-        NewSweep::Accepted(s) => {
-            put_state(s, out);
-            0
-        }
-        NewSweep::Refused(k) => k,
+    match take_factor(factor, FACTOR_WORDS, out.len(), STATE_WORDS) {
+        TakenFactor::Accepted(f) => match sweep::new_state(f, first, last) {
+            NewSweep::Accepted(s) => {
+                put_state(s, out);
+                0
+            }
+            NewSweep::Refused(k) => k,
+        },
+        TakenFactor::Refused(k) => k,
     }
 }
 
-// A sweep call: 0 with the state's words as handed back, words in the list, and trials, rounds and the next first free place; or the refusal, with nothing written; 255 where the state or the counts have too few words.
+// A sweep call: 0 with the state's words as handed back, words in the list, and trials, rounds and the next first free place; or the refusal, with nothing written; 255 where the state or the counts have too few words, 31 where the state's are damaged.
 #[no_mangle]
 pub extern "C" fn gusnalip_sweep(
     state: &mut [u64],
@@ -235,21 +259,18 @@ pub extern "C" fn gusnalip_sweep(
     ensures { λ _. ⌜ now (list .exit) ≡ sweepTo (now (state .entry)) cap (now (list .entry)) free (now (counts .entry)) .list ⌝ }
     ensures { λ _. ⌜ now (counts .exit) ≡ sets (now (counts .entry)) 0 (sweepTo (now (state .entry)) cap (now (list .entry)) free (now (counts .entry)) .counts) ⌝ }
 {
-    if state.len() < STATE_WORDS {
-        return TOO_SHORT;
-    }
-    if counts.len() < COUNT_WORDS {
-        return TOO_SHORT;
-    }
-    match sweep::sweep_call(state_from(state), cap, list, free) {
-        SweepAnswer::Accepted(r) => {
-            let s = r.state;
-            put_state(s, state);
-            counts[0] = r.trials;
-            counts[1] = r.rounds;
-            counts[2] = r.place as u64;
-            0
-        }
-        SweepAnswer::Refused(r) => r.number,
+    match take_factor(state, STATE_WORDS, counts.len(), COUNT_WORDS) {
+        TakenFactor::Accepted(f) => match sweep::sweep_call(state_of(f, state), cap, list, free) {
+            SweepAnswer::Accepted(r) => {
+                let s = r.state;
+                put_state(s, state);
+                counts[0] = r.trials;
+                counts[1] = r.rounds;
+                counts[2] = r.place as u64;
+                0
+            }
+            SweepAnswer::Refused(r) => r.number,
+        },
+        TakenFactor::Refused(k) => k,
     }
 }

@@ -27,43 +27,29 @@ threeHalves : ℤ → Factor
 unfolding scaleOf tieRule partsAt appliedOf
 threeHalves k = factorOf (at 24 k (3 * 2 ^ 61))
 
+-- what a reading is answered with there
+abbrev Gives : ℤ → Float → Outcome (Marked Float) → Type 0
+Gives k x o = applied (threeHalves k) x ≡ o
+
 -- 2 ^ 27 at scale 100 is accepted, 2 ^ 28 refused with 23
-scale-100-accepted : applied (threeHalves (pos 100)) (fin false 1 (pos 27)) ≡ right (fin false 3 (pos 126))
+scale-100 : Gives (pos 100) (fin false 1 (pos 27)) (right (fin false 3 (pos 126))) × Gives (pos 100) (fin false 1 (pos 28)) (refused 23)
 unfolding threeHalves applied answer judged Ieee.toBits
-scale-100-accepted = refl
+scale-100 = (refl, refl)
 
-scale-100-refused : applied (threeHalves (pos 100)) (fin false 1 (pos 28)) ≡ refused 23
+-- a zero with a sign, an infinity, a NaN, a subnormal, and a negative reading
+kinds :
+    Gives (pos 0) (fin true 0 (pos 0)) (right (fin false 0 (pos 0)))
+    × Gives (pos 0) (inf true) (refused 21)
+    × Gives (pos 0) nan (refused 21)
+    × Gives (pos 0) (fin false 1 (negsuc 148)) (refused 22)
+    × Gives (pos 0) (fin true 3 (pos 0)) (right (fin true 9 (negsuc 0)))
 unfolding threeHalves applied answer judged Ieee.toBits
-scale-100-refused = refl
+kinds = (refl, refl, refl, refl, refl)
 
--- zeros of either sign, an infinity, a NaN, a subnormal, a negative reading, and exponents at both ends
-minus-zero : applied (threeHalves (pos 0)) (fin true 0 (pos 0)) ≡ right (fin false 0 (pos 0))
+-- the least exponent of a product, and one below it
+least-exponent : Gives (negsuc 99) (fin false 1 (negsuc 25)) (right (fin false 3 (negsuc 126))) × Gives (negsuc 99) (fin false 1 (negsuc 26)) (refused 23)
 unfolding threeHalves applied answer judged Ieee.toBits
-minus-zero = refl
-
-infinite : applied (threeHalves (pos 0)) (inf true) ≡ refused 21
-unfolding threeHalves applied answer judged Ieee.toBits
-infinite = refl
-
-no-number : applied (threeHalves (pos 0)) nan ≡ refused 21
-unfolding threeHalves applied answer judged Ieee.toBits
-no-number = refl
-
-smallest : applied (threeHalves (pos 0)) (fin false 1 (negsuc 148)) ≡ refused 22
-unfolding threeHalves applied answer judged Ieee.toBits
-smallest = refl
-
-negative : applied (threeHalves (pos 0)) (fin true 3 (pos 0)) ≡ right (fin true 9 (negsuc 0))
-unfolding threeHalves applied answer judged Ieee.toBits
-negative = refl
-
-least-normal : applied (threeHalves (negsuc 99)) (fin false 1 (negsuc 25)) ≡ right (fin false 3 (negsuc 126))
-unfolding threeHalves applied answer judged Ieee.toBits
-least-normal = refl
-
-below-normal : applied (threeHalves (negsuc 99)) (fin false 1 (negsuc 26)) ≡ refused 23
-unfolding threeHalves applied answer judged Ieee.toBits
-below-normal = refl
+least-exponent = (refl, refl)
 
 -- n = 23 is refused with 20, an infinity offered to it too
 short : applied (factorOf (at 23 (pos 0) (3 * 2 ^ 61))) (inf false) ≡ refused 20

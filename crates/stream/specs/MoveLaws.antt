@@ -20,7 +20,6 @@ use Rattle.stream.specs.declared.Tally.{Tally}
 use Rattle.stream.specs.declared.Task
 use Rattle.stream.specs.declared.Task.{Task}
 use Rattle.stream.specs.declared.Progress.{Progress}
-use Rattle.stream.specs.declared.Turn.{Turn}
 use Rattle.stream.specs.declared.Move.{Move}
 use Rattle.stream.specs.Output.{mostLines, judgedLine}
 use Rattle.stream.specs.Keep.{kept, upToFeed, Part, mostKept}
@@ -33,7 +32,7 @@ use Rattle.stream.specs.Moves.{Turned, Moved}
 
 -- ---- a part of a sweep
 
-module _ (i : ℕ) (t : Tally) (g : GoodTask i (Task.Sweeping t)) (after : Tally) (e : after ≡ tallied t) (out mid : List ℕ) (used u : ℕ) (w : Written out used (partLines (t .state)) mid u) where
+module _ (i : ℕ) (t : Tally) (g : GoodTask i (Task.Sweeping t)) (after : Tally) (e : after ≡ tallied t) (at : ℕ) (out mid : List ℕ) (used u : ℕ) (w : Written out used (partLines (t .state)) mid u) where
   to : Bool → Stepped
   to b = sweptStep i (tallied t) b (partLines (t .state)) []
 
@@ -41,57 +40,60 @@ module _ (i : ℕ) (t : Tally) (g : GoodTask i (Task.Sweeping t)) (after : Tally
   finished-is = sym (ap (λ (x : Tally). x .state .finished) e)
 
   -- the sweep is finished, and its report is printed
-  pub part-ends : (r : Turn) (last : List ℕ) → after .state .finished ≡ true
+  pub part-ends : (r : Move) (last : List ℕ) → r .at ≡ at → after .state .finished ≡ true
       → Written mid u (reportLine 8 (reportBy i after)) last (r .used)
       → Fit (r .progress)
       → readOf (r .progress) ≡ atLine (i + 1)
-      → Turned (taskStep i [] (Task.Sweeping t) []) r out used last
+      → Turned (taskStep i [] (Task.Sweeping t) []) at r out used last
   unfolding to
-  part-ends r last f report fit read =
-      subst (λ (b : Bool). Turned (to b) r out used last) (sym (finished-is ∙ f))
+  part-ends r last place f report fit read =
+      subst (λ (b : Bool). Turned (to b) at r out used last) (sym (finished-is ∙ f))
       (record {
         fit = fit;
         read = read ∙ ap atLine (add-one i);
+        place = place;
         bytes = written-then w (subst (λ (x : Tally). Written mid u (reportLine 8 (reportBy i x)) last (r .used)) e report);
       })
 
   -- the sweep goes on
   pub part-goes-on : (held : List ℕ) → length held ≡ mostKept → after .state .finished ≡ false
-      → Turned (taskStep i [] (Task.Sweeping t) []) (record { progress = record { number = i; held = held; length = 0; task = Task.Sweeping after }; used = u }) out used mid
+      → Turned (taskStep i [] (Task.Sweeping t) []) at (record { progress = record { number = i; held = held; length = 0; task = Task.Sweeping after }; at = at; used = u }) out used mid
   unfolding to stepOf
   part-goes-on held size f =
       let r : Read = record { number = i; line = []; task = Task.Sweeping after } in
       let good : Good (to (tallied t .state .finished) .read) = step-good (record { number = i; line = []; task = Task.Sweeping t }) (record { number = omega (arith, g .0); line = none-kept; task = g }) [] in
       let same : to false .read ≡ r = ap (λ (x : Tally). record { number = i; line = []; task = Task.Sweeping x }) (sym e) in
-      subst (λ (b : Bool). Turned (to b) (record { progress = record { number = i; held = held; length = 0; task = Task.Sweeping after }; used = u }) out used mid) (sym (finished-is ∙ f))
+      subst (λ (b : Bool). Turned (to b) at (record { progress = record { number = i; held = held; length = 0; task = Task.Sweeping after }; at = at; used = u }) out used mid) (sym (finished-is ∙ f))
       (record {
         fit = record { size = size; few = omega arith; good = subst Good same (subst (λ (b : Bool). Good (to b .read)) (finished-is ∙ f) good) };
         read = sym same;
+        place = refl;
         bytes = w;
       })
 
 -- ---- a line that is complete
 
-module _ (i : ℕ) (line held : List ℕ) (size : length held ≡ mostKept) (h : i ≤ mostLines) (out : List ℕ) (used : ℕ) where
+module _ (i : ℕ) (line held : List ℕ) (size : length held ≡ mostKept) (h : i ≤ mostLines) (at : ℕ) (out : List ℕ) (used : ℕ) where
   pub line-accepted : (f : Factor) (t : Tally) → accepted f ≡ judgedLine line → t ≡ begunWith f
-      → Turned (judgedStep i (judgedLine line) []) (record { progress = record { number = i; held = held; length = 0; task = Task.Sweeping t }; used = used }) out used out
+      → Turned (judgedStep i (judgedLine line) []) at (record { progress = record { number = i; held = held; length = 0; task = Task.Sweeping t }; at = at; used = used }) out used out
   line-accepted f t e b =
       let same : judgedStep i (accepted f) [] .read ≡ record { number = i; line = []; task = Task.Sweeping t } = ap (λ (x : Tally). record { number = i; line = []; task = Task.Sweeping x }) (sym b) in
-      subst (λ (a : Outcome Factor). Turned (judgedStep i a []) (record { progress = record { number = i; held = held; length = 0; task = Task.Sweeping t }; used = used }) out used out) e
+      subst (λ (a : Outcome Factor). Turned (judgedStep i a []) at (record { progress = record { number = i; held = held; length = 0; task = Task.Sweeping t }; at = at; used = used }) out used out) e
       (record {
         fit = record { size = size; few = omega arith; good = subst Good same (judged-good i line [] (accepted f) (sym e) h) };
         read = sym same;
+        place = refl;
         bytes = written-none out used;
       })
 
-  pub line-refused : (j : ℕ) (r : Turn) (after : List ℕ) → refused j ≡ judgedLine line
+  pub line-refused : (j : ℕ) (r : Move) (after : List ℕ) → r .at ≡ at → refused j ≡ judgedLine line
       → Written out used (refusalLine i j) after (r .used)
       → Fit (r .progress)
       → readOf (r .progress) ≡ atLine (i + 1)
-      → Turned (judgedStep i (judgedLine line) []) r out used after
-  line-refused j r after e w fit read =
-      subst (λ (a : Outcome Factor). Turned (judgedStep i a []) r out used after) e
-      (record { fit = fit; read = read ∙ ap atLine (add-one i); bytes = w })
+      → Turned (judgedStep i (judgedLine line) []) at r out used after
+  line-refused j r after place e w fit read =
+      subst (λ (a : Outcome Factor). Turned (judgedStep i a []) at r out used after) e
+      (record { fit = fit; read = read ∙ ap atLine (add-one i); place = place; bytes = w })
 
 -- ---- the step
 
@@ -121,14 +123,14 @@ module _ (p : Progress) (fit : Fit p) (input : List ℕ) (at : ℕ) (out : List 
 
   -- while a sweep is on its way
   pub moved-swept : (t : Tally) → p .task ≡ Task.Sweeping t → at ≤ length input
-      → (turn : Turn) (after : List ℕ)
-      → Turned (taskStep (p .number) [] (Task.Sweeping t) []) turn out used after
-      → Moved (stepOf (readOf p) ahead) input (record { progress = turn .progress; at = at; used = turn .used }) out used after
-  moved-swept t e h turn after d =
-      by-task (Task.Sweeping t) _ after e
-      (subst (λ (s : Stepped). Moved s input (record { progress = turn .progress; at = at; used = turn .used }) out used after)
+      → (r : Move) (after : List ℕ)
+      → Turned (taskStep (p .number) [] (Task.Sweeping t) []) at r out used after
+      → Moved (stepOf (readOf p) ahead) input r out used after
+  moved-swept t e h r after d =
+      by-task (Task.Sweeping t) r after e
+      (subst (λ (s : Stepped). Moved s input r out used after)
       (sym (swept-left (p .number) (tallied t) (tallied t .state .finished) (partLines (t .state)) ahead))
-      (record { fit = d .fit; read = d .read; inside = h; left = refl; bytes = d .bytes }))
+      (record { fit = d .fit; read = d .read; inside = omega (arith, h, d .place); left = ap (λ (k : ℕ). drop k input) (d .place); bytes = d .bytes }))
 
   module _ (e : p .task ≡ Task.Reading) where
     -- past the last line that counts
@@ -173,19 +175,20 @@ module _ (p : Progress) (fit : Fit p) (input : List ℕ) (at : ℕ) (out : List 
             bytes = written-none out used;
           }))
 
-      -- the line is complete
+      -- the line is complete, and the input goes on after its line feed
       pub moved-line : ¬ (place ≡ length input)
-          → (turn : Turn) (after : List ℕ)
-          → Turned (judgedStep (p .number) (judgedLine (take n held)) []) turn out used after
-          → Moved (stepOf (readOf p) ahead) input (record { progress = turn .progress; at = place + 1; used = turn .used }) out used after
-      moved-line h turn after d =
+          → (next : ℕ) (r : Move) (after : List ℕ)
+          → Turned (judgedStep (p .number) (judgedLine (take n held)) []) next r out used after
+          → next ≡ place + 1
+          → Moved (stepOf (readOf p) ahead) input r out used after
+      moved-line h next r after d e =
           let i : place < length input = omega arith in
-          reads _ after
-          (subst (λ (l : List ℕ). Moved (lineStep (p .number) (take n held) l) input (record { progress = turn .progress; at = place + 1; used = turn .used }) out used after)
+          reads r after
+          (subst (λ (l : List ℕ). Moved (lineStep (p .number) (take n held) l) input r out used after)
           (sym (drop-cons input place 0 i))
-          (subst (λ (s : Stepped). Moved s input (record { progress = turn .progress; at = place + 1; used = turn .used }) out used after)
+          (subst (λ (s : Stepped). Moved s input r out used after)
           (sym (judged-left (p .number) (judgedLine (take n held)) (drop (suc place) input)))
-          (record { fit = d .fit; read = d .read; inside = omega arith; left = ap (λ (k : ℕ). drop k input) (add-one place); bytes = d .bytes })))
+          (record { fit = d .fit; read = d .read; inside = omega (arith, d .place, e); left = ap (λ (k : ℕ). drop k input) (d .place ∙ e ∙ add-one place); bytes = d .bytes })))
 
 -- ---- the end of the input
 

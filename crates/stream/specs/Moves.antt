@@ -4,17 +4,17 @@ use mathlib.Core.List.{List}
 use Prim.Native.Nat.{ℕ, _≤_}
 use lib.ListN.{length, drop}
 use Rattle.frame.specs.Written.{Written}
-use Rattle.stream.specs.declared.Turn.{Turn}
 use Rattle.stream.specs.declared.Move.{Move}
 use Rattle.stream.specs.declared.Worked.{Worked}
 use Rattle.stream.specs.Step.{readOf, Stepped}
 use Rattle.stream.specs.Good.{Fit}
 use Rattle.stream.specs.Work.{Batch}
 
--- what was read then, and the bytes written from a place of the output on
-pub record Turned (s : Stepped) (r : Turn) (out : List ℕ) (used : ℕ) (after : List ℕ) : Type 0 where
+-- what was read then, where the input goes on, which the caller has said, and the bytes written from a place of the output on
+pub record Turned (s : Stepped) (at : ℕ) (r : Move) (out : List ℕ) (used : ℕ) (after : List ℕ) : Type 0 where
   pub fit : Fit (r .progress)
   pub read : readOf (r .progress) ≡ s .read
+  pub place : r .at ≡ at
   pub bytes : Written out used (s .bytes) after (r .used)
 
 -- and the input that is left

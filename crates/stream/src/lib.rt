@@ -88,12 +88,6 @@ struct Part {
     used: usize,
 }
 
-// The progress, and where the output goes on.
-struct Turn {
-    progress: Progress,
-    used: usize,
-}
-
 // How much of a line is kept, and where the input goes on.
 struct ValidPrecision {
     length: usize,
@@ -259,9 +253,9 @@ fn is_sweeping(p: Progress) -> bool
 }
 
 // A part of a sweep, and its report at the end.
-fn sweep_step(p: Progress, t: Tally, out: &mut [u8], used: usize) -> Turn
+fn sweep_step(p: Progress, t: Tally, at: usize, out: &mut [u8], used: usize) -> Move
     requires { ⌜ Fit p × GoodTask (p .number) (Task.Sweeping t) × (used + mostWritten ≤ length (now out)) ⌝ }
-    ensures { λ r. ⌜ Turned (taskStep (p .number) [] (Task.Sweeping t) []) r (now (out .entry)) used (now (out .exit)) ⌝ }
+    ensures { λ r. ⌜ Turned (taskStep (p .number) [] (Task.Sweeping t) []) at r (now (out .entry)) used (now (out .exit)) ⌝ }
 {
     let part = sweep_part(t, out, used);
     let tally = part.tally;
@@ -275,44 +269,55 @@ fn sweep_step(p: Progress, t: Tally, out: &mut [u8], used: usize) -> Turn
             opens: tally.opens,
         };
         let end = frame::put_report(out, part.used, WORD_DIGITS, report);
-        return Turn {
+        return Move {
             progress: at_line(p.number + 1, held),
+            at,
             used: end,
         };
     }
-    Turn {
+    Move {
         progress: Progress {
             number: p.number,
             held,
             length: 0,
             task: Task::Sweeping(tally),
         },
+        at,
         used: part.used,
     }
 }
 
 // A line that is complete: its refusal, or the sweep of its factor begins.
-fn line_step(number: u64, held: [u8; 40], count: usize, out: &mut [u8], used: usize) -> Turn
+fn line_step(
+    number: u64,
+    held: [u8; 40],
+    count: usize,
+    at: usize,
+    out: &mut [u8],
+    used: usize,
+) -> Move
     requires { ⌜ (number ≤ 65535) × (length held ≡ 40) × (count ≤ 40) × (used + mostWritten ≤ length (now out)) ⌝ }
-    ensures { λ r. ⌜ Turned (judgedStep number (judgedLine (take count held)) []) r (now (out .entry)) used (now (out .exit)) ⌝ }
+    ensures { λ r. ⌜ Turned (judgedStep number (judgedLine (take count held)) []) at r (now (out .entry)) used (now (out .exit)) ⌝ }
 {
     match judge(&held[..count]) {
         SetUp::Accepted(f) => {
             let tally = begin(f);
-            Turn {
+            Move {
                 progress: Progress {
                     number,
                     held,
                     length: 0,
                     task: Task::Sweeping(tally),
                 },
+                at,
                 used,
             }
         }
         SetUp::Refused(j) => {
             let end = frame::put_refusal(out, used, number, j);
-            Turn {
+            Move {
                 progress: at_line(number + 1, held),
+                at,
                 used: end,
             }
         }
@@ -326,15 +331,7 @@ fn step(p: Progress, input: &[u8], at: usize, out: &mut [u8], used: usize) -> Mo
 {
     let task = p.task;
     match task {
-        Task::Sweeping(t) => {
-            let turn = sweep_step(p, t, out, used);
-            let progress = turn.progress;
-            Move {
-                progress,
-                at,
-                used: turn.used,
-            }
-        }
+        Task::Sweeping(t) => sweep_step(p, t, at, out, used),
         Task::Reading => {
             if MOST_LINES < p.number {
                 return Move {
@@ -357,13 +354,7 @@ fn step(p: Progress, input: &[u8], at: usize, out: &mut [u8], used: usize) -> Mo
                     used,
                 };
             }
-            let turn = line_step(p.number, held, kept.length, out, used);
-            let progress = turn.progress;
-            Move {
-                progress,
-                at: kept.at + 1,
-                used: turn.used,
-            }
+            line_step(p.number, held, kept.length, kept.at + 1, out, used)
         }
     }
 }

@@ -1,2 +1,3 @@
 -- What a word says.
 pub mod Words
+pub mod WordLaws

@@ -1,12 +1,19 @@
 // Signed numbers as words, in two's complement. For programs that store factors or hand them to others.
 ghost use mathlib.Core.Path.{_≡_};
-ghost use Rattle.words.specs.Words.{unsigned, signed, low32};
+ghost use Rattle.words.specs.Words.{unsigned, signed, low32, pastHalf};
 
 // A word's low 32 bits.
 pub fn low_half(v: u64) -> u32
     ensures { λ r. ⌜ r ≡ low32 v ⌝ }
 {
     (v % 4294967296) as u32
+}
+
+// Whether a word's upper 32 bits are not all 0.
+pub fn is_past_half(v: u64) -> bool
+    ensures { λ r. ⌜ r ≡ pastHalf v ⌝ }
+{
+    4294967296 <= v
 }
 
 // A word of 64 bits in two's complement.

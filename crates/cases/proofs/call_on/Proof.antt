@@ -6,7 +6,7 @@ use Rattle.cases.proofs.call_on.Statement.{statement}
 use Rattle.cases.proofs.call_on.Tie as tie
 
 slice-aggregate-call : tie.Need-slice-aggregate-call
-slice-aggregate-call c = let a = c .before .before in sym (length-take-le (a .args .n) (a .args .list .now) (a .pre))
+slice-aggregate-call c = let a = c .before .before .before .before .args in sym (length-take-le (a .n) (a .list .now) (c .before .before .if1 .left))
 
 pub call-on-spec : {M : Type 1} → statement M
-call-on-spec = tie.close (tie.spec (λ c. search needs) slice-aggregate-call (λ c κs. search needs) (λ c. search needs) (λ c. search needs))
+call-on-spec = tie.close (tie.spec (λ c κs. search needs) (λ c. search needs) (λ c. search needs) slice-aggregate-call (λ c κs. search needs) (λ c. search needs) (λ c. search needs))

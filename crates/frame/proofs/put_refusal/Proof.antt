@@ -12,14 +12,8 @@ use Rattle.frame.proofs.put_refusal.Tie as tie
 room : (c : tie.After-put-field) → c .put-field .result + 6 ≤ length (c .put-field .last .0)
 room c = field-room _ _ _ _ (c .put-field .ensures) _ (omega arith)
 
-put-field-requires-2 : tie.Need-put-field-requires-2
-put-field-requires-2 c κs = omega (arith, room (c .before .before .before))
-
 room-2 : (c : tie.After-put-field2) → c .put-field2 .result + 3 ≤ length (c .put-field2 .last .0)
 room-2 c = field-room _ _ _ _ (c .put-field2 .ensures) _ (omega (arith, room (c .before .before .before .before)))
-
-put-field-requires-3 : tie.Need-put-field-requires-3
-put-field-requires-3 c κs = omega (arith, room-2 (c .before .before .before))
 
 returns : tie.Need-returns
 unfolding refusalLine
@@ -30,4 +24,4 @@ returns c =
     written-field _ _ _ _ (first .put-field .ensures) (written-field _ _ _ _ (second .put-field2 .ensures) (third .put-field3 .ensures))
 
 pub put-refusal-spec : {M : Type 1} → statement M
-put-refusal-spec = tie.close (tie.spec (λ c κs. search needs) put-field-requires-2 put-field-requires-3 (λ c. search needs) returns)
+put-refusal-spec = tie.close (tie.spec (λ c κs. search needs) (λ c κs. omega (arith, room (c .before .before .before))) (λ c κs. omega (arith, room-2 (c .before .before .before))) (λ c. search needs) returns)

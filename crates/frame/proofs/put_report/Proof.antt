@@ -12,17 +12,11 @@ use Rattle.frame.proofs.put_report.Tie as tie
 room : (c : tie.After-put-field) → c .put-field .result + (6 + 3 * c .before .before .before .args .width) ≤ length (c .put-field .last .0)
 room c = field-room _ _ _ _ (c .put-field .ensures) _ (omega arith)
 
-put-field-requires-2 : tie.Need-put-field-requires-2
-put-field-requires-2 c κs = omega (arith, room (c .before .before .before .before))
-
 room-2 :
     (c : tie.After-put-field2)
     → let first = c .before .before .before .before .before in
     c .put-field2 .result + (3 + 3 * first .before .before .before .args .width) ≤ length (c .put-field2 .last .0)
 room-2 c = field-room _ _ _ _ (c .put-field2 .ensures) _ (omega (arith, room (c .before .before .before .before .before)))
-
-put-field-requires-3 : tie.Need-put-field-requires-3
-put-field-requires-3 c κs = omega (arith, room-2 (c .before .before .before))
 
 room-3 :
     (c : tie.After-put-field3)
@@ -30,17 +24,11 @@ room-3 :
     c .put-field3 .result + (2 + 2 * first .before .before .before .args .width) ≤ length (c .put-field3 .last .0)
 room-3 c = field-room _ _ _ _ (c .put-field3 .ensures) _ (omega (arith, room-2 (c .before .before .before .before)))
 
-put-field-requires-4 : tie.Need-put-field-requires-4
-put-field-requires-4 c κs = omega (arith, room-3 (c .before .before .before))
-
 room-4 :
     (c : tie.After-put-field4)
     → let first = c .before .before .before .before .before .before .before .before .before .before .before .before .before in
     c .put-field4 .result + (1 + first .before .before .before .args .width) ≤ length (c .put-field4 .last .0)
 room-4 c = field-room _ _ _ _ (c .put-field4 .ensures) _ (omega (arith, room-3 (c .before .before .before .before)))
-
-put-field-requires-5 : tie.Need-put-field-requires-5
-put-field-requires-5 c κs = omega (arith, room-4 (c .before .before .before))
 
 returns : tie.Need-returns
 unfolding reportLine
@@ -56,4 +44,4 @@ returns c =
     (written-field _ _ _ _ (fourth .put-field4 .ensures) (fifth .put-field5 .ensures))))
 
 pub put-report-spec : {M : Type 1} → statement M
-put-report-spec = tie.close (tie.spec (λ c κs. search needs) (λ c κs. search needs) put-field-requires-2 put-field-requires-3 put-field-requires-4 put-field-requires-5 (λ c. search needs) returns)
+put-report-spec = tie.close (tie.spec (λ c κs. search needs) (λ c κs. search needs) (λ c κs. omega (arith, room (c .before .before .before .before))) (λ c κs. omega (arith, room-2 (c .before .before .before))) (λ c κs. omega (arith, room-3 (c .before .before .before))) (λ c κs. omega (arith, room-4 (c .before .before .before))) (λ c. search needs) returns)

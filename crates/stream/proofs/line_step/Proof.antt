@@ -1,5 +1,5 @@
 -- `stream::line_step` meets its contract. Assumes nothing.
-use mathlib.Core.Path.{sym, ap, _∙_}
+use mathlib.Core.Path.{refl, sym, ap, _∙_}
 use native.Mathlib.Omega.{arith}
 use lib.Seq.{length-take-le}
 use Rattle.factor.specs.SetUp.{outcomeOf}
@@ -19,8 +19,8 @@ returns : tie.Need-returns
 returns c =
     let known = c .before .before in
     let judged = known .before .before in
-    let pre = judged .before .before .before .pre in
-    line-accepted _ _ _ (pre .1) (pre .0) _ _ _ _ (sym (ap outcomeOf (known .f .given .1)) ∙ judged .judge .ensures) (c .begin .ensures)
+    let start = judged .before .before .before in
+    line-accepted _ _ _ (start .pre .1) (start .pre .0) (start .args .at) _ _ _ _ (sym (ap outcomeOf (known .f .given .1)) ∙ judged .judge .ensures) (c .begin .ensures)
 
 returns-2 : tie.Need-returns-2
 returns-2 c =
@@ -28,7 +28,7 @@ returns-2 c =
     let known = refusal .before .before .before in
     let judged = known .before .before in
     let start = judged .before .before .before in
-    line-refused _ _ (start .args .t2) (start .pre .1) (start .pre .0) _ _ _ _ _ (sym (ap outcomeOf (known .j .given .1)) ∙ judged .judge .ensures) (refusal .put-refusal .ensures) (c .at-line .ensures .0) (c .at-line .ensures .1)
+    line-refused _ _ (start .args .t2) (start .pre .1) (start .pre .0) (start .args .at) _ _ _ _ _ refl (sym (ap outcomeOf (known .j .given .1)) ∙ judged .judge .ensures) (refusal .put-refusal .ensures) (c .at-line .ensures .0) (c .at-line .ensures .1)
 
 pub line-step-spec : {M : Type 1} → statement M
 line-step-spec =

@@ -1,4 +1,5 @@
 -- `stream::sweep_step` meets its contract. Assumes nothing.
+use mathlib.Core.Path.{refl}
 use mathlib.Core.List.{List}
 use Prim.Native.Nat.{ℕ, _+_, _≤_}
 use native.Mathlib.Omega.{arith}
@@ -28,13 +29,13 @@ returns c =
     let test = report .before .before in
     let part = test .before .before .before .before .before .before in
     let start = part .before .before .before in
-    part-ends _ _ (start .pre .1) _ (part .sweep-part .ensures .0) _ _ _ _ (part .sweep-part .ensures .1) _ _ (test .if1 .taken) (report .put-report .ensures) (c .at-line .ensures .0) (c .at-line .ensures .1)
+    part-ends _ _ (start .pre .1) _ (part .sweep-part .ensures .0) (start .args .at) _ _ _ _ (part .sweep-part .ensures .1) _ _ refl (test .if1 .taken) (report .put-report .ensures) (c .at-line .ensures .0) (c .at-line .ensures .1)
 
 returns-2 : tie.Need-returns-2
 returns-2 c =
     let part = c .before .before .before .before .before .before in
     let start = part .before .before .before in
-    part-goes-on _ _ (start .pre .1) _ (part .sweep-part .ensures .0) _ _ _ _ (part .sweep-part .ensures .1) _ (start .pre .0 .size) (c .if1 .left)
+    part-goes-on _ _ (start .pre .1) _ (part .sweep-part .ensures .0) (start .args .at) _ _ _ _ (part .sweep-part .ensures .1) _ (start .pre .0 .size) (c .if1 .left)
 
 pub sweep-step-spec : {M : Type 1} → statement M
 sweep-step-spec = tie.close (tie.spec (λ c κs. search needs) put-report-requires (λ c. search needs) (λ c κs. search needs) (λ c. search needs) returns (λ c. search needs) returns-2)

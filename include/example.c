@@ -1,0 +1,49 @@
+/* A caller of the engine, in C that is C++ too: the gate compiles it as both, and runs it. It says where an answer is not the one due, and ends with a status that is not 0. */
+#include "gusnalip.h"
+#include <stdio.h>
+
+static int wrong = 0;
+
+static void due(const char *what, uint64_t answer, uint64_t expected) {
+    if (answer != expected) {
+        printf("%s: %llx, and not %llx\n", what, (unsigned long long)answer, (unsigned long long)expected);
+        wrong = 1;
+    }
+}
+
+int main(void) {
+    const uint64_t three_halves = (uint64_t)3 << 61;
+    const uint64_t below_19_16 = 0x4BFFFC0000000000u;
+    uint64_t factor[GUSNALIP_FACTOR_WORDS];
+    uint64_t product[GUSNALIP_PRODUCT_WORDS];
+    uint32_t reading[GUSNALIP_READING_WORDS];
+    uint64_t state[GUSNALIP_STATE_WORDS];
+    uint64_t counts[GUSNALIP_COUNT_WORDS];
+    uint32_t list[2] = {7, 7};
+
+    /* 3/2 at 4 bits, and at 24 for readings. */
+    due("precision 3", gusnalip_set_up(3, 0, three_halves, three_halves, factor, GUSNALIP_FACTOR_WORDS), 11);
+    due("3/2", gusnalip_set_up(4, 0, three_halves, three_halves, factor, GUSNALIP_FACTOR_WORDS), GUSNALIP_ACCEPTED);
+    due("3/2 times 9", gusnalip_multiply(factor, GUSNALIP_FACTOR_WORDS, 9, product, GUSNALIP_PRODUCT_WORDS), GUSNALIP_RIGHT);
+    due("its significand", product[0], 14);
+    due("its binade", product[1], 0);
+    due("no room", gusnalip_multiply(factor, GUSNALIP_FACTOR_WORDS, 14, product, 1), GUSNALIP_TOO_SHORT);
+    factor[5] += (uint64_t)1 << 32;
+    due("damage", gusnalip_multiply(factor, GUSNALIP_FACTOR_WORDS, 14, product, GUSNALIP_PRODUCT_WORDS), GUSNALIP_DAMAGED);
+    due("the significand as it was", product[0], 14);
+    due("3/2 at 24 bits", gusnalip_set_up(24, -1, three_halves, three_halves, factor, GUSNALIP_FACTOR_WORDS), GUSNALIP_ACCEPTED);
+    due("3/4 times 1", gusnalip_read(factor, GUSNALIP_FACTOR_WORDS, 0x3F800000, reading, GUSNALIP_READING_WORDS), GUSNALIP_RIGHT);
+    due("its bits", reading[0], 0x3F400000);
+
+    /* 19/16 - 2^-20 at 4 bits: its one suspect, 8, is wrong. */
+    due("19/16 - 2^-20", gusnalip_set_up(4, 0, below_19_16, below_19_16, factor, GUSNALIP_FACTOR_WORDS), GUSNALIP_ACCEPTED);
+    due("a new sweep", gusnalip_new_sweep(factor, GUSNALIP_FACTOR_WORDS, 8, 15, state, GUSNALIP_STATE_WORDS), GUSNALIP_ACCEPTED);
+    due("a call", gusnalip_sweep(state, GUSNALIP_STATE_WORDS, 100, list, 2, 1, counts, GUSNALIP_COUNT_WORDS), GUSNALIP_ACCEPTED);
+    due("its trials", counts[0], 1);
+    due("its place", counts[2], 2);
+    due("the list before the free place", list[0], 7);
+    due("the word of 8", list[1], 16);
+    due("finished", state[12], 1);
+    due("a further call", gusnalip_sweep(state, GUSNALIP_STATE_WORDS, 100, list, 2, 1, counts, GUSNALIP_COUNT_WORDS), 33);
+    return wrong;
+}
