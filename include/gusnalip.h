@@ -1,4 +1,4 @@
-/* The engine's exported functions, for C and C++: link target/staticlib/libexports.a, which `rt staticlib exports` makes (x86-64 Linux). example.c, beside this file, calls each of them.
+/* The engine's exported functions, for C and C++: link target/staticlib/libexports.a, which `rt staticlib exports` makes (x86-64 Linux). examples/calls.c calls each of them.
  *
  * A list is a pointer and the number of its words. Lists given to one call must not overlap. A list that is too short is answered
  * with GUSNALIP_TOO_SHORT (the list of a sweep may have any length, 0 too: it is refused with 19). Every other answer and every word written is fixed by the function's contract
