@@ -6,22 +6,24 @@ use Prim.Native.Nat.{ℕ, _≤_, _<_}
 use native.Mathlib.Omega.{arith}
 use lib.ListN.{length, drop}
 use lib.Seq.{sets, sets-eq}
-use borrow.Author.Tests.{ltb-false, le-ltb, not-false}
+use lib.Dec.{ltb}
+use borrow.Author.Tests.{ltb-false, lt-ltb, le-ltb, not-false}
 use Rattle.marks.specs.Answers.{Refusal, number, none, judged, Outcome, refused, accepted, unless, answer, andThen}
-use Rattle.marks.specs.AnswerLaws.{pass, end, accepts, only-accepted}
+use Rattle.marks.specs.AnswerLaws.{pass, stop, end, refuses, accepts, only-accepted}
 use Rattle.search.specs.declared.Place.{Place}
 use Rattle.search.specs.declared.Place.the-variants.{At, Nowhere}
 use Rattle.factor.specs.declared.Factor.{Factor}
-use Rattle.factor.specs.SetUp.{intact}
+use Rattle.factor.specs.declared.Description.{Description}
+use Rattle.factor.specs.SetUp.{setUp, intact}
 use Rattle.calls.specs.State.{State, fresh, Call, termsOf, wordList}
 use Rattle.calls.specs.Call.{newState, Result, Reply, Run, conditions, handed, replied, runOf, sweepCall}
 use Rattle.sweep.specs.declared.SweepAnswer.{SweepAnswer}
-use Rattle.sweep.specs.Engine.{engine}
+use Rattle.sweep.specs.Engine.{engine, rangeOut}
 use Rattle.sweep.specs.Answers.{callOf, replyOf, codeOf}
-use Rattle.sweep.specs.Demand3.{Made, replyIn, Kept, askedIn, Demand3, demand-3}
-use Rattle.exports.specs.Words.{factorLength, factorFrom, stateLength, stateOf, stateFrom, stateWords}
-use Rattle.exports.specs.Answers.{unfit, taken, Answer, leaves, newSweepAnswer, newSweepTo, SweepWords, replyWords, replyTo, sweepTo}
-use Rattle.exports.specs.WordLaws.{Writable, read-writable, state-not-damaged, state-back}
+use Rattle.sweep.specs.Demand3.{set-up-begins, Made, replyIn, Kept, askedIn, lastIn, Demand3, demand-3}
+use Rattle.exports.specs.Words.{factorLength, factorFrom, factorWords, stateLength, stateOf, stateFrom, stateWords}
+use Rattle.exports.specs.Answers.{unfit, taken, Answer, leaves, newSweepAnswer, newSweepTo, SweepWords, refusedWith, replyWords, replyTo, sweepTo}
+use Rattle.exports.specs.WordLaws.{Writable, set-up-writable, read-writable, not-damaged, factor-back, state-not-damaged, state-back}
 
 -- ---- one call
 -- on the words of a state, whatever stands behind them, it is the engine's call on that state
@@ -62,6 +64,15 @@ factor-kept s c = go (judged (conditions engine s (termsOf c))) (runOf engine s 
     go : (v : Refusal) (x : Run) → replied wordList s c v x .state .factor ≡ s .factor
     go (number n) x = refl
     go none x = over (x .left)
+
+-- a call without room for its counts is none: it is answered with 255 and leaves all as it was
+pub no-room-to : (state : List ℕ) (cap : ℕ) (list : List ℕ) (free : ℕ) (counts : List ℕ) → length counts < 3 → sweepTo state cap list free counts ≡ refusedWith 255 list
+unfolding sweepTo taken
+no-room-to state cap list free counts h = go (ltb (length state) stateLength) refl
+  where
+    go : (b : Bool) → ltb (length state) stateLength ≡ b → replyTo list (taken state stateLength (length counts) 3) (λ f. sweepCall engine (stateOf f state) (callOf cap list free)) ≡ refusedWith 255 list
+    go true e = ap (λ (o : Outcome Factor). replyTo list o (λ f. sweepCall engine (stateOf f state) (callOf cap list free))) (sym (refuses (stop e) (factorFrom state)))
+    go false e = ap (λ (o : Outcome Factor). replyTo list o (λ f. sweepCall engine (stateOf f state) (callOf cap list free))) (sym (refuses (pass e (stop (lt-ltb (length counts) 3 h))) (factorFrom state)))
 
 -- ---- calls one after another
 
@@ -133,6 +144,22 @@ answers-are s W rest (a ∷ asked) =
     ∙ ap₂ (λ (x : SweepWords) (l : List SweepWords). x ∷ l) (ap replyWords (sym (says s a)))
     (ap (λ (ws : List ℕ). answersTo ws asked) (words-left s (callIn a) rest) ∙ answers-are (r .state) next rest asked)
 
+-- the words that calls leave, one after another
+abbrev pub leftTo : (state : List ℕ) → List Asked → List ℕ
+leftTo state [] = state
+leftTo state (a ∷ asked) = leftTo (sets state 0 (sweepTo state (a .cap) (a .list) (a .free) (a .counts) .state)) asked
+
+-- are those of the state that the last of them hands back
+pub left-are : (s : State Factor) → Writable (s .factor) → (rest : List ℕ) (asked : List Asked) → leftTo (stateWords s ++ rest) asked ≡ stateWords (lastIn s (madeFrom s asked)) ++ rest
+left-are s W rest [] = refl
+left-are s W rest (a ∷ asked) =
+    let r = sweepCall engine s (callIn a) in
+    let next = subst Writable (sym (factor-kept s (callIn a))) W in
+    ap (λ (x : SweepWords). leftTo (sets (stateWords s ++ rest) 0 (x .state)) asked) (call-to s W rest (a .cap) (a .list) (a .free) (a .counts) (a .room))
+    ∙ ap (λ (ws : List ℕ). leftTo ws asked) (words-left s (callIn a) rest)
+    ∙ left-are (r .state) next rest asked
+    ∙ ap (λ (x : Reply Factor). stateWords (lastIn (x .state) (madeFrom (r .state) asked)) ++ rest) (sym (says s a))
+
 -- ---- a new sweep
 
 -- the numbers of conditions, none of them 0
@@ -149,6 +176,18 @@ accepted-at tell same (t ∷ l) p a zero = go (t .1) zero (accepted-at tell same
     go : (b : Bool) → tell (unless (cond b (number (t .0)) (judged l)) a) ≡ 0 → (tell (answer l a) ≡ 0 → answer l a ≡ accepted a) → unless (cond b (number (t .0)) (judged l)) a ≡ accepted a
     go true z ih = absurd (omega (arith, p .0, sym (same (t .0)) ∙ z))
     go false z ih = ih z
+
+-- over the words of every factor that set-up accepted, whatever stands behind them, and every range that 17 lets through, it is answered with 0
+pub begins-to : (d : Description) (f : Factor) → setUp d ≡ accepted f → (rest : List ℕ) (first last : ℕ) (out : List ℕ) → rangeOut (f .precision .bits) first last ≡ false → stateLength ≤ length out
+    → newSweepTo (factorWords f ++ rest) first last out .number ≡ 0
+unfolding newSweepTo taken factorWords
+begins-to d f e rest first last out inside room =
+    let W = set-up-writable d f e in
+    let ws = factorWords f ++ rest in
+    ap (λ (o : Outcome Factor). newSweepAnswer (andThen o (λ f. newState engine f first last)) .number)
+    (sym (accepts (pass (le-ltb (length ws) 9 (omega arith)) (pass (le-ltb (length out) 13 room) (pass (not-damaged f W rest) end))) (factorFrom ws)))
+    ∙ ap (λ (g : Factor). newSweepAnswer (newState engine g first last) .number) (factor-back f W rest)
+    ∙ ap (λ (o : Outcome (State Factor)). newSweepAnswer o .number) (set-up-begins d f first last e inside)
 
 -- where it is answered with 0, the words were taken and the engine accepted the state
 module _ (factor : List ℕ) (first last : ℕ) (out : List ℕ) (zero : newSweepTo factor first last out .number ≡ 0) where
@@ -183,11 +222,12 @@ module _ (factor : List ℕ) (first last : ℕ) (out : List ℕ) (zero : newSwee
 
 -- ---- demand 3
 
--- The calls asked on the words that a new sweep left: they are answered as these calls are, and of these demand 3 holds.
+-- The calls asked on the words that a new sweep left: they are answered as these calls are, the words left in the end are those of the last one's state, and of these calls demand 3 holds.
 pub record Demand3To (factor : List ℕ) (first last : ℕ) (out : List ℕ) (asked : List Asked) : Type 0 where
   pub made : List Made
   pub calls : askedIn made ≡ callsIn asked
   pub answers : answersTo (leaves (newSweepTo factor first last out) out) asked ≡ answersIn made
+  pub left : leftTo (leaves (newSweepTo factor first last out) out) asked ≡ stateWords (lastIn (fresh (factorFrom factor) first last) made) ++ drop stateLength out
   pub demand : Demand3 (fresh (factorFrom factor) first last) made
 
 pub demand-3-to : (factor : List ℕ) (first last : ℕ) (out : List ℕ) → newSweepTo factor first last out .number ≡ 0 → (asked : List Asked) → Demand3To factor first last out asked
@@ -197,5 +237,6 @@ demand-3-to factor first last out zero asked =
       made = madeFrom s asked;
       calls = asked-are s asked;
       answers = ap (λ (ws : List ℕ). answersTo ws asked) (state-words factor first last out zero) ∙ answers-are s (writable factor first last out zero) (drop stateLength out) asked;
+      left = ap (λ (ws : List ℕ). leftTo ws asked) (state-words factor first last out zero) ∙ left-are s (writable factor first last out zero) (drop stateLength out) asked;
       demand = demand-3 (factorFrom factor) first last (codeOf s) (sym (was-begun factor first last out zero)) (madeFrom s asked) (kept s asked);
     }

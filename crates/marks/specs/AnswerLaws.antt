@@ -37,6 +37,12 @@ pub accepts : {A : Type 0} {l : List (ℕ × Bool)} → First l none → (a : A)
 unfolding answer
 accepts q a = sym (ap (λ (v : Refusal). unless v a) (q .is))
 
+-- where no condition holds, the value is the answer
+pub none-refuses : {A : Type 0} (l : List (ℕ × Bool)) (a : A) → NoneHolds l → answer l a ≡ accepted a
+unfolding answer judged
+none-refuses [] a h = refl
+none-refuses (t ∷ l) a h = rw (h .0) (none-refuses l a (h .1))
+
 -- where none of a list holds, the rest answers
 pub rest-answers : {A : Type 0} (k l : List (ℕ × Bool)) → NoneHolds k → (a : A) → answer (k ++ l) a ≡ answer l a
 unfolding answer

@@ -1,4 +1,4 @@
--- Demand 2 of readings (`reading-tells`), for every factor and every reading: the answer is the two steps' product with sign and exponent put on, exactly, and its
+-- Demand 2 of readings (`reading-answered`, `reading-tells`), for every factor and every reading: the answer is the two steps' product with sign and exponent put on, exactly, and its
 -- mark tells of every fraction C between the ends whether C * 2 ^ k times the reading rounds to it. Assumes nothing.
 use mathlib.Core.Path.{_≡_, refl, sym, ap, _∙_, subst}
 use mathlib.Core.Bool.{Bool, true, false, not, _&&_}
@@ -15,7 +15,7 @@ use lib.Ieee.Exact.{HasValue}
 use lib.Ieee.Fits.{up-pos, down-pos, two, two-le-pos}
 use Rattle.marks.specs.declared.Mark.{Mark}
 use Rattle.marks.specs.Answers.{NoneHolds, Outcome, refused, accepted, Marked}
-use Rattle.marks.specs.AnswerLaws.{none-apart, of-answer}
+use Rattle.marks.specs.AnswerLaws.{none-apart, none-refuses, of-answer}
 use Rattle.marks.specs.Says.{Says}
 use Rattle.marks.specs.SaysLaws.{says-alike}
 use Rattle.rounding.specs.Round.{HasBits}
@@ -202,3 +202,8 @@ reading-tells f x = of-answer (AnswerTells f b) (conditions f b v) (numbered f b
         let t = none-apart (unreadable f b) ((23, not (zeroBits binary32 b) && outside f b v) ∷ []) h in
         let o : outside f b v ≡ false = rw z at (t .1 .0) in
         rw z (inr (refl, tells f b (t .0) z o))
+
+-- and a reading that none of 31 and 20 to 23 refuses is answered, with plus zero or the number with its mark
+pub reading-answered : (f : Factor) (x : Float) → let b = toBits binary32 x in NoneHolds (conditions f b (secondOf f b)) → applied f x ≡ accepted (numbered f b (secondOf f b))
+unfolding applied answered
+reading-answered f x h = none-refuses (conditions f (toBits binary32 x) (secondOf f (toBits binary32 x))) _ h
