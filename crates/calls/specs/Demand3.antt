@@ -20,7 +20,7 @@ use Rattle.calls.specs.CallLaws.{list-kept, capped, searches-right, roun
 use Rattle.calls.specs.SameLaws.{sweeps-same, after-same}
 use Rattle.calls.specs.SumLaws.{trials-add, words-join}
 use Rattle.calls.specs.FinishLaws.{AllRoomy, Count, counted, closes}
-use Rattle.calls.specs.WordLaws.{holds, stop-from, words-before}
+use Rattle.calls.specs.WordLaws.{holds, words-before}
 
 -- What holds of a call on every state holds of each call of a list.
 pub each : {S : Type 0} (P : S → Call → ReplyOf S → Type 0) (call : S → Call → ReplyOf S) → ((s : S) (c : Call) → P s c (call s c)) → (s : S) (calls : List Call)
@@ -82,6 +82,7 @@ module _ {F : Type 0} {suspect : F → ℕ → Bool} {e : Engine F} {B : F → �
 
     from-fresh : Whole suspect e B (sweepCall e) s calls
     from-fresh =
+        let before = words-before (suspect f) (e .mark f) first last clear (p .tried) (laws .ordered) in
         record {
           same = alike;
           lists = each _ (sweepCall e) (list-kept lawful) s calls;
@@ -91,8 +92,7 @@ module _ {F : Type 0} {suspect : F → ℕ → Bool} {e : Engine F} {B : F → �
                 are = words-are;
                 holds =
                     holds (e .mark f) first (endOf last (untried w p)) (wordsOf (e .mark f) (take (p .tried) (w .suspects)))
-                    (stop-from (suspect f) (e .mark f) first last clear first (p .tried) (omega (arith, laws .ordered)))
-                    (words-before (suspect f) (e .mark f) first last clear (p .tried) (laws .ordered));
+                    (before .0) (before .1);
               };
           trials = trials-are;
           finished = (

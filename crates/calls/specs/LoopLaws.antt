@@ -1,7 +1,7 @@
 -- Laws for a loop that makes a call's steps one by one, writing into a lent list: what is done so far and what is left to do are what the call does. Assumes nothing.
 use mathlib.Core.Path.{_≡_, refl, sym, ap, _∙_}
 use mathlib.Core.Bool.{Bool}
-use mathlib.Core.Logic.{_⊎_, inl, inr}
+use mathlib.Core.Logic.{_⊎_, inl, inr, ⊎-map}
 use mathlib.Core.List.{List, [], _++_}
 use Prim.Native.Nat.{ℕ, zero, suc, _+_, _-_, _*_, _≤_, _<_}
 use native.Mathlib.Omega.{arith}
@@ -107,7 +107,8 @@ module _ {F : Type 0} {suspect : F → ℕ → Bool} {e : Engine F} {B : F → �
         → record { answer = accepted (record { trials = trials; rounds = rounds + w .rounds; place = place }); state = handed s p; list = list } ≡ sweepCall e s c
     unfolding sweepCall
     loop-end p q h =
-        let r : restOf e s c trials place a ≡ record { trials = 0; rounds = w .rounds + 0; words = []; left = w .place } = run-halts e f (s .last) (c .cap - trials) room a (by h) in
+        let r : restOf e s c trials place a ≡ record { trials = 0; rounds = w .rounds + 0; words = []; left = w .place } =
+        run-halts e f (s .last) (c .cap - trials) room a (⊎-map (λ z. q ∙ z) (⊎-map (λ z. omega arith) (λ z. z)) h) in
         let g = l .going in
         let t : runOf e s c .trials ≡ trials = g .tried ∙ rw r (omega arith) in
         let n : runOf e s c .rounds ≡ rounds + w .rounds = g .turned ∙ rw r (omega arith) in
@@ -115,11 +116,6 @@ module _ {F : Type 0} {suspect : F → ℕ → Bool} {e : Engine F} {B : F → �
         let m : runOf e s c .left ≡ p = g .stops ∙ rw r q in
         let v : sets (c .list) (c .free) (entries lists (runOf e s c .words)) ≡ list = g .writes ∙ rw r refl in
         rw (l .accepts, t, n, k, m, v)
-      where
-        by : (p ≡ Nowhere) ⊎ (trials ≡ c .cap) ⊎ (room ≡ 0) → (w .place ≡ Nowhere) ⊎ (c .cap - trials ≡ 0) ⊎ (room ≡ 0)
-        by (inl z) = inl (q ∙ z)
-        by (inr (inl z)) = inr (inl (omega arith))
-        by (inr (inr z)) = inr (inr z)
 
     -- The rounds so far and those of this step are at most B for each significand from the next one on, and two more, whatever the cap.
     pub loop-rounds : rounds + w .rounds ≤ B f * (suc (s .last) - s .next + 2)

@@ -1,5 +1,5 @@
 -- Laws: sweep calls from a new state go with the plain sweep, call by call. Assumes nothing.
-use mathlib.Core.Path.{_≡_, refl, sym, ap, ap₂, _∙_}
+use mathlib.Core.Path.{_≡_, refl, sym, ap, _∙_}
 use mathlib.Core.Bool.{Bool, false, true≢false}
 use mathlib.Core.List.{List, [], _∷_}
 use Prim.Native.Nat.{ℕ, suc, _+_, _≤_}
@@ -15,7 +15,7 @@ use Rattle.calls.specs.Plain.{row, tries, wordsOf, Fed, fed, Plain, begu
 use Rattle.calls.specs.ByRow.{headOf, rowRun}
 use Rattle.calls.specs.Whole.{seen, sweeps, stateAfter}
 use Rattle.calls.specs.RowLaws.{begins}
-use Rattle.calls.specs.RefusalLaws.{ready}
+use Rattle.calls.specs.RefusalLaws.{triedBy, plain-reply, ready}
 use Rattle.calls.specs.TrialLaws.{words-fit}
 use Rattle.calls.specs.ListLaws.{entries-fit, read-back}
 use Rattle.calls.specs.CallLaws.{by-row}
@@ -83,15 +83,10 @@ module _ {F : Type 0} {suspect : F → ℕ → Bool} {e : Engine F} {B : F → �
       record { from = b .from; upto = omega arith; ahead = λ z. sym (b .is) ∙ sym q }
 
   reached-next : (p : Plain) → Reached (suspect f) w p → (c : Call) → Reached (suspect f) w (plainNext w p c .plain)
-  unfolding plainCall
-  reached-next p r c = go (plainRefusal (w .listing) (p .finished) (termsOf c))
-    where
-      k : ℕ
-      k = tries (e .mark f) (c .cap) (roomIn (w .listing) (length (c .list)) (c .free)) (untried w p)
-
-      go : (v : Refusal) → Reached (suspect f) w (plainReplied w p (c .free) v k .plain)
-      go (number n) = r
-      go none = reached-moved (p .tried + k) (drop k (untried w p)) (sym (drop-drop k (p .tried) (w .suspects)))
+  reached-next p r c =
+      let k = triedBy w p c in
+      plain-reply w p c (λ r. Reached (suspect f) w (r .plain)) (λ n. r)
+      (λ q. reached-moved (p .tried + k) (drop k (untried w p)) (sym (drop-drop k (p .tried) (w .suspects))))
 
   reached-begun : Reached (suspect f) w (begun w)
   reached-begun = record { from = omega arith; upto = laws .ordered; ahead = λ z. refl }
@@ -103,8 +98,7 @@ module _ {F : Type 0} {suspect : F → ℕ → Bool} {e : Engine F} {B : F → �
   unfolding sweeps plains
   sames [] p r = refl
   sames (c ∷ cs) p r =
-      ap₂ (λ (x : Seen F) (l : List (Seen F)). x ∷ l) (same p r c)
-      (ap (λ (s : State F). sweeps (sweepCall e) s cs) (same-state p r c) ∙ sames cs (plainNext w p c .plain) (reached-next p r c))
+      rw (same p r c, same-state p r c, sames cs (plainNext w p c .plain) (reached-next p r c))
 
   afters : (calls : List Call) (p : Plain) → Reached (suspect f) w p → stateAfter (sweepCall e) (stateOf w p) calls ≡ stateOf w (plainAfter w p calls)
   unfolding stateAfter plainAfter

@@ -1,6 +1,6 @@
 -- Laws of where a call's searches start, read off the row of suspects: on each way to the next suspect, and how many there are. Assumes nothing.
 use mathlib.Core.Path.{_≡_, refl}
-use mathlib.Core.Bool.{Bool, true, false, false≢true, not, _&&_}
+use mathlib.Core.Bool.{Bool, true, false, not, _&&_, and-false}
 use mathlib.Core.List.{List, [], _∷_}
 use Prim.Native.Nat.{ℕ, zero, suc, _+_, _-_, _≤_, _<_}
 use native.Mathlib.Omega.{arith}
@@ -8,6 +8,7 @@ use native.Mathlib.Decide.{decLe, decLt}
 use borrow.Author.Tests.{lt-ltb, le-ltb, le-leb, lt-leb, ltb-true, leb-true}
 use lib.Dec.{leb, ltb}
 use lib.ListN.{length, drop, length-append}
+use Rattle.marks.specs.AnswerLaws.{and-true}
 use Rattle.search.specs.declared.Place.{Place}
 use Rattle.search.specs.declared.Place.the-variants.{At, Nowhere}
 use Rattle.calls.specs.Engine.{lowEnd}
@@ -27,12 +28,10 @@ entered-not h last a p q = go (decLt a h) (decLe h last)
     go (yes k) (yes m) = rw (lt-ltb a h k, le-leb h last m) (q k m)
 
 pub entered-means : (h last a : ℕ) (p : Place) → entered h last a p ≡ true → (a < h) × (h ≤ last)
-entered-means h last a p = go (ltb a h) refl (leb h last) refl
-  where
-    go : (t : Bool) → ltb a h ≡ t → (u : Bool) → leb h last ≡ u → t && u && pastLow h p ≡ true → (a < h) × (h ≤ last)
-    go true i true j q = (ltb-true a h i, leb-true h last j)
-    go true i false j q = absurd (false≢true q)
-    go false i u j q = absurd (false≢true q)
+entered-means h last a p e =
+    let i = and-true (ltb a h && leb h last) (pastLow h p) e in
+    let j = and-true (ltb a h) (leb h last) (i .0) in
+    (ltb-true a h (j .0), leb-true h last (j .1))
 
 pub legs-over : (h last a : ℕ) (p : Place) → last < a → legs h last a p ≡ []
 legs-over h last a p k = rw (lt-leb a last k, entered-not h last a p (λ u v. absurd (omega arith)))
@@ -52,10 +51,6 @@ past-low suspect h a b k i = go (drop k (row suspect a b)) refl
     go (x ∷ l) q = le-leb h x (omega (arith, begins suspect a b k x l q .from))
 
 -- ---- the search that finds none, of a half that is completed
-
-and-false : (t : Bool) → t && false ≡ false
-and-false true = refl
-and-false false = refl
 
 once-few : (t : Bool) → once t ≤ 1
 once-few true = omega arith

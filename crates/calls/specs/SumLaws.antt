@@ -4,12 +4,12 @@ use mathlib.Core.List.{List, [], _∷_, _++_, append-assoc, append-nil}
 use Prim.Native.Nat.{ℕ, _+_}
 use native.Mathlib.Omega.{arith}
 use native.Mathlib.Nat.{add-zero}
-use lib.ListN.{length, take, drop}
+use lib.ListN.{take, drop}
 use lib.Seq.{take-add}
-use Rattle.marks.specs.Answers.{Refusal, number, none}
-use Rattle.calls.specs.State.{Call, termsOf, entries, roomIn}
-use Rattle.calls.specs.Plain.{tries, wordsOf, Fed, Plain, untried, moved, plainReplied, plainRefusal, plainCall, plainNext, plains, plainAfter}
+use Rattle.calls.specs.State.{Call, entries}
+use Rattle.calls.specs.Plain.{wordsOf, Fed, Plain, untried, moved, plainNext, plains, plainAfter}
 use Rattle.calls.specs.TrialLaws.{words-append}
+use Rattle.calls.specs.RefusalLaws.{triedBy, plain-reply}
 use Rattle.calls.specs.ListLaws.{entries-append}
 use Rattle.calls.specs.Whole.{trialsTold, wordsTold, trialsIn, wordsIn}
 
@@ -21,15 +21,9 @@ moved-tried last t (x ∷ l) = refl
 
 module _ {F S : Type 0} (view : Plain → S) (w : Fed F) where
   trials-one : (p : Plain) (c : Call) → p .tried + trialsTold (plainNext w p c .told) ≡ plainNext w p c .plain .tried
-  unfolding plainCall
-  trials-one p c = go (plainRefusal (w .listing) (p .finished) (termsOf c))
-    where
-      k : ℕ
-      k = tries (w .mark) (c .cap) (roomIn (w .listing) (length (c .list)) (c .free)) (untried w p)
-
-      go : (v : Refusal) → p .tried + trialsTold (plainReplied w p (c .free) v k .told) ≡ plainReplied w p (c .free) v k .plain .tried
-      go (number n) = add-zero (p .tried)
-      go none = sym (moved-tried (w .last) (p .tried + k) (drop k (untried w p)))
+  trials-one p c =
+      plain-reply w p c (λ r. p .tried + trialsTold (r .told) ≡ r .plain .tried) (λ n. add-zero (p .tried))
+      (λ q. sym (moved-tried (w .last) (p .tried + triedBy w p c) (drop (triedBy w p c) (untried w p))))
 
   -- The trials of calls add up to how many more are tried.
   pub trials-add : (calls : List Call) (p : Plain) → p .tried + trialsIn (plains view w p calls) ≡ plainAfter w p calls .tried
@@ -42,19 +36,14 @@ module _ {F S : Type 0} (view : Plain → S) (w : Fed F) where
   wordsTo p = entries (w .listing) (wordsOf (w .mark) (take (p .tried) (w .suspects)))
 
   words-one : (p : Plain) (c : Call) → wordsTo p ++ wordsTold (plainNext w p c .told) ≡ wordsTo (plainNext w p c .plain)
-  unfolding plainCall
-  words-one p c = go (plainRefusal (w .listing) (p .finished) (termsOf c))
-    where
-      k : ℕ
-      k = tries (w .mark) (c .cap) (roomIn (w .listing) (length (c .list)) (c .free)) (untried w p)
-
-      go : (v : Refusal) → wordsTo p ++ wordsTold (plainReplied w p (c .free) v k .told) ≡ wordsTo (plainReplied w p (c .free) v k .plain)
-      go (number n) = append-nil (wordsTo p)
-      go none =
-          rw (moved-tried (w .last) (p .tried + k) (drop k (untried w p)), take-add (p .tried) k (w .suspects))
-          (sym
-          (ap (entries (w .listing)) (words-append (w .mark) (take (p .tried) (w .suspects)) (take k (untried w p)))
-          ∙ entries-append (w .listing) (wordsOf (w .mark) (take (p .tried) (w .suspects))) (wordsOf (w .mark) (take k (untried w p)))))
+  words-one p c =
+      let k = triedBy w p c in
+      plain-reply w p c (λ r. wordsTo p ++ wordsTold (r .told) ≡ wordsTo (r .plain)) (λ n. append-nil (wordsTo p))
+      (λ q.
+      rw (moved-tried (w .last) (p .tried + k) (drop k (untried w p)), take-add (p .tried) k (w .suspects))
+      (sym
+      (ap (entries (w .listing)) (words-append (w .mark) (take (p .tried) (w .suspects)) (take k (untried w p)))
+      ∙ entries-append (w .listing) (wordsOf (w .mark) (take (p .tried) (w .suspects))) (wordsOf (w .mark) (take k (untried w p))))))
 
   -- The words of calls join to those of all that are tried.
   pub words-join : (calls : List Call) (p : Plain) → wordsTo p ++ wordsIn (plains view w p calls) ≡ wordsTo (plainAfter w p calls)

@@ -1,8 +1,8 @@
 -- Laws: the words of the suspects tried are those of all significands before the first one not tried that are not right; they ascend, and none is missing. Assumes nothing.
-use mathlib.Core.Path.{_≡_, refl, sym, ap, _∙_}
+use mathlib.Core.Path.{_≡_, refl}
 use mathlib.Core.Bool.{Bool, true, false}
 use mathlib.Core.Logic.{_⊎_, inl, inr}
-use mathlib.Core.List.{List, [], _∷_, _++_, List·Memᴰ, List·Memᴰ·head, List·Memᴰ·cases-cons, List·Memᴰ·not-nil, List·Memᴰ·append-cases, Memᴰ·append-left, Memᴰ·append-right}
+use mathlib.Core.List.{List, [], _∷_, _++_, List·Memᴰ, List·Memᴰ·head, List·Memᴰ·eq-of-singleton, List·Memᴰ·not-nil, List·Memᴰ·append-cases, Memᴰ·append-left, Memᴰ·append-right}
 use Prim.Native.Nat.{ℕ, zero, suc, _+_, _-_, _*_, _≤_, _<_}
 use native.Mathlib.Omega.{arith}
 use native.Mathlib.Decide.{decLt}
@@ -13,7 +13,7 @@ use Rattle.marks.specs.declared.Mark.the-variants.{Right, Open, Wrong}
 use Rattle.calls.specs.State.{listed}
 use Rattle.calls.specs.Plain.{spanOf, span, row, wordsOf}
 use Rattle.calls.specs.Whole.{endOf, WordOf, Listed, Ascends, Holds}
-use Rattle.calls.specs.RowLaws.{span-empty, span-cons, ascends-from, row-empty, row-at, row-next, begins}
+use Rattle.calls.specs.RowLaws.{span-empty, span-cons, ascends-from, row-induct}
 
 -- ---- the words ascend, so that none stands twice
 
@@ -31,16 +31,8 @@ ascends-all mark (suc n) a b h = ascends-one (mark a) a b (wordsOf mark (spanOf 
 
 listed-word : (mark : ℕ → Mark) (X w : ℕ) (m : Mark) → mark X ≡ m → List·Memᴰ w (listed m X) → WordOf mark X w
 listed-word mark X w Right q r = absurd (List·Memᴰ·not-nil r)
-listed-word mark X w Open q r = go (List·Memᴰ·cases-cons r)
-  where
-    go : (w ≡ 2 * X + 1) ⊎ List·Memᴰ w [] → WordOf mark X w
-    go (inl e) = inl (q, e)
-    go (inr z) = absurd (List·Memᴰ·not-nil z)
-listed-word mark X w Wrong q r = go (List·Memᴰ·cases-cons r)
-  where
-    go : (w ≡ 2 * X) ⊎ List·Memᴰ w [] → WordOf mark X w
-    go (inl e) = inr (q, e)
-    go (inr z) = absurd (List·Memᴰ·not-nil z)
+listed-word mark X w Open q r = inl (q, List·Memᴰ·eq-of-singleton r)
+listed-word mark X w Wrong q r = inr (q, List·Memᴰ·eq-of-singleton r)
 
 word-listed : (mark : ℕ → Mark) (X w : ℕ) → WordOf mark X w → List·Memᴰ w (listed (mark X) X)
 word-listed mark X w (inl q) = rw (q .0) (List·Memᴰ·head (q .1))
@@ -84,39 +76,28 @@ holds mark a b words h q =
 -- ---- the words of the first t suspects are those of all before the next one
 
 module _ (suspect : ℕ → Bool) (mark : ℕ → Mark) (first last : ℕ) (clear : (X : ℕ) → first ≤ X → X ≤ last → suspect X ≡ false → mark X ≡ Right) where
-  -- where the suspects from a on that are not among the first t begin
-  abbrev stop : (a t : ℕ) → ℕ
-  stop a t = endOf last (drop t (row suspect a (suc last)))
+  -- the words of the first t of a row from a on are those of all before the next one, which is not before a
+  abbrev Before : (a : ℕ) → List ℕ → Type 0
+  Before a l = (t : ℕ) → first ≤ a → a ≤ suc last → (a ≤ endOf last (drop t l)) × (wordsOf mark (take t l) ≡ wordsOf mark (span a (endOf last (drop t l))))
 
-  -- That place is not before a.
-  pub stop-from : (a t : ℕ) → a ≤ suc last → a ≤ stop a t
-  stop-from a t h = go (drop t (row suspect a (suc last))) refl
-    where
-      go : (l : List ℕ) → drop t (row suspect a (suc last)) ≡ l → a ≤ endOf last l
-      go [] q = h
-      go (x ∷ l) q = begins suspect a (suc last) t x l q .from
-
-  before-of : (n a t : ℕ) → first ≤ a → a + n ≡ suc last → wordsOf mark (take t (row suspect a (suc last))) ≡ wordsOf mark (span a (stop a t))
+  before : (a : ℕ) → Before a (row suspect a (suc last))
   unfolding wordsOf
-  before-of zero a t h k =
-      rw (row-empty suspect a (suc last) (omega arith), take-nil {A = ℕ} t, drop-nil {A = ℕ} t, span-empty a (suc last) (omega arith))
-  before-of (suc n) a t h k = by (suspect a) refl t (λ t. before-of n (suc a) t (omega arith) (omega arith))
+  before a = row-induct suspect (suc last) Before none at past (suc last) a (omega arith)
     where
-      -- one more significand, with its word if it has one
-      more : (t : ℕ) → wordsOf mark (span a (stop (suc a) t)) ≡ listed (mark a) a ++ wordsOf mark (span (suc a) (stop (suc a) t))
-      more t = ap (wordsOf mark) (span-cons a (stop (suc a) t) (stop-from (suc a) t (omega arith)))
+      none : (a : ℕ) → suc last ≤ a → Before a []
+      none a h t i j = rw (take-nil {A = ℕ} t, drop-nil {A = ℕ} t) (j, rw (span-empty a (suc last) h))
 
-      by : (s : Bool) → suspect a ≡ s → (t : ℕ)
-          → ((t : ℕ) → wordsOf mark (take t (row suspect (suc a) (suc last))) ≡ wordsOf mark (span (suc a) (stop (suc a) t)))
-          → wordsOf mark (take t (row suspect a (suc last))) ≡ wordsOf mark (span a (stop a t))
-      by true s zero ih = rw (row-at suspect a (suc last) (omega arith) s, span-empty a a (omega arith))
-      by true s (suc t) ih =
-          rw (row-at suspect a (suc last) (omega arith) s) (ap (λ (w : List ℕ). listed (mark a) a ++ w) (ih t) ∙ sym (more t))
-      by false s t ih =
-          rw (row-next suspect a (suc last) (omega arith) s)
-          (ih t ∙ sym (more t ∙ ap (λ (m : Mark). listed m a ++ wordsOf mark (span (suc a) (stop (suc a) t))) (clear a h (omega arith) s)))
+      at : (a : ℕ) → a < suc last → suspect a ≡ true → Before (suc a) (row suspect (suc a) (suc last)) → Before a (a ∷ row suspect (suc a) (suc last))
+      at a h s ih zero i j = (omega arith, rw (span-empty a a (omega arith)))
+      at a h s ih (suc t) i j =
+          let k = ih t (omega arith) h in
+          (omega (arith, k .0), rw (k .1, span-cons a (endOf last (drop t (row suspect (suc a) (suc last)))) (k .0)))
 
-  -- The words of the first t suspects in range are those of all significands before the next one.
-  pub words-before : (t : ℕ) → first ≤ last
-      → wordsOf mark (take t (row suspect first (suc last))) ≡ wordsOf mark (span first (endOf last (drop t (row suspect first (suc last)))))
-  words-before t h = before-of (suc last - first) first t (omega arith) (omega arith)
+      past : (a : ℕ) (l : List ℕ) → a < suc last → suspect a ≡ false → Before (suc a) l → Before a l
+      past a l h s ih t i j =
+          let k = ih t (omega arith) h in
+          (omega (arith, k .0), rw (k .1, span-cons a (endOf last (drop t l)) (k .0), clear a i (omega arith) s))
+
+  -- The words of the first t suspects in range are those of all significands before the next one, which is not before the first.
+  pub words-before : (t : ℕ) → first ≤ last → let next = endOf last (drop t (row suspect first (suc last))) in (first ≤ next) × (wordsOf mark (take t (row suspect first (suc last))) ≡ wordsOf mark (span first next))
+  words-before t h = before first t (omega arith) (omega arith)

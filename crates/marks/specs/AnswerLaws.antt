@@ -70,16 +70,20 @@ none-apart [] l h = (tt, h)
 none-apart (t ∷ k) l h = let r = none-apart k l (h .1) in ((h .0, r .0), r .1)
 
 -- ---- from the answer to the tests
+-- what holds of every refusal, and of the value where no condition holds, holds of the answer
+pub of-answer : {A : Type 0} (P : Outcome A → Type 0) (l : List (ℕ × Bool)) (a : A) → ((n : ℕ) → P (refused n)) → (NoneHolds l → P (accepted a)) → P (answer l a)
+unfolding answer judged
+of-answer {A} P [] a out through = through tt
+of-answer {A} P (t ∷ l) a out through = go (t .1) refl (λ h. of-answer P l a out h)
+  where
+    go : (b : Bool) → t .1 ≡ b → ((NoneHolds l → P (accepted a)) → P (answer l a)) → P (unless (cond b (number (t .0)) (judged l)) a)
+    go true i ih = out (t .0)
+    go false i ih = ih (λ h. through (i, h))
+
 -- an accepted value is the answer's own, and no condition holds
 pub only-accepted : {A : Type 0} (l : List (ℕ × Bool)) (a b : A) → answer l a ≡ accepted b → NoneHolds l × (a ≡ b)
-unfolding answer judged
-only-accepted {A} [] a b q = (tt, cc)
-only-accepted {A} (t ∷ l) a b q = go (t .1) refl q (only-accepted l a b)
-  where
-    go : (c : Bool) → t .1 ≡ c → unless (cond c (number (t .0)) (judged l)) a ≡ accepted b → (answer l a ≡ accepted b → NoneHolds l × (a ≡ b))
-        → NoneHolds (t ∷ l) × (a ≡ b)
-    go true i q ih = let z : _≡_ {A = ℕ} 0 1 = cc in absurd (omega arith)
-    go false i q ih = let r = ih q in ((i, r .0), r .1)
+only-accepted {A} l a b =
+    of-answer (λ (o : Outcome A). o ≡ accepted b → NoneHolds l × (a ≡ b)) l a (λ n q. let z : _≡_ {A = ℕ} 0 1 = cc in absurd (omega arith)) (λ h q. (h, cc))
 
 -- where there is one condition, a refusal says that it holds
 pub only-refused : {A : Type 0} {k : ℕ} (n : ℕ) (b : Bool) (a : A) → refused k ≡ answer ((n, b) ∷ []) a → b ≡ true
@@ -96,16 +100,6 @@ refused-first {A} {B} (t ∷ k) l a b n q = go (t .1) q (refused-first k l a b n
     go : (c : Bool) → refused n ≡ unless (cond c (number (t .0)) (judged k)) a → (refused n ≡ answer k a → refused n ≡ answer (k ++ l) b) → refused n ≡ unless (cond c (number (t .0)) (judged (k ++ l))) b
     go true q ih = let e : n ≡ t .0 = cc in ap refused e
     go false q ih = ih q
-
--- what holds of every refusal, and of the value where no condition holds, holds of the answer
-pub of-answer : {A : Type 0} (P : Outcome A → Type 0) (l : List (ℕ × Bool)) (a : A) → ((n : ℕ) → P (refused n)) → (NoneHolds l → P (accepted a)) → P (answer l a)
-unfolding answer judged
-of-answer {A} P [] a out through = through tt
-of-answer {A} P (t ∷ l) a out through = go (t .1) refl (λ h. of-answer P l a out h)
-  where
-    go : (b : Bool) → t .1 ≡ b → ((NoneHolds l → P (accepted a)) → P (answer l a)) → P (unless (cond b (number (t .0)) (judged l)) a)
-    go true i ih = out (t .0)
-    go false i ih = ih (λ h. through (i, h))
 
 -- ---- a value in the case of its mark
 pub of-mark : {A : Type 0} {m k : Mark} → m ≡ k → (a : A) → _≡_ {A = Outcome (Marked A)} (accepted (record { mark = k; value = a })) (accepted (record { mark = m; value = a }))

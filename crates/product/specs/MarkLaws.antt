@@ -152,27 +152,21 @@ module _ (K : Context) (P : 0 < K .n) (L U X : ℕ) (v : Product) where
     says-units : SaysAt K L U X v (markUnits a b N)
     says-units = go (ltb N a) (ltb b N) (eqb a N) (eqb b N) refl refl refl refl
       where
-        L-gives : a ≡ N → Gives K X v (over L E)
-        L-gives e = gives (over L E) at-L (end-rounds L ∙ e)
+        end-gives : (c : ℕ) → Between K L U (over c E) → rn rule n (c * X) 1 ≡ N → Gives K X v (over c E)
+        end-gives c k e = gives (over c E) k (end-rounds c ∙ e)
 
-        U-gives : b ≡ N → Gives K X v (over U E)
-        U-gives e = gives (over U E) at-U (end-rounds U ∙ e)
-
-        L-not : (a ≡ N → ⊥) → ¬ Gives K X v (over L E)
-        L-not e g = e (sym (end-rounds L) ∙ given (over L E) at-L g)
-
-        U-not : (b ≡ N → ⊥) → ¬ Gives K X v (over U E)
-        U-not e g = e (sym (end-rounds U) ∙ given (over U E) at-U g)
+        end-not : (c : ℕ) → Between K L U (over c E) → (rn rule n (c * X) 1 ≡ N → ⊥) → ¬ Gives K X v (over c E)
+        end-not c k e g = e (sym (end-rounds c) ∙ given (over c E) k g)
 
         go : (p q r s : Bool) → ltb N a ≡ p → ltb b N ≡ q → eqb a N ≡ r → eqb b N ≡ s → SaysAt K L U X v (cond p Wrong (cond q Wrong (cond (r && s) Right Open)))
         go true q r s e f g h = λ C k z. omega (arith, ltb-true N a e, from-L C k, given C k z)
         go false true r s e f g h = λ C k z. omega (arith, ltb-true b N f, to-U C k, given C k z)
         go false false true true e f g h = λ C k. gives C k (omega (arith, eqb-true a N g, eqb-true b N h, from-L C k, to-U C k))
-        go false false true false e f g h = ((over L E, at-L, L-gives (eqb-true a N g)), (over U E, at-U, U-not (eqb-false b N h)))
-        go false false false true e f g h = ((over U E, at-U, U-gives (eqb-true b N h)), (over L E, at-L, L-not (eqb-false a N g)))
+        go false false true false e f g h = ((over L E, at-L, end-gives L at-L (eqb-true a N g)), (over U E, at-U, end-not U at-U (eqb-false b N h)))
+        go false false false true e f g h = ((over U E, at-U, end-gives U at-U (eqb-true b N h)), (over L E, at-L, end-not L at-L (eqb-false a N g)))
         go false false false false e f g h =
             let k = at-v (omega (arith, ltb-false N a e, eqb-false a N g)) (omega (arith, ltb-false b N f, eqb-false b N h)) in
-            ((C-v, k, gives C-v k v-rounds), (over L E, at-L, L-not (eqb-false a N g)))
+            ((C-v, k, gives C-v k v-rounds), (over L E, at-L, end-not L at-L (eqb-false a N g)))
 
     -- the mark says so
     pub mark-says : SaysAt K L U X v (mark K L U X v)

@@ -2,7 +2,7 @@
 -- fused sum gives the product. Assumes nothing.
 use mathlib.Core.Path.{_≡_, sym, ap, _∙_, subst}
 use Prim.Native.Nat.{ℕ, zero, suc, _+_, _-_, _*_, _^_, _≤_, _<_}
-use native.Mathlib.Nat.{mul-le-mul, mul-le-mul-left, mul-pos, eq-of-mul-eq-mul-right, le-trans, le-of-eq, le-of-lt, lt-of-le-of-lt, lt-of-lt-of-le, lt-of-not-le, not-le-of-lt, mul-lt-mul-of-pos-right, one-mul, div-one}
+use native.Mathlib.Nat.{mul-le-mul, mul-le-mul-left, mul-pos, eq-of-mul-eq-mul-right, le-trans, le-of-eq, le-of-lt, lt-of-lt-of-le, lt-of-not-le, not-le-of-lt, mul-lt-mul-of-pos-right, one-mul, div-one}
 use native.Mathlib.Decide.{decLe, decLt}
 use native.Mathlib.Omega.{arith}
 use lib.IntN.{ℤ, pos, natAbs}
@@ -182,43 +182,30 @@ module _ (K : Context) (p : Parts) (at : PartsAtEnd K p) where
         (first-scaled ∙ ap (λ (z : ℕ). rn rule n z 1 * 2 ^ E) e ∙ ap (λ (z : ℕ). z * 2 ^ E) (rn-whole-small rule n P 0 (omega arith)) ∙ omega arith)
 
     pub first-some : (m d : ℕ) → m ≡ s * X → d ≡ size m → 0 < m → FirstStep K q m d u
-    first-some m d e f h = record { digits = digits; reach = reach; room = room; value = value }
+    first-some m d e f h =
+        let low = low-some (pos-of s X (le-trans h (le-of-eq e))) in
+        -- m has 2 * n - 1 digits or one more
+        let least : 2 ^ (n - 1 + (n - 1)) ≤ m = le-trans (le-of-eq (pow-add 2 (n - 1) (n - 1))) (le-trans (mul-le-mul (low .0 .least) (xb .least)) (le-of-eq (sym e))) in
+        let more : n - 1 + (n - 1) < size m = lt-of-not-le λ (g : size m ≤ n - 1 + (n - 1)). not-le-of-lt (lt-of-lt-of-le (size-lt m) (pow-mono g)) least in
+        let less : m < 2 ^ (n + n) = omega (arith, mul-le-mul-left s (le-of-lt (xb .most)), mul-lt-mul-of-pos-right (low .0 .most) (pow-pos n), pow-add 2 n n) in
+        let digits : 2 * n ≤ suc d = omega arith in
+        let reach : q ≤ d - n + E = omega (arith, digits, low .2) in
+        let k : ℕ = d - n in
+        let dropped-k : drop n m 1 ≡ k = ap (λ (z : ℕ). size z - n) (div-one m) ∙ ap (λ (z : ℕ). z - n) (sym f) in
+        let r : rn rule n m 1 ≡ nearest rule m (2 ^ k) * 2 ^ k = rn-in-binade rule n P m 1 k dropped-k ∙ ap (λ (z : ℕ). nearest rule m z * 2 ^ k) (one-mul (2 ^ k)) in
+        let t : 2 ^ k * 2 ^ E ≡ 2 ^ (k + E - q) * 2 ^ q = sym (pow-add 2 k E) ∙ ap (λ (z : ℕ). 2 ^ z) (omega (arith, reach)) ∙ pow-add 2 (k + E - q) q in
+        record {
+          digits = digits;
+          reach = reach;
+          room = omega (arith, f, size-le m (n + n) less, low .1, at .two);
+          value =
+              eq-of-mul-eq-mul-right (2 ^ q) (pow-pos q) u (nearest rule m (2 ^ k) * 2 ^ (k + E - q))
+              (first-scaled ∙ ap (λ (z : ℕ). rn rule n z 1 * 2 ^ E) (sym e) ∙ omega (arith, ap (λ (z : ℕ). z * 2 ^ E) r, ap (λ (z : ℕ). nearest rule m (2 ^ k) * z) t));
+        }
       where
         pos-of : (a b : ℕ) → 0 < a * b → 0 < a
         pos-of zero b g = absurd (omega arith)
         pos-of (suc a) b g = omega arith
-
-        low : HasBits n s × (2 * n ≤ suc q) × (q < E + n)
-        low = low-some (pos-of s X (le-trans h (le-of-eq e)))
-
-        -- m has 2 * n - 1 digits or one more
-        digits : 2 * n ≤ suc d
-        digits =
-            let least : 2 ^ (n - 1 + (n - 1)) ≤ m = le-trans (le-of-eq (pow-add 2 (n - 1) (n - 1))) (le-trans (mul-le-mul (low .0 .least) (xb .least)) (le-of-eq (sym e))) in
-            let more : n - 1 + (n - 1) < size m = lt-of-not-le λ (g : size m ≤ n - 1 + (n - 1)). not-le-of-lt (lt-of-lt-of-le (size-lt m) (pow-mono g)) least in
-            omega arith
-
-        digits-le : d ≤ n + n
-        digits-le =
-            let less : m < 2 ^ (n + n) = lt-of-le-of-lt (le-of-eq e) (lt-of-le-of-lt (mul-le-mul-left s (le-of-lt (xb .most))) (lt-of-lt-of-le (mul-lt-mul-of-pos-right (low .0 .most) (pow-pos n)) (le-of-eq (sym (pow-add 2 n n))))) in
-            le-trans (le-of-eq f) (size-le m (n + n) less)
-
-        reach : q ≤ d - n + E
-        reach = omega (arith, digits, low .2)
-
-        room : d - n + E - q ≤ E
-        room = omega (arith, digits-le, low .1, at .two)
-
-        k : ℕ
-        k = d - n
-
-        value : u ≡ nearest rule m (2 ^ (d - n)) * 2 ^ (d - n + E - q)
-        value =
-            let dropped-k : drop n m 1 ≡ k = ap (λ (z : ℕ). size z - n) (div-one m) ∙ ap (λ (z : ℕ). z - n) (sym f) in
-            let r : rn rule n m 1 ≡ nearest rule m (2 ^ k) * 2 ^ k = rn-in-binade rule n P m 1 k dropped-k ∙ ap (λ (z : ℕ). nearest rule m z * 2 ^ k) (one-mul (2 ^ k)) in
-            let t : 2 ^ k * 2 ^ E ≡ 2 ^ (k + E - q) * 2 ^ q = sym (pow-add 2 k E) ∙ ap (λ (z : ℕ). 2 ^ z) (omega (arith, reach)) ∙ pow-add 2 (k + E - q) q in
-            eq-of-mul-eq-mul-right (2 ^ q) (pow-pos q) u (nearest rule m (2 ^ k) * 2 ^ (k + E - q))
-            (first-scaled ∙ ap (λ (z : ℕ). rn rule n z 1 * 2 ^ E) (sym e) ∙ omega (arith, ap (λ (z : ℕ). z * 2 ^ E) r, ap (λ (z : ℕ). nearest rule m (2 ^ k) * z) t))
 
     -- ---- u2
     pub fused-from : 2 ^ (n - 1) * 2 ^ E ≤ fusedUnits K w X

@@ -2,7 +2,6 @@
 use mathlib.Core.Path.{_≡_, refl, sym, ap, _∙_, subst}
 use mathlib.Core.Bool.{Bool, true, false, cond}
 use Prim.Native.Nat.{ℕ}
-use native.Mathlib.Omega.{arith}
 use lib.Ieee.{Float, binary32, prec, toBits}
 use borrow.Author.Tests.{eqb-true, not-false}
 use Rattle.marks.specs.declared.Mark.{Mark}
@@ -15,7 +14,7 @@ use Rattle.factor.specs.SetUp.{intact}
 use Rattle.product.specs.declared.Product.{Product}
 use Rattle.product.specs.Product.{productBy}
 use Rattle.reading.specs.declared.Taken.{Taken}
-use Rattle.reading.specs.Reading.{unreadable, zero, normal, kindOf, finished, answered, applied, takenOf}
+use Rattle.reading.specs.Reading.{unreadable, Kind, zero, normal, kindOf, finished, answered, applied, takenOf}
 
 -- ---- readings that are let through to their product
 module _ (f : Factor) (b : ℕ) (h : NoneHolds (unreadable f b)) where
@@ -42,19 +41,16 @@ module _ (f : Factor) (b : ℕ) (h : NoneHolds (unreadable f b)) where
 
 -- ---- a reading as it was taken
 -- a kind tells whether its reading is a zero, and the bits of a normal one
-kind-zero : (b : ℕ) → kindOf b ≡ zero → zeroBits binary32 b ≡ true
-kind-zero b e = go (zeroBits binary32 b) e
-  where
-    go : (z : Bool) → cond z zero (normal b) ≡ zero → z ≡ true
-    go true e = refl
-    go false e = let z : _≡_ {A = ℕ} 0 1 = cc in absurd (omega arith)
+abbrev KindTells : ℕ → Kind → Type 0
+KindTells b zero = zeroBits binary32 b ≡ true
+KindTells b (normal c) = (zeroBits binary32 b ≡ false) × (b ≡ c)
 
-kind-normal : (b c : ℕ) → kindOf b ≡ normal c → (zeroBits binary32 b ≡ false) × (b ≡ c)
-kind-normal b c e = go (zeroBits binary32 b) e
+kind-tells : (b : ℕ) → KindTells b (kindOf b)
+kind-tells b = go (zeroBits binary32 b) refl
   where
-    go : (z : Bool) → cond z zero (normal b) ≡ normal c → (z ≡ false) × (b ≡ c)
-    go true e = let z : _≡_ {A = ℕ} 0 1 = cc in absurd (omega arith)
-    go false e = (refl, cc)
+    go : (z : Bool) → zeroBits binary32 b ≡ z → KindTells b (cond z zero (normal b))
+    go true e = e
+    go false e = (e, refl)
 
 module _ (f : Factor) (x : Float) (t : Taken) (is : takenOf t ≡ answer (unreadable f (toBits binary32 x)) (kindOf (toBits binary32 x))) where
   abbrev c : ℕ
@@ -65,7 +61,7 @@ module _ (f : Factor) (x : Float) (t : Taken) (is : takenOf t ≡ answer (unread
   unfolding applied
   taken-normal b e =
       let r = only-accepted (unreadable f c) (kindOf c) (normal b) (sym is ∙ ap takenOf e) in
-      let k = kind-normal c b (r .1) in
+      let k = subst (KindTells c) (r .1) (kind-tells c) in
       let h = subst (λ (b : ℕ). NoneHolds (unreadable f b)) (k .1) (r .0) in
       let z = subst (λ (b : ℕ). zeroBits binary32 b ≡ false) (k .1) (k .0) in
       (h, z, normal-answered f b h (productBy f (significandOf binary32 b)) z ∙ ap (λ (b : ℕ). answered f b (productBy f (significandOf binary32 b))) (sym (k .1)))
@@ -75,7 +71,7 @@ module _ (f : Factor) (x : Float) (t : Taken) (is : takenOf t ≡ answer (unread
   unfolding applied
   taken-zero e =
       let r = only-accepted (unreadable f c) (kindOf c) zero (sym is ∙ ap takenOf e) in
-      zero-answered f c (r .0) (productBy f (significandOf binary32 c)) (kind-zero c (r .1))
+      zero-answered f c (r .0) (productBy f (significandOf binary32 c)) (subst (KindTells c) (r .1) (kind-tells c))
 
   -- and a refusal is the answer's
   pub taken-refused : (k : ℕ) → t ≡ Taken.Refused k → refused k ≡ applied f x

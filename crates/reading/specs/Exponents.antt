@@ -1,12 +1,13 @@
 -- Laws of exponents as code counts them: from the least that a reading and a scale allow, so that none is negative. Assumes nothing.
 use mathlib.Core.Path.{_≡_, refl, sym, ap, ap₂, _∙_}
-use mathlib.Core.Bool.{Bool, true, false, _||_, true≢false}
+use mathlib.Core.Bool.{true, false}
 use Prim.Native.Nat.{ℕ, suc, _+_, _-_, _*_, _≤_, _<_}
 use native.Mathlib.Omega.{arith}
 use lib.Dec.{ltb}
 use lib.IntN.{ℤ, pos, negsuc, natAbs, _+ℤ_, +ℤ-assoc, +ℤ-comm}
 use lib.Ieee.{Format, emax, minus}
 use borrow.Author.Tests.{ltb-false, lt-ltb, le-ltb}
+use Rattle.marks.specs.AnswerLaws.{or-false}
 use Rattle.rounding.specs.RoundLaws.{minus-back}
 use Rattle.floats.specs.Powers.{sub-pos, sub-le, emax-two}
 use Rattle.factor.specs.SetUp.{scaleOut}
@@ -15,11 +16,7 @@ use Rattle.reading.specs.Reading.{exponentOut}
 -- ---- a scale, counted from -100
 pub lifted-scale : (k : ℤ) → scaleOut k ≡ false → (r : ℕ) × (k +ℤ pos 100 ≡ pos r) × (r ≤ 200)
 lifted-scale (pos m) e = let l = ltb-false 100 m e in (m + 100, refl, omega arith)
-lifted-scale (negsuc m) e = go (ltb 99 m) refl e
-  where
-    go : (b : Bool) → ltb 99 m ≡ b → b || false ≡ false → (r : ℕ) × (negsuc m +ℤ pos 100 ≡ pos r) × (r ≤ 200)
-    go true t x = absurd (true≢false x)
-    go false t x = let l = ltb-false 99 m t in (99 - m, sub-le 100 (suc m) (99 - m) (omega arith), omega arith)
+lifted-scale (negsuc m) e = let l = ltb-false 99 m (or-false (ltb 99 m) false e .0) in (99 - m, sub-le 100 (suc m) (99 - m) (omega arith), omega arith)
 
 -- ---- the product's exponent z, counted from -(emax + 100): the biased exponent of the reading, the scale and the binade added up
 left-comm : (a b c : ℤ) → a +ℤ (b +ℤ c) ≡ b +ℤ (a +ℤ c)
@@ -40,40 +37,32 @@ place-is f F r B k e =
     ∙ ap₂ (λ (x y : ℤ). x +ℤ y +ℤ pos B) (minus-back F (emax f)) (sym e)
 
 module _ (f : Format) (z : ℤ) (p : ℕ) (at : z +ℤ pos (emax f + 100) ≡ pos p) where
-  pub out-low : p < 101 → exponentOut f z ≡ true
-  out-low h = go z at
+  -- it is so many above or below 0
+  by-count : (P : ℤ → Type 0) → ((k : ℕ) → k + (emax f + 100) ≡ p → P (pos k)) → ((k : ℕ) → emax f + 100 ≡ p + suc k → P (negsuc k)) → P z
+  by-count P above below = go z at
     where
-      go : (z : ℤ) → z +ℤ pos (emax f + 100) ≡ pos p → exponentOut f z ≡ true
-      go (pos k) e = let y : k + (emax f + 100) ≡ p = ap natAbs e in absurd (omega (arith, emax-two f))
-      go (negsuc k) e = let y = sub-pos (emax f + 100) (suc k) p e in rw (lt-ltb (emax f - 2) k (omega (arith, emax-two f)))
+      go : (z : ℤ) → z +ℤ pos (emax f + 100) ≡ pos p → P z
+      go (pos k) e = above k (ap natAbs e)
+      go (negsuc k) e = below k (sub-pos (emax f + 100) (suc k) p e)
+
+  pub out-low : p < 101 → exponentOut f z ≡ true
+  out-low h = by-count (λ z. exponentOut f z ≡ true) (λ k e. absurd (omega (arith, emax-two f))) (λ k e. rw (lt-ltb (emax f - 2) k (omega (arith, emax-two f))))
 
   pub out-high : 2 * emax f + 100 < p → exponentOut f z ≡ true
-  out-high h = go z at
-    where
-      go : (z : ℤ) → z +ℤ pos (emax f + 100) ≡ pos p → exponentOut f z ≡ true
-      go (pos k) e = let y : k + (emax f + 100) ≡ p = ap natAbs e in lt-ltb (emax f) k (omega (arith, emax-two f))
-      go (negsuc k) e = let y = sub-pos (emax f + 100) (suc k) p e in absurd (omega (arith, emax-two f))
+  out-high h = by-count (λ z. exponentOut f z ≡ true) (λ k e. lt-ltb (emax f) k (omega (arith, emax-two f))) (λ k e. absurd (omega (arith, emax-two f)))
 
   pub out-none : 101 ≤ p → p ≤ 2 * emax f + 100 → exponentOut f z ≡ false
-  out-none l h = go z at
-    where
-      go : (z : ℤ) → z +ℤ pos (emax f + 100) ≡ pos p → exponentOut f z ≡ false
-      go (pos k) e = let y : k + (emax f + 100) ≡ p = ap natAbs e in le-ltb (emax f) k (omega (arith, emax-two f))
-      go (negsuc k) e = let y = sub-pos (emax f + 100) (suc k) p e in rw (le-ltb (emax f - 2) k (omega (arith, emax-two f)))
+  out-none l h = by-count (λ z. exponentOut f z ≡ false) (λ k e. le-ltb (emax f) k (omega (arith, emax-two f))) (λ k e. rw (le-ltb (emax f - 2) k (omega (arith, emax-two f))))
 
   -- and from 1 - emax, for a normal number
   pub from-least : 101 ≤ p → z +ℤ pos (emax f - 1) ≡ pos (p - 101)
-  from-least l = go z at
-    where
-      go : (z : ℤ) → z +ℤ pos (emax f + 100) ≡ pos p → z +ℤ pos (emax f - 1) ≡ pos (p - 101)
-      go (pos k) e = let y : k + (emax f + 100) ≡ p = ap natAbs e in ap pos (omega (arith, emax-two f))
-      go (negsuc k) e = let y = sub-pos (emax f + 100) (suc k) p e in sub-le (emax f - 1) (suc k) (p - 101) (omega (arith, emax-two f))
+  from-least l =
+      by-count (λ z. z +ℤ pos (emax f - 1) ≡ pos (p - 101)) (λ k e. ap pos (omega (arith, emax-two f)))
+      (λ k e. sub-le (emax f - 1) (suc k) (p - 101) (omega (arith, emax-two f)))
 
 -- every exponent that 23 lets through has such a count
 pub let-through : (f : Format) (z : ℤ) → exponentOut f z ≡ false → (p : ℕ) × (z +ℤ pos (emax f + 100) ≡ pos p) × (101 ≤ p) × (p ≤ 2 * emax f + 100)
 let-through f (pos k) e = let l = ltb-false (emax f) k e in (k + (emax f + 100), refl, omega (arith, emax-two f), omega (arith, emax-two f))
-let-through f (negsuc k) e = go (ltb (emax f - 2) k) refl e
-  where
-    go : (b : Bool) → ltb (emax f - 2) k ≡ b → b || false ≡ false → (p : ℕ) × (negsuc k +ℤ pos (emax f + 100) ≡ pos p) × (101 ≤ p) × (p ≤ 2 * emax f + 100)
-    go true t x = absurd (true≢false x)
-    go false t x = let l = ltb-false (emax f - 2) k t in (emax f + 99 - k, sub-le (emax f + 100) (suc k) (emax f + 99 - k) (omega (arith, emax-two f)), omega (arith, emax-two f), omega (arith, emax-two f))
+let-through f (negsuc k) e =
+    let l = ltb-false (emax f - 2) k (or-false (ltb (emax f - 2) k) false e .0) in
+    (emax f + 99 - k, sub-le (emax f + 100) (suc k) (emax f + 99 - k) (omega (arith, emax-two f)), omega (arith, emax-two f), omega (arith, emax-two f))

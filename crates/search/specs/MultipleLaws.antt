@@ -24,20 +24,17 @@ ceilDiv-le a s x p h = omega (arith, div-lt-iff-lt-mul {x = a + (s - 1)} {y = su
 
 negMod-under : (a c s : ℕ) → a < c * s → c * s < a + s → negMod a s ≡ c * s - a
 unfolding negMod
-negMod-under a c s lt gt = mod-eq-of-lt {n = s - a % s} {m = s} (omega (arith, rem)) ∙ omega (arith, rem)
-  where
-    rem : a % s ≡ a + s - c * s
-    rem = sym (add-mod-right a s) ∙ ap (λ (n : ℕ). n % s) (omega arith) ∙ digits-mod c {m = s} {r = a + s - c * s} (omega arith)
+negMod-under a c s lt gt =
+    let rem : a % s ≡ a + s - c * s = sym (add-mod-right a s) ∙ ap (λ (n : ℕ). n % s) (omega arith) ∙ digits-mod c {m = s} {r = a + s - c * s} (omega arith) in
+    mod-eq-of-lt {n = s - a % s} {m = s} (omega (arith, rem)) ∙ omega (arith, rem)
 
 -- Where the first multiple from l on is past r, no multiple lies from l to r.
 pub between : (s l r : ℕ) → 0 < s → l ≤ r → ¬ (ceilDiv l s * s ≤ r) → Between s l r (ceilDiv l s)
 between s l r p lr none =
+    let low = ceilDiv-lt l s p in
     record {
       low = low;
       high = omega arith;
       next-low = negMod-under r (ceilDiv l s) s (omega arith) (omega (arith, low));
       next-high = negMod-under l (ceilDiv l s) s (omega arith) low;
     }
-  where
-    low : ceilDiv l s * s < l + s
-    low = ceilDiv-lt l s p

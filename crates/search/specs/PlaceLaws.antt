@@ -19,13 +19,10 @@ least-same to back (At k) h = (to k (h .0), λ x lt g. h .1 x lt (back x g))
 least-same to back Nowhere h = λ x g. h x (back x g)
 
 mirror-least : (m s l r : ℕ) → Ready m s l r → 0 < l → (p : Place) → Least (Hits m (m - s) (m - r) (m - l)) p → Least (Hits m s l r) p
-mirror-least m s l r h pos = least-same here there
-  where
-    here : (x : ℕ) → Hits m (m - s) (m - r) (m - l) x → Hits m s l r x
-    here x g = (_, mirror-meets m (m - s) s (m - r) r (m - l) l x (g .0) (omega arith) (omega arith) (omega arith) (omega arith) (g .1) .1)
-
-    there : (x : ℕ) → Hits m s l r x → Hits m (m - s) (m - r) (m - l) x
-    there x g = (_, mirror-meets m s (m - s) l (m - l) r (m - r) x (g .0) (omega arith) (omega arith) (omega arith) pos (g .1) .1)
+mirror-least m s l r h pos =
+    least-same
+    (λ x g. (_, mirror-meets m (m - s) s (m - r) r (m - l) l x (g .0) (omega arith) (omega arith) (omega arith) (omega arith) (g .1) .1))
+    (λ x g. (_, mirror-meets m s (m - s) l (m - l) r (m - r) x (g .0) (omega arith) (omega arith) (omega arith) pos (g .1) .1))
 
 module _ (m s l r : ℕ) (lr : l ≤ r) (p : 0 < s) (b : Between s l r (ceilDiv l s)) where
   -- The place after a round is met with the winding that the round's search found.

@@ -1,5 +1,5 @@
 -- The search finds the least place wanted, from the first place or from any start. Assumes nothing.
-use mathlib.Core.Path.{_≡_, sym, ap, _∙_, subst}
+use mathlib.Core.Path.{_≡_, ap, _∙_, subst}
 use Prim.Native.Nat.{ℕ, zero, suc, _+_, _-_, _*_, _/_, _%_, _^_, _≤_, _<_, zero-le}
 use native.Mathlib.Decide.{decLe, decLt}
 use native.Mathlib.Nat.{div-add-mod', mod-lt, mod-eq-of-lt, mul-le-mul-right, add-mul-mod-self-right, lt-of-not-le}
@@ -21,10 +21,9 @@ module _ (m l r n : ℕ) where
   remainder-out h = omega (arith, div-add-mod' n m)
 
   remainder-in : (w : ℕ) → r < m → l + w * m ≤ n → n ≤ r + w * m → (l ≤ n % m) × (n % m ≤ r)
-  remainder-in w rm low high = omega (arith, rem)
-    where
-      rem : n % m ≡ n - w * m
-      rem = ap (λ (x : ℕ). x % m) (omega arith) ∙ digits-mod w {m = m} {r = n - w * m} (omega arith)
+  remainder-in w rm low high =
+      let rem : n % m ≡ n - w * m = ap (λ (x : ℕ). x % m) (omega arith) ∙ digits-mod w {m = m} {r = n - w * m} (omega arith) in
+      omega (arith, rem)
 
 -- shifted by `base`, with c moduli added
 module _ (m s base l r l' r' c : ℕ) (rm : r < m) (rm' : r' < m) (low : l' + base ≡ l + c * m) (high : r' + base ≡ r + c * m) where
@@ -32,32 +31,21 @@ module _ (m s base l r l' r' c : ℕ) (rm : r < m) (rm' : r' < m) (low : l' + ba
   hits-wanted k g = remainder-in m l r (base + k * s) (g .0 + c) rm (omega arith) (omega arith)
 
   wanted-hits : (k : ℕ) → Wanted m s base l r k → Hits m s l' r' k
-  wanted-hits k g = (w - c, omega (arith, out, ap (λ (n : ℕ). n * m) parts))
-    where
-      w : ℕ
-      w = (base + k * s) / m
-
-      out : (l + w * m ≤ base + k * s) × (base + k * s ≤ r + w * m)
-      out = remainder-out m l r (base + k * s) g
-
-      enough : c < suc w
-      enough = lt-of-not-le λ (less : suc w ≤ c). omega (arith, out, mul-le-mul-right m less)
-
-      parts : w ≡ c + (w - c)
-      parts = omega (arith, enough)
+  wanted-hits k g =
+      let w : ℕ = (base + k * s) / m in
+      let out = remainder-out m l r (base + k * s) g in
+      let enough = lt-of-not-le λ (less : suc w ≤ c). omega (arith, out, mul-le-mul-right m less) in
+      let parts : w ≡ c + (w - c) = omega (arith, enough) in
+      (w - c, omega (arith, out, ap (λ (n : ℕ). n * m) parts))
 
 -- ---- every answer
 
 -- after as many steps as the modulus the remainders come again
 least-below : (m s base l r k : ℕ) → r < m → Least (Wanted m s base l r) (At k) → k < m
 least-below m s base l r k rm g =
+    let parts : base + k * s ≡ base + k % m * s + k / m * s * m = omega (arith, ap (λ (n : ℕ). n * s) (div-add-mod' k m)) in
+    let again = ap (λ (n : ℕ). n % m) parts ∙ add-mul-mod-self-right (base + k % m * s) (k / m * s) m in
     lt-of-not-le λ (far : m ≤ k). g .1 (k % m) (omega (arith, mod-lt k {m = m} (omega arith))) (omega (arith, g .0, again))
-  where
-    parts : base + k * s ≡ base + k % m * s + k / m * s * m
-    parts = omega (arith, ap (λ (n : ℕ). n * s) (div-add-mod' k m))
-
-    again : (base + k % m * s) % m ≡ (base + k * s) % m
-    again = sym (ap (λ (n : ℕ). n % m) parts ∙ add-mul-mod-self-right (base + k % m * s) (k / m * s) m)
 
 finds :
     (m s base l r : ℕ) (f : Found) → r < m → Least (Wanted m s base l r) (f .place) → ((b : ℕ) → m < 2 ^ suc (suc b) → f .rounds ≤ b)
@@ -140,16 +128,10 @@ unfolding searchFrom
 searchFrom-finds m s base l r h bm =
     test-cases (Finds m s base l r) (decLt (shift m base r) (shift m base l))
     (λ over.
-    finds m s base l r (atOnce (At 0)) (h .1) (at-start (across m base l r (h .0) (h .1) bm over), λ x lt g. omega arith)
+    let g = across m base l r (h .0) (h .1) bm over in
+    let steps : base + 0 * s ≡ base = omega arith in
+    finds m s base l r (atOnce (At 0)) (h .1) (omega (arith, ap (λ (n : ℕ). n % m) steps ∙ mod-eq-of-lt bm), λ x lt g. omega arith)
     (λ b small. zero-le))
-    (λ apart. elsewhere (omega arith) (aside m base l r (h .0) (h .1) bm apart))
-  where
-    at-start : (l ≤ base) × (base ≤ r) → Wanted m s base l r 0
-    at-start g = omega (arith, ap (λ (n : ℕ). n % m) steps ∙ mod-eq-of-lt bm)
-      where
-        steps : base + 0 * s ≡ base
-        steps = omega arith
-
-    elsewhere : shift m base l ≤ shift m base r → Alike m base l r → Finds m s base l r (searchWindow m s (shift m base l) (shift m base r))
-    elsewhere lr a =
-        window-finds m s base l r (shift m base l) (shift m base r) (a .0) (lr, shift-lt m base r (omega arith), h .2) (h .1) (a .1) (a .2)
+    (λ apart.
+    let a = aside m base l r (h .0) (h .1) bm apart in
+    window-finds m s base l r (shift m base l) (shift m base r) (a .0) (omega arith, shift-lt m base r (omega arith), h .2) (h .1) (a .1) (a .2))

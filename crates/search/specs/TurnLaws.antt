@@ -11,13 +11,10 @@ use Rattle.search.specs.MultipleLaws.{ceilDiv-ge, ceilDiv-le}
 -- Mirrored, a place is met with the steps, less one, that its winding leaves. (The mirror of s, l and r is t, k and n.)
 pub mirror-meets :
     (m s t l k r n x w : ℕ) → s + t ≡ m → l + k ≡ m → r + n ≡ m → 0 < l → Meets m s l r x w → (w < x) × Meets m t n k x (x - suc w)
-mirror-meets m s t l k r n x w st lk rn pos h = (less, omega (arith, ap (λ (i : ℕ). x * i) st, ap (λ (i : ℕ). i * m) parts))
-  where
-    less : w < x
-    less = lt-of-mul-lt-mul-right m {m = w} {n = x} (omega (arith, ap (λ (i : ℕ). x * i) st))
-
-    parts : x ≡ suc w + (x - suc w)
-    parts = omega (arith, less)
+mirror-meets m s t l k r n x w st lk rn pos h =
+    let less = lt-of-mul-lt-mul-right m {m = w} {n = x} (omega (arith, ap (λ (i : ℕ). x * i) st)) in
+    let parts : x ≡ suc w + (x - suc w) = omega (arith, less) in
+    (less, omega (arith, ap (λ (i : ℕ). x * i) st, ap (λ (i : ℕ). i * m) parts))
 
 module _ (m s l r c : ℕ) (lr : l ≤ r) (b : Between s l r c) where
   whole : (y : ℕ) → y * m ≡ y * (m / s) * s + y * (m % s)
@@ -29,13 +26,10 @@ module _ (m s l r c : ℕ) (lr : l ≤ r) (b : Between s l r c) where
 
   -- A winding of this search is a place of the search that a round goes on with.
   pub round-down : (x w : ℕ) → Meets m s l r x w → Meets s (m % s) (negMod r s) (negMod l s) w (x - (c + w * (m / s)))
-  round-down x w h = omega (arith, whole w, ap (λ (n : ℕ). n * s) parts)
-    where
-      enough : c + w * (m / s) < suc x
-      enough = lt-of-mul-lt-mul-right s {m = c + w * (m / s)} {n = suc x} (omega (arith, whole w))
-
-      parts : x ≡ c + w * (m / s) + (x - (c + w * (m / s)))
-      parts = omega (arith, enough)
+  round-down x w h =
+      let enough = lt-of-mul-lt-mul-right s {m = c + w * (m / s)} {n = suc x} (omega (arith, whole w)) in
+      let parts : x ≡ c + w * (m / s) + (x - (c + w * (m / s))) = omega (arith, enough) in
+      omega (arith, whole w, ap (λ (n : ℕ). n * s) parts)
 
   -- No place with that winding is smaller.
   pub round-place : (j i : ℕ) → 0 < s → Meets s (m % s) (negMod r s) (negMod l s) j i → ceilDiv (l + j * m) s ≡ c + (j * (m / s) + i)

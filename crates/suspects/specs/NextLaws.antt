@@ -1,7 +1,7 @@
 -- The search in a half finds the least suspect from its start on, and takes few rounds. Assumes nothing.
-use mathlib.Core.Path.{_≡_, refl, sym, ap, _∙_}
+use mathlib.Core.Path.{_≡_, sym, ap, _∙_}
 use mathlib.Core.Logic.{_↔_}
-use mathlib.Core.Bool.{Bool, true, false, cond}
+use mathlib.Core.Bool.{Bool, true, false, cond, not-eq-not}
 use Prim.Native.Nat.{ℕ, suc, _+_, _-_, _*_, _/_, _%_, _^_, _≤_, _<_}
 use native.Mathlib.Nat.{mul-le-mul-right, le-refl, le-trans, mod-lt, lt-of-not-le, mod-add-mod, add-mul-mod-self-right, div-add-mod'}
 use native.Mathlib.Decide.{decLt}
@@ -97,11 +97,8 @@ module _ (L h W D : ℕ) (some : 0 < W) (fits : W + D ≤ h) where
   -- the least significand from a on is found of those with `suspect`, as far as this is told by the remainder of L * X
   module _ (suspect : ℕ → Bool) (a end : ℕ) (told : (X : ℕ) → a ≤ X → X < end → suspect X ≡ inWindow (L * X % m) h W D) where
     clear : (Y : ℕ) → a ≤ Y → Y < end → ¬ WantedFrom a (Y - a) → suspect Y ≡ false
-    clear Y l u none = told Y l u ∙ ap (λ (z : ℕ). inWindow (L * z % m) h W D) (omega arith) ∙ go (inWindow (L * (a + (Y - a)) % m) h W D) refl
-      where
-        go : (b : Bool) → inWindow (L * (a + (Y - a)) % m) h W D ≡ b → b ≡ false
-        go true e = absurd (none (wanted-near a (Y - a) .1 e))
-        go false e = refl
+    clear Y l u none =
+        told Y l u ∙ ap (λ (z : ℕ). inWindow (L * z % m) h W D) (omega arith) ∙ not-eq-not {b = false} .0 (λ e. none (wanted-near a (Y - a) .1 e))
 
     near-least : LeastFrom suspect end a (nextIn s a .place)
     unfolding nextIn

@@ -1,10 +1,9 @@
 -- Every significand that is no suspect is right: no midpoint lies near L * x, so the fused sum and C * x round alike. Assumes nothing.
 use mathlib.Core.Path.{_≡_, sym, ap}
-use mathlib.Core.Logic.{_⊎_, inl, inr}
 use mathlib.Core.Bool.{Bool, cond}
 use Prim.Native.Nat.{ℕ, suc, _+_, _-_, _*_, _^_, _≤_, _<_}
-use native.Mathlib.Nat.{mul-le-mul-right, mul-le-mul-left, mul-le-mul, le-trans, le-of-eq, le-of-lt, lt-of-not-le, eq-or-lt-of-le, pow-succ'}
-use native.Mathlib.Decide.{decLe, decLt}
+use native.Mathlib.Nat.{mul-le-mul-right, mul-le-mul-left, mul-le-mul, le-trans, le-of-eq, le-of-lt, lt-of-not-le, pow-succ'}
+use native.Mathlib.Decide.{ℕ-discrete, decLe, decLt}
 use native.Mathlib.Omega.{arith}
 use lib.Pow.{pow-add, pow-pos, pow-mono}
 use borrow.Author.Tests.{lt-ltb, le-ltb}
@@ -75,33 +74,27 @@ module _ (K : Context) (ok : Fine K) (L X : ℕ) (top : L < 2 ^ suc (K .E)) (xe 
     -- two numbers near L * X and not below 1
     module _ (a b : ℕ) (ab : a ≤ b) (one : T ≤ 2 * a) (lo : L * X < a + W) (hi : b < L * X + W + D) where
       none : (j k : ℕ) → 2 ^ (n - 1) ≤ j → j < 2 ^ n → 2 * a ≤ (2 * j + 1) * 2 ^ k * 1 → (2 * j + 1) * 2 ^ k * 1 ≤ 2 * b → ⊥
-      none j k p q x y = go (decLt k E)
+      none j k p q x y = go (decLt k E) (decLt (suc E) k) (ℕ-discrete E k) (decLt (L * X) (2 ^ (E + n)))
         where
-          low-step : E ≡ k → Dec (L * X < 2 ^ (E + n)) → ⊥
-          low-step e (yes l) =
-              let s = ap (λ (z : ℕ). (2 * j + 1) * 2 ^ z) e in
-              let t = ap (λ (z : ℕ). (2 * j + 1) * z) (pow-half E (omega arith)) in
-              not-at (2 ^ (E - 1)) (half-low l) j (omega (arith, x, s, t, lo)) (omega (arith, y, s, t, hi))
-          low-step e (no l) = omega (arith, width, lt-of-not-le l, pow-add 2 E n, at-low j q, ap (λ (z : ℕ). (2 * j + 1) * 2 ^ z) e)
+          -- the midpoint by its step, and that of a suspect by its half step
+          s : (e : ℕ) → e ≡ k → (2 * j + 1) * 2 ^ e ≡ (2 * j + 1) * 2 ^ k
+          s e = ap (λ (z : ℕ). (2 * j + 1) * 2 ^ z)
 
-          high-step : suc E ≡ k → Dec (L * X < 2 ^ (E + n)) → ⊥
-          high-step e (yes l) = omega (arith, width, l, pow-add 2 E n, at-high j p, ap (λ (z : ℕ). (2 * j + 1) * 2 ^ z) e)
-          high-step e (no l) =
-              let s = ap (λ (z : ℕ). (2 * j + 1) * 2 ^ z) e in
-              let t = ap (λ (z : ℕ). (2 * j + 1) * z) (pow-succ' 2 E) in
-              not-at (2 ^ E) (half-high (omega (arith, lt-of-not-le l))) j (omega (arith, x, s, t, lo)) (omega (arith, y, s, t, hi))
+          t : (z h : ℕ) → z ≡ 2 * h → (2 * j + 1) * z ≡ (2 * j + 1) * (2 * h)
+          t z h = ap (λ (z : ℕ). (2 * j + 1) * z)
 
-          above : (suc E ≡ k) ⊎ (suc E < k) → ⊥
-          above (inl e) = high-step e (decLt (L * X) (2 ^ (E + n)))
-          above (inr h) = omega (arith, width, too-high j k h p, high-end)
-
-          from : (E ≡ k) ⊎ (E < k) → ⊥
-          from (inl e) = low-step e (decLt (L * X) (2 ^ (E + n)))
-          from (inr h) = above (eq-or-lt-of-le h)
-
-          go : Dec (k < E) → ⊥
-          go (yes h) = omega (arith, too-low j k h q)
-          go (no h) = from (eq-or-lt-of-le (omega (arith, lt-of-not-le h)))
+          go : Dec (k < E) → Dec (suc E < k) → Dec (E ≡ k) → Dec (L * X < 2 ^ (E + n)) → ⊥
+          go (yes a) b e l = omega (arith, too-low j k a q)
+          go (no a) (yes b) e l = omega (arith, width, too-high j k b p, high-end)
+          go (no a) (no b) (yes e) (yes l) =
+              let v = t (2 ^ E) (2 ^ (E - 1)) (pow-half E (omega arith)) in
+              not-at (2 ^ (E - 1)) (half-low l) j (omega (arith, x, s E e, v, lo)) (omega (arith, y, s E e, v, hi))
+          go (no a) (no b) (yes e) (no l) = omega (arith, width, lt-of-not-le l, pow-add 2 E n, at-low j q, s E e)
+          go (no a) (no b) (no e) (yes l) = omega (arith, width, l, pow-add 2 E n, at-high j p, s (suc E) (omega arith))
+          go (no a) (no b) (no e) (no l) =
+              let u = s (suc E) (omega arith) in
+              let v = t (2 ^ suc E) (2 ^ E) (pow-succ' 2 E) in
+              not-at (2 ^ E) (half-high (omega (arith, lt-of-not-le l))) j (omega (arith, x, u, v, lo)) (omega (arith, y, u, v, hi))
 
       pub alike : rn rule n a 1 ≡ rn rule n b 1
       alike = rn-constant rule n P a b 1 (omega arith) (omega (arith, one, mul-le-mul-left (2 ^ n) (pow-pos E))) ab none

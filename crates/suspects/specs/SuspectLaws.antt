@@ -1,7 +1,7 @@
 -- A suspect is told by the remainder of L * X, so the test decides it; and whatever is not right is a suspect. Assumes nothing.
 use mathlib.Core.Path.{_≡_, refl, sym, ap, _∙_}
 use mathlib.Core.Logic.{_↔_}
-use mathlib.Core.Bool.{Bool, true, false, cond, _&&_}
+use mathlib.Core.Bool.{Bool, true, false, cond, true≢false, not-eq-not}
 use Prim.Native.Nat.{ℕ, suc, _+_, _-_, _*_, _/_, _%_, _^_, _≤_, _<_}
 use native.Mathlib.Nat.{mul-le-mul-right, le-trans, le-of-eq, le-antisymm, lt-of-mul-lt-mul-right, div-add-mod', mod-lt}
 use native.Mathlib.Omega.{arith}
@@ -9,16 +9,15 @@ use lib.Dec.{ltb}
 use lib.Pow.{pow-pos, pow-mono}
 use borrow.Author.Tests.{ltb-true, lt-ltb}
 use Rattle.marks.specs.declared.Mark.the-variants.{Right}
+use Rattle.marks.specs.AnswerLaws.{and-true}
 use Rattle.rounding.specs.Digits.{pow-half}
 use Rattle.rounding.specs.Unit.{rn}
 use Rattle.factor.specs.Context.{Context, Fine}
 use Rattle.factor.specs.Parts.{partsAt}
-use Rattle.factor.specs.UnitParts.{unitParts}
 use Rattle.factor.specs.Ends.{End}
 use Rattle.factor.specs.PartsLaws.{top-is}
 use Rattle.factor.specs.Accepted.{spread}
 use Rattle.product.specs.Product.{product}
-use Rattle.product.specs.Units.{secondUnits}
 use Rattle.product.specs.Marks.{mark}
 use Rattle.product.specs.ProductLaws.{product-is}
 use Rattle.product.specs.MarkLaws.{mark-units, right-units}
@@ -44,12 +43,10 @@ module _ (N h W D : ℕ) (H : 0 < h) (room : W + D ≤ h) where
 
 -- The test is what it says.
 pub in-window : (r h W D : ℕ) → inWindow r h W D ≡ true ↔ ((h < r + W + D) × (r < h + W))
-in-window r h W D = (λ e. of (ltb h (r + W + D)) (ltb r (h + W)) refl refl e, λ x. rw (lt-ltb h (r + W + D) (x .0), lt-ltb r (h + W) (x .1)))
-  where
-    of : (a b : Bool) → ltb h (r + W + D) ≡ a → ltb r (h + W) ≡ b → a && b ≡ true → (h < r + W + D) × (r < h + W)
-    of true true p q e = (ltb-true h (r + W + D) p, ltb-true r (h + W) q)
-    of true false p q e = absurd (mathlib.Core.Bool.true≢false (sym e))
-    of false b p q e = absurd (mathlib.Core.Bool.true≢false (sym e))
+in-window r h W D = (
+  λ e. let i = and-true (ltb h (r + W + D)) (ltb r (h + W)) e in (ltb-true h (r + W + D) (i .0), ltb-true r (h + W) (i .1)),
+  λ x. rw (lt-ltb h (r + W + D) (x .0), lt-ltb r (h + W) (x .1)),
+)
 
 -- ---- ends with the same parts, at two bits or more
 -- The window lies between two multiples of the distance of two midpoints, in the low half and so in both.
@@ -93,15 +90,12 @@ module _ (K : Context) (ok : Fine K) (two : 2 ≤ K .n) (L U : ℕ) (le : End K 
 
   -- every significand that is not right is a suspect
   pub not-right-suspect : 2 ^ (n - 1) ≤ X → X < 2 ^ n → ¬ (mark K L U X (product K (partsAt K L) X) ≡ Right) → Suspect K L U X
-  not-right-suspect x1 xe m = go (isSuspect K L U X) refl
-    where
-      v-is : product K (partsAt K L) X .significand * 2 ^ (E + product K (partsAt K L) X .binade) ≡ secondUnits K (unitParts K L) X
-      v-is = product-is K ok L le X xe x1 .value
-
-      go : (b : Bool) → isSuspect K L U X ≡ b → Suspect K L U X
-      go true e = suspect-iff .0 e
-      go false e =
-          let clear : ¬ Suspect K L U X = λ s. mathlib.Core.Bool.true≢false (sym (suspect-iff .1 s) ∙ e) in
-          let p = product-alike K ok L U le ue lu same X x1 xe clear in
-          let q = ends-alike K ok L U le ue lu same X x1 xe clear in
-          absurd (m (mark-units K P L U X (product K (partsAt K L) X) ∙ right-units (rn rule n (L * X) 1) (rn rule n (U * X) 1) _ (p ∙ sym v-is) (sym q ∙ p ∙ sym v-is)))
+  not-right-suspect x1 xe m =
+      suspect-iff .0
+      (not-eq-not {b = true} .0
+      (λ e.
+      let clear : ¬ Suspect K L U X = λ s. true≢false (sym (suspect-iff .1 s) ∙ e) in
+      let v-is = product-is K ok L le X xe x1 .value in
+      let p = product-alike K ok L U le ue lu same X x1 xe clear in
+      let q = ends-alike K ok L U le ue lu same X x1 xe clear in
+      m (mark-units K P L U X (product K (partsAt K L) X) ∙ right-units (rn rule n (L * X) 1) (rn rule n (U * X) 1) _ (p ∙ sym v-is) (sym q ∙ p ∙ sym v-is))))

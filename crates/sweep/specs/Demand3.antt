@@ -1,6 +1,6 @@
 -- Demand 3 of sweeps of a factor: of every list of calls that were made from a new state, each of them keeping the contract of `sweep_call` at the state that the one before handed back.
 -- `Whole` (in `calls`) has each sentence of the demand as a field, in the demand's order. Assumes nothing.
-use mathlib.Core.Path.{_≡_, refl, sym, ap, ap₂, _∙_, subst}
+use mathlib.Core.Path.{_≡_, refl, sym, ap, _∙_, subst}
 use mathlib.Core.Bool.{true, false, not}
 use mathlib.Core.Logic.{_↔_}
 use mathlib.Core.List.{List, [], _∷_, List·Memᴰ}
@@ -113,16 +113,12 @@ joined-words w = rw (w .words .are ∙ entries-are (w .words .listed)) (w .words
 
 kept-replies : (s : State Factor) (made : List Made) → Kept s made → repliesIn made ≡ repliesBy (sweepCall engine) s (askedIn made)
 kept-replies s [] k = refl
-kept-replies s (m ∷ made) k =
-    ap₂ (λ (r : Reply Factor) (l : List (Reply Factor)). r ∷ l) (k .0)
-    (kept-replies (replyIn m .state) made (k .1) ∙ ap (λ (r : Reply Factor). repliesBy (sweepCall engine) (r .state) (askedIn made)) (k .0))
+kept-replies s (m ∷ made) k = rw (← k .0, kept-replies (replyIn m .state) made (k .1))
 
 kept-seen : (s : State Factor) (made : List Made) → Kept s made → seenIn made ≡ sweeps (sweepCall engine) s (askedIn made)
 unfolding sweeps
 kept-seen s [] k = refl
-kept-seen s (m ∷ made) k =
-    ap₂ (λ (x : Seen Factor) (l : List (Seen Factor)). x ∷ l) (ap (seen (m .asked)) (k .0))
-    (kept-seen (replyIn m .state) made (k .1) ∙ ap (λ (r : Reply Factor). sweeps (sweepCall engine) (r .state) (askedIn made)) (k .0))
+kept-seen s (m ∷ made) k = rw (← k .0, kept-seen (replyIn m .state) made (k .1))
 
 kept-last : (s : State Factor) (made : List Made) → Kept s made → lastIn s made ≡ stateAfter (sweepCall engine) s (askedIn made)
 unfolding stateAfter

@@ -1,7 +1,7 @@
 -- Laws for the loop over a call's steps, on a tail that is free from its first place on. Assumes nothing.
 use mathlib.Core.Path.{_≡_, refl, sym, ap, _∙_}
 use mathlib.Core.Bool.{Bool, true, false, cond, true≢false, false≢true}
-use mathlib.Core.Logic.{_⊎_, inl, inr}
+use mathlib.Core.Logic.{_⊎_, inl, inr, ⊎-map}
 use mathlib.Core.List.{List, [], _∷_}
 use Prim.Native.Nat.{ℕ, suc, _+_, _-_, _*_, _^_, _≤_, _<_}
 use native.Mathlib.Omega.{arith}
@@ -93,14 +93,10 @@ module _ {s : SweepState} {cap : ℕ} {tail₀ : List ℕ} {w : Work} {tail : Li
       record {
         fits = λ i. absurd (omega arith);
         wrote = λ i. absurd (omega arith);
-        kept = λ i. record { on = λ z. absurd (false≢true z); off = λ z. loop-end lawful l p q (by h); fits = l .fits; long = l .long };
+        kept = λ i.
+            record { on = λ z. absurd (false≢true z); off = λ z. loop-end lawful l p q (⊎-map (λ z. z) (⊎-map (λ z. z) (λ z. room-is (length tail₀) (w .place) ∙ omega arith)) h); fits = l .fits; long = l .long };
         less = rw g (omega arith);
       }
-    where
-      by : (p ≡ Nowhere) ⊎ (w .trials ≡ cap) ⊎ (w .place ≡ length tail₀) → (p ≡ Nowhere) ⊎ (w .trials ≡ cap) ⊎ (roomIn wordList (length tail₀) (w .place) ≡ 0)
-      by (inl z) = inl z
-      by (inr (inl z)) = inr (inl z)
-      by (inr (inr z)) = inr (inr (room-is (length tail₀) (w .place) ∙ omega arith))
 
   -- X is tried
   module _ {X : ℕ} (q : found .place ≡ At X) (h : ¬ (w .trials ≡ cap)) (i : ¬ (w .place ≡ length tail₀)) where

@@ -4,9 +4,6 @@ use Rattle.marks.specs.AnswerLaws.{of-mark}
 use Rattle.reading.proofs.answer.Statement.{statement}
 use Rattle.reading.proofs.answer.Tie as tie
 
-enum-told : tie.Need-enum-told
-enum-told c = search needs
-
 returns : tie.Need-returns
 returns c = of-mark (c .enum-told .given .1) _
 
@@ -17,4 +14,4 @@ returns-3 : tie.Need-returns-3
 returns-3 c = of-mark (c .enum-told3 .given .1) _
 
 pub answer-spec : {M : Type 1} → statement M
-answer-spec = tie.close (tie.spec enum-told (λ c. search needs) (λ c. search needs) returns returns-2 returns-3)
+answer-spec = tie.close (tie.spec (λ c. search needs) (λ c. search needs) (λ c. search needs) returns returns-2 returns-3)

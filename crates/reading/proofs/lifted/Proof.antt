@@ -10,34 +10,29 @@ use Rattle.reading.specs.Exponents.{lifted-scale}
 use Rattle.reading.proofs.lifted.Statement.{statement}
 use Rattle.reading.proofs.lifted.Tie as tie
 
--- the sum as it was read and worked out
-pub record Sum (z : ℤ) : Type 0 where
-  pub count : ℕ
-  pub is : toZ w32 (ofZ w32 z) +ℤ pos 100 ≡ pos count
-  pub exact : z +ℤ pos 100 ≡ pos count
-  pub small : count ≤ 200
+-- the scale counted from -100
+counted : (c : tie.Start) → (r : ℕ) × (c .args .scale +ℤ pos 100 ≡ pos r) × (r ≤ 200)
+counted c = lifted-scale (c .args .scale) (c .pre)
 
-sum : (c : tie.Start) → Sum (c .args .scale)
-sum c =
-    let z = c .args .scale in
-    let t = lifted-scale z (c .pre) in
-    record { count = t .0; is = ap (λ (y : ℤ). y +ℤ pos 100) (toZ-ofZ w32 z (c .fits .scale)) ∙ t .1; exact = t .1; small = t .2 }
+-- the sum as it was read and worked out
+sum : (c : tie.Start) → toZ w32 (ofZ w32 (c .args .scale)) +ℤ pos 100 ≡ pos (counted c .0)
+sum c = ap (λ (y : ℤ). y +ℤ pos 100) (toZ-ofZ w32 (c .args .scale) (c .fits .scale)) ∙ counted c .1
 
 fits : (r : ℕ) → r ≤ 200 → SFits w32 (pos r)
 fits r h = record { sfits = omega arith }
 
 add-result : tie.Need-add-result
-add-result c = let s = sum c in rw (s .is) (fits (s .count) (s .small))
+add-result c = rw (sum c) (fits (counted c .0) (counted c .2))
 
 -- and stored
-stored : (c : tie.Start) → toZ w32 (ofZ w32 (toZ w32 (ofZ w32 (c .args .scale)) +ℤ pos 100)) ≡ pos (sum c .count)
-stored c = let s = sum c in ap (λ (y : ℤ). toZ w32 (ofZ w32 y)) (s .is) ∙ toZ-ofZ w32 (pos (s .count)) (fits (s .count) (s .small))
+stored : (c : tie.Start) → toZ w32 (ofZ w32 (toZ w32 (ofZ w32 (c .args .scale)) +ℤ pos 100)) ≡ pos (counted c .0)
+stored c = ap (λ (y : ℤ). toZ w32 (ofZ w32 y)) (sum c) ∙ toZ-ofZ w32 (pos (counted c .0)) (fits (counted c .0) (counted c .2))
 
 cast-result : tie.Need-cast-result
-cast-result c = rw (stored c) (tt, record { fits = omega (arith, sum c .small) })
+cast-result c = rw (stored c) (tt, record { fits = omega (arith, counted c .2) })
 
 returns : tie.Need-returns
-returns c = let s = sum c in rw (stored c) (sym (s .exact), s .small)
+returns c = rw (stored c) (sym (counted c .1), counted c .2)
 
 pub lifted-spec : {M : Type 1} → statement M
 lifted-spec = tie.close (tie.spec add-result cast-result returns)

@@ -18,9 +18,6 @@ use Rattle.reading.specs.AnswerLaws.{is-intact, precision-is, is-normal,
 use Rattle.reading.proofs.read.Statement.{statement}
 use Rattle.reading.proofs.read.Tie as tie
 
-enum-told : tie.Need-enum-told
-enum-told c = search needs
-
 -- ---- a normal reading
 module _ (c : tie.After-known-told2) where
   abbrev a : tie.Start
@@ -68,4 +65,4 @@ returns-3 c =
     c .finish .ensures ∙ ap (finished (a k .args .f) (b k)) (v .two-steps .ensures) ∙ taken k .2
 
 pub read-spec : {M : Type 1} → statement M
-read-spec = tie.close (tie.spec (λ c κs. search needs) (λ c. search needs) enum-told (λ c κs. search needs) (λ c. search needs) two-steps-requires finish-requires returns returns-2 returns-3)
+read-spec = tie.close (tie.spec (λ c κs. search needs) (λ c. search needs) (λ c. search needs) (λ c κs. search needs) (λ c. search needs) two-steps-requires finish-requires returns returns-2 returns-3)

@@ -5,19 +5,10 @@ use Rattle.search.proofs.mirror_back.Statement.{statement}
 use Rattle.search.proofs.mirror_back.Tie as tie
 
 sub-t6 : tie.Need-sub-t6
-sub-t6 c =
-    let is-at = c .before .p .given .1 in
-    let winds = c .before .before .before .before .pre in
-    omega (arith, rw is-at at winds)
+sub-t6 c = omega (arith, rw (c .before .p .given .1) at (c .before .before .before .before .pre))
 
 sub-t7 : tie.Need-sub-t7
-sub-t7 c =
-    let is-at = c .before .before .p .given .1 in
-    let winds = c .before .before .before .before .before .pre in
-    omega (arith, rw is-at at winds)
-
-enum-told : tie.Need-enum-told
-enum-told c = search needs
+sub-t7 c = omega (arith, rw (c .before .before .p .given .1) at (c .before .before .before .before .before .pre))
 
 returns : tie.Need-returns
 returns c = rw (c .before .before .p .given .1)
@@ -26,4 +17,4 @@ returns-2 : tie.Need-returns-2
 returns-2 c = rw (c .enum-told .given .1)
 
 pub mirror-back-spec : {M : Type 1} → statement M
-mirror-back-spec = tie.close (tie.spec (λ c. search needs) sub-t6 sub-t7 enum-told returns returns-2)
+mirror-back-spec = tie.close (tie.spec (λ c. search needs) sub-t6 sub-t7 (λ c. search needs) returns returns-2)

@@ -13,9 +13,6 @@ add-t10 c = omega (arith, rw (c .before .before .p .given .1) at (c .before .bef
 add-t11 : tie.Need-add-t11
 add-t11 c = omega (arith, rw (c .before .before .p .given .1) at (c .before .before .before .before .before .before .pre))
 
-enum-told : tie.Need-enum-told
-enum-told c = search needs
-
 returns : tie.Need-returns
 returns c = rw (c .before .before .p .given .1)
 
@@ -23,4 +20,4 @@ returns-2 : tie.Need-returns-2
 returns-2 c = rw (c .enum-told .given .1)
 
 pub round-back-spec : {M : Type 1} → statement M
-round-back-spec = tie.close (tie.spec (λ c. search needs) (λ c. search needs) mul-t9 add-t10 add-t11 enum-told returns returns-2)
+round-back-spec = tie.close (tie.spec (λ c. search needs) (λ c. search needs) mul-t9 add-t10 add-t11 (λ c. search needs) returns returns-2)

@@ -47,9 +47,6 @@ add-t8 c =
       place-below (a .args .w) (a .args .start) (counted .remainder .ensures) (found .find-from .ensures) (a .pre .0) (k .0 .0) (k .1),
     )
 
-enum-told : tie.Need-enum-told
-enum-told c = search needs
-
 returns : tie.Need-returns
 returns c =
     let found = c .before .before .before in
@@ -66,4 +63,4 @@ returns-2 c =
     nowhere (a .w) (a .start) (counted .remainder .ensures) (found .find-from .ensures) (c .enum-told .given .1)
 
 pub next-spec : {M : Type 1} → statement M
-next-spec = tie.close (tie.spec (λ c κs. search needs) find-from-requires (λ c. search needs) add-t8 enum-told returns returns-2)
+next-spec = tie.close (tie.spec (λ c κs. search needs) find-from-requires (λ c. search needs) add-t8 (λ c. search needs) returns returns-2)

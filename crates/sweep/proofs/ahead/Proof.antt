@@ -12,9 +12,6 @@ sought-before-requires c κs =
     let start = c .before .before in
     (low-asks (start .pre .0), omega (arith, c .smaller .ensures, start .pre .1))
 
-enum-told : tie.Need-enum-told
-enum-told c = search needs
-
 sought-before-requires-2 : tie.Need-sought-before-requires-2
 sought-before-requires-2 c κs =
     let start = c .before .before .before .before .before .before .before in
@@ -47,4 +44,5 @@ returns-2 c =
 
 pub ahead-spec : {M : Type 1} → statement M
 ahead-spec =
-    tie.close (tie.spec (λ c. search needs) (λ c κs. search needs) sought-before-requires enum-told (λ c. search needs) (λ c κs. search needs) (λ c. search needs) sought-before-requires-2 add-t13 returns returns-2)
+    tie.close (tie.spec (λ c. search needs) (λ c κs. search needs) sought-before-requires (λ c. search needs) (λ c. search needs) (λ c κs. search needs) (λ c. search needs) sought-before-requires-2
+    add-t13 returns returns-2)

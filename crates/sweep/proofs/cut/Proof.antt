@@ -10,9 +10,6 @@ returns c =
     let a = c .before .before .before .before .args in
     cut-before (a .found) (a .end) (c .before .before .place .given .1) (c .if1 .taken)
 
-enum-told : tie.Need-enum-told
-enum-told c = search needs
-
 returns-2 : tie.Need-returns-2
 returns-2 c =
     let past = c .before in
@@ -23,4 +20,4 @@ returns-3 : tie.Need-returns-3
 returns-3 c = let a = c .before .before .args in cut-none (a .found) (a .end) (c .enum-told .given .1)
 
 pub cut-spec : {M : Type 1} → statement M
-cut-spec = tie.close (tie.spec (λ c. search needs) returns (λ c κs. search needs) enum-told returns-2 returns-3)
+cut-spec = tie.close (tie.spec (λ c. search needs) returns (λ c κs. search needs) (λ c. search needs) returns-2 returns-3)

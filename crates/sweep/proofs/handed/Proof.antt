@@ -3,9 +3,6 @@ use borrow.Author.Needs.{needs}
 use Rattle.sweep.proofs.handed.Statement.{statement}
 use Rattle.sweep.proofs.handed.Tie as tie
 
-enum-told : tie.Need-enum-told
-enum-told c = search needs
-
 returns : tie.Need-returns
 returns c = rw (c .before .left .given .1)
 
@@ -13,4 +10,4 @@ returns-2 : tie.Need-returns-2
 returns-2 c = rw (c .enum-told .given .1)
 
 pub handed-spec : {M : Type 1} → statement M
-handed-spec = tie.close (tie.spec (λ c. search needs) enum-told returns returns-2)
+handed-spec = tie.close (tie.spec (λ c. search needs) (λ c. search needs) returns returns-2)

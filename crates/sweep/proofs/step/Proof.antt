@@ -42,9 +42,6 @@ tried-requires c κs =
     let stop = c .before .before in
     step-room (start stop .pre) (found stop .ahead .ensures) (told stop .place .given .1) (stop .must-stop .ensures) (c .before .if1 .left) (search needs) (search needs)
 
-enum-told : tie.Need-enum-told
-enum-told c = search needs
-
 returns-2 : tie.Need-returns-2
 returns-2 c =
     let trial = c .before in
@@ -59,4 +56,4 @@ returns-3 c =
 
 pub step-spec : {M : Type 1} → statement M
 step-spec =
-    tie.close (tie.spec ahead-requires add-rounds (λ c. search needs) (λ c κs. search needs) (λ c κs. search needs) returns trial-requires tried-requires enum-told (λ c κs. search needs) returns-2 returns-3)
+    tie.close (tie.spec ahead-requires add-rounds (λ c. search needs) (λ c κs. search needs) (λ c κs. search needs) returns trial-requires tried-requires (λ c. search needs) (λ c κs. search needs) returns-2 returns-3)

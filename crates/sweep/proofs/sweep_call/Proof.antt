@@ -14,9 +14,6 @@ use Rattle.sweep.specs.TailLaws.{moved, lent-length, tail-free, tail-tak
 use Rattle.sweep.proofs.sweep_call.Statement.{statement}
 use Rattle.sweep.proofs.sweep_call.Tie as tie
 
-enum-told : tie.Need-enum-told
-enum-told c = search needs
-
 -- nothing refuses the call
 taken : (c : tie.After-enum-told) → let a = c .before .before .before .before .args in First (conditions engine (viewOf (a .state)) (termsBy (a .cap) (length (a .list .now)) (a .free))) none
 taken c = rw (c .enum-told .given .1) at (c .before .before .refusal-of .ensures)
@@ -25,23 +22,18 @@ taken c = rw (c .enum-told .given .1) at (c .before .before .refusal-of .ensures
 short : (c : tie.After-enum-told) → length (c .before .before .before .before .args .list .now) < 2 ^ 64
 short c = search needs
 
+-- a place is free
+free : (c : tie.After-enum-told) → let a = c .before .before .before .before .args in a .free < length (a .list .now)
+free c = let a = c .before .before .before .before .args in tail-free (a .state) (a .cap) (a .list .now) (a .free) (taken c)
+
 mul-sweep-on : tie.Need-mul-sweep-on
-mul-sweep-on c =
-    let a = c .before .before .before .before .args in
-    let place = tail-free (a .state) (a .cap) (a .list .now) (a .free) (taken c) in
-    search needs
+mul-sweep-on c = let place = free c in search needs
 
 sub-sweep-on : tie.Need-sub-sweep-on
-sub-sweep-on c =
-    let a = c .before .before .before .before .args in
-    let place = tail-free (a .state) (a .cap) (a .list .now) (a .free) (taken c) in
-    search needs
+sub-sweep-on c = let place = free c in search needs
 
 part-sweep-on-start : tie.Need-part-sweep-on-start
-part-sweep-on-start c =
-    let a = c .before .before .before .before .args in
-    let place = tail-free (a .state) (a .cap) (a .list .now) (a .free) (taken c) in
-    search needs
+part-sweep-on-start c = let place = free c in search needs
 
 sweep-on-requires : tie.Need-sweep-on-requires
 sweep-on-requires c κs =
@@ -53,10 +45,7 @@ add-moved c =
     let on = c .before .before .before in
     let told = on .before .before in
     let a = told .before .before .before .before .args in
-    let list = a .list .now in
-    let free = tail-free (a .state) (a .cap) list (a .free) (taken told) in
-    let fits = on .sweep-on .ensures .1 in
-    omega (arith, short told, free, fits, lent-length list (a .free))
+    omega (arith, short told, free told, on .sweep-on .ensures .1, lent-length (a .list .now) (a .free))
 
 returns : tie.Need-returns
 returns c =
@@ -75,5 +64,5 @@ returns-2 c =
 
 pub sweep-call-spec : {M : Type 1} → statement M
 sweep-call-spec =
-    tie.close (tie.spec (λ c κs. search needs) (λ c. search needs) (λ c κs. search needs) enum-told mul-sweep-on sub-sweep-on part-sweep-on-start (λ c. search needs) sweep-on-requires add-moved returns
+    tie.close (tie.spec (λ c κs. search needs) (λ c. search needs) (λ c κs. search needs) (λ c. search needs) mul-sweep-on sub-sweep-on part-sweep-on-start (λ c. search needs) sweep-on-requires add-moved returns
     (λ c. search needs) returns-2)

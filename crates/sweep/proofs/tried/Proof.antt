@@ -3,9 +3,6 @@ use borrow.Author.Needs.{needs}
 use Rattle.sweep.proofs.tried.Statement.{statement}
 use Rattle.sweep.proofs.tried.Tie as tie
 
-enum-told : tie.Need-enum-told
-enum-told c = search needs
-
 returns : tie.Need-returns
 returns c = rw (c .enum-told .given .1)
 
@@ -17,5 +14,5 @@ returns-3 c = rw (c .before .enum-told3 .given .1) (c .with-word2 .ensures)
 
 pub tried-spec : {M : Type 1} → statement M
 tried-spec =
-    tie.close (tie.spec (λ c. search needs) (λ c. search needs) enum-told (λ c. search needs) (λ c. search needs) (λ c. search needs) (λ c κs. search needs) (λ c. search needs) (λ c. search needs) (λ c κs. search needs)
-    returns returns-2 returns-3)
+    tie.close (tie.spec (λ c. search needs) (λ c. search needs) (λ c. search needs) (λ c. search needs) (λ c. search needs) (λ c. search needs) (λ c κs. search needs) (λ c. search needs) (λ c. search needs)
+    (λ c κs. search needs) returns returns-2 returns-3)
