@@ -1,5 +1,6 @@
 -- The parts as code works them out: the rest is rounded as a whole number, and its exponent is moved by the scale of the ends. Assumes nothing.
-use mathlib.Core.Path.{_≡_, refl, sym, ap, _∙_}
+use mathlib.Core.Path.{_≡_, sym, ap, _∙_}
+use mathlib.Core.Bool.{true}
 use Prim.Native.Nat.{ℕ, _+_, _-_, _*_, _^_, _≤_, _<_}
 use native.Mathlib.Omega.{arith}
 use lib.IntN.{ℤ, pos, negℤ, natAbs, _+ℤ_, _-ℤ_, +ℤ-comm, +ℤ-assoc, +ℤ-invr, +ℤ-idl, negℤ-+ℤ, negℤ-negℤ}
@@ -11,7 +12,7 @@ use Rattle.rounding.specs.RoundLaws.{shifted, rounded-same, rounded-scale}
 use Rattle.rounding.specs.Signed.{negative, signedOf, roundedSigned}
 use Rattle.factor.specs.Context.{Context, Fine}
 use Rattle.factor.specs.UnitParts.{partsFrom}
-use Rattle.factor.specs.LowForm.{low-form}
+use Rattle.factor.specs.LowForm.{size-of, low-form}
 
 -- a - (b + a) is - b
 back : (a b : ℤ) → a -ℤ (b +ℤ a) ≡ negℤ b
@@ -50,13 +51,9 @@ module _ (K : Context) (ok : Fine K) where
       let t = scaled (natAbs z) m in
       let f = low-form K ok (natAbs z) m w in
       let x : r .exponent ≡ negℤ (pos (f .places)) +ℤ pos E = ap (λ (q : RoundedSigned). q .exponent) e ∙ ap (λ (q : Rounded). q .exponent) t ∙ ap (λ (k : ℤ). k +ℤ pos E) (f .exponent) in
-      let q : f .places ≡ natAbs (rounded rule n (natAbs z) (2 ^ E) .exponent) = sym (ap natAbs (f .exponent) ∙ abs-negated (f .places)) in
+      let q : f .places ≡ natAbs (rounded rule n (natAbs z) (2 ^ E) .exponent) = sym (ap natAbs (f .exponent) ∙ size-of true (f .places)) in
       record {
         significand = ap (λ (y : RoundedSigned). y .significand) e ∙ ap (λ (y : Rounded). signedOf (negative z) (y .significand)) t;
         exponent = ap (λ (k : ℤ). pos E -ℤ k) x ∙ back (pos E) (negℤ (pos (f .places))) ∙ negℤ-negℤ (pos (f .places)) ∙ ap pos q;
         few = rw (sym q) (f .most);
       }
-    where
-      abs-negated : (q : ℕ) → natAbs (negℤ (pos q)) ≡ q
-      abs-negated Prim.Native.Nat.zero = refl
-      abs-negated (Prim.Native.Nat.suc q) = refl

@@ -1,16 +1,17 @@
 -- Laws of ends with the same parts: they are close, and every fraction between them has these parts. Assumes nothing.
 use mathlib.Core.Path.{_≡_, refl, sym, ap, _∙_, subst}
 use mathlib.Core.Bool.{Bool, true, false}
-use Prim.Native.Nat.{ℕ, zero, suc, _+_, _-_, _*_, _^_, _≤_, _<_}
-use native.Mathlib.Nat.{mul-le-mul-right, mul-le-mul-left, mul-lt-mul-of-pos-right, mul-pos, le-trans, le-of-eq, le-of-lt, le-antisymm, lt-of-not-le, eq-of-mul-eq-mul-right}
-use native.Mathlib.Decide.{decLe}
+use mathlib.Core.Logic.{inl, inr}
+use Prim.Native.Nat.{ℕ, _+_, _-_, _*_, _^_, _≤_, _<_}
+use native.Mathlib.Nat.{pos-of-ne-zero, eq-zero-or-pos, mul-le-mul-right, mul-lt-mul-of-pos-right, mul-pos, le-trans, le-of-eq, le-antisymm, eq-of-mul-eq-mul-right}
 use native.Mathlib.Omega.{arith}
 use lib.Dec.{ltb}
 use lib.Pow.{pow-add, pow-pos, pow-mono}
 use lib.Ieee.{size}
-use lib.Ieee.Digits.{size-lt}
 use borrow.Author.Tests.{ltb-true, ltb-false, lt-ltb, le-ltb}
 use Rattle.rounding.specs.Apart.{apart}
+use Rattle.rounding.specs.ApartLaws.{apart-mul}
+use Rattle.rounding.specs.Digits.{enough-digits}
 use Rattle.rounding.specs.GridLaws.{nearest-mono}
 use Rattle.rounding.specs.Unit.{rn}
 use Rattle.rounding.specs.UnitLaws.{rn-mono, rn-scale-whole, rn-whole-small, rn-fixed}
@@ -24,11 +25,7 @@ use Rattle.factor.specs.PartsLaws.{width-is, worth-near, high-in-units, 
 
 -- it is above zero, as L is
 pub between-positive : (K : Context) (L U : ℕ) → 0 < L → (C : Fraction) → Between K L U C → 0 < C .num
-between-positive K L U l C k = go (C .num) (2 ^ K .E) (le-trans (mul-pos l (k .some)) (k .least))
-  where
-    go : (a b : ℕ) → 0 < a * b → 0 < a
-    go zero b g = absurd (omega arith)
-    go (suc a) b g = omega arith
+between-positive K L U l C k = pos-of-ne-zero (λ (e : C .num ≡ 0). omega (arith, ap (λ (z : ℕ). z * 2 ^ K .E) e, mul-pos l (k .some), k .least))
 
 module _ (K : Context) (ok : Fine K) (L U : ℕ) (le : End K L) (ue : End K U) (same : partsAt K L ≡ partsAt K U) where
   open Context K using (rule, n, E)
@@ -80,35 +77,21 @@ module _ (K : Context) (ok : Fine K) (L U : ℕ) (le : End K L) (ue : End K U) (
     by-sign : (b : Bool) → ltb L t ≡ b → ltb U t ≡ b → (s : ℕ)
         → (ltb num (t * den) ≡ b) × (rn rule n (apart L t) 1 ≡ p .low → rn rule n (apart num (t * den) * 2 ^ s) den ≡ p .low * 2 ^ s)
     by-sign true x y s =
-        let a = ltb-true L t x in
-        let b = ltb-true U t y in
-        let v : num < t * den = omega (arith, mul-lt-mul-of-pos-right b d) in (
+        let b = mul-lt-mul-of-pos-right (ltb-true U t y) d in
+        let v : num < t * den = omega arith in (
           lt-ltb num (t * den) v,
           λ e. le-antisymm
-              (le-trans (scaled (apart num (t * den)) (apart L t) den 1 s d (omega arith) (farther v a)) (le-of-eq (at-end L s e)))
-              (le-trans (le-of-eq (sym (at-end U s low-U))) (scaled (apart U t) (apart num (t * den)) 1 den s (omega arith) d (nearer v b))),
+              (le-trans (scaled (apart num (t * den)) (apart L t) den 1 s d (omega arith) (omega (arith, apart-mul L t den))) (le-of-eq (at-end L s e)))
+              (le-trans (le-of-eq (sym (at-end U s low-U))) (scaled (apart U t) (apart num (t * den)) 1 den s (omega arith) d (omega (arith, apart-mul U t den)))),
         )
-      where
-        farther : num < t * den → L < t → apart num (t * den) * 1 ≤ apart L t * den
-        farther v x = let e : L + apart L t ≡ t = omega arith in omega (arith, ap (λ (z : ℕ). z * den) e)
-
-        nearer : num < t * den → U < t → apart U t * den ≤ apart num (t * den) * 1
-        nearer v y = let e : U + apart U t ≡ t = omega arith in omega (arith, ap (λ (z : ℕ). z * den) e)
     by-sign false x y s =
-        let a = ltb-false L t x in
-        let b = ltb-false U t y in
-        let v : t * den ≤ num = omega (arith, mul-le-mul-right den a) in (
+        let a = mul-le-mul-right den (ltb-false L t x) in
+        let v : t * den ≤ num = omega arith in (
           le-ltb num (t * den) v,
           λ e. le-antisymm
-              (le-trans (scaled (apart num (t * den)) (apart U t) den 1 s d (omega arith) (farther v b)) (le-of-eq (at-end U s low-U)))
-              (le-trans (le-of-eq (sym (at-end L s e))) (scaled (apart L t) (apart num (t * den)) 1 den s (omega arith) d (nearer v a))),
+              (le-trans (scaled (apart num (t * den)) (apart U t) den 1 s d (omega arith) (omega (arith, apart-mul U t den))) (le-of-eq (at-end U s low-U)))
+              (le-trans (le-of-eq (sym (at-end L s e))) (scaled (apart L t) (apart num (t * den)) 1 den s (omega arith) d (omega (arith, apart-mul L t den)))),
         )
-      where
-        farther : t * den ≤ num → t ≤ U → apart num (t * den) * 1 ≤ apart U t * den
-        farther v x = let e : t + apart U t ≡ U = omega arith in omega (arith, ap (λ (z : ℕ). z * den) e)
-
-        nearer : t * den ≤ num → t ≤ L → apart L t * den ≤ apart num (t * den) * 1
-        nearer v y = let e : t + apart L t ≡ L = omega arith in omega (arith, ap (λ (z : ℕ). z * den) e)
 
     minus-between : ltb num (t * den) ≡ p .minus
     unfolding unitParts
@@ -178,17 +161,13 @@ module _ (K : Context) (ok : Fine K) (L U : ℕ) (le : End K L) (ue : End K U) (
         let s = n + size D in
         let w : 2 ^ E * D * 2 ^ s ≡ 2 ^ (E + s) * D = omega (arith, ap (λ (x : ℕ). x * D) (pow-add 2 E s)) in
         let a : InUnits (2 ^ (E + s) * D) m (A * 2 ^ s) rest-C = subst (λ (x : ℕ). InUnits x m (A * 2 ^ s) rest-C) w (units-finer (2 ^ E * D) (2 ^ s) (pow-pos s) m A rest-C rest-in-units-C) in
-        let g : 2 ^ n * D ≤ 2 * (A * 2 ^ s) = omega (arith, mul-le-mul-left (2 ^ n) (le-of-lt (size-lt D)), pow-add 2 n (size D), mul-le-mul-right (2 ^ s) h) in
+        let g = enough-digits n A D s h (omega arith) in
         let b : InUnits (2 ^ (E + s)) m (l * 2 ^ s) (RN rule n rest-C) = subst (λ (x : ℕ). InUnits (2 ^ (E + s)) m x (RN rule n rest-C)) (low-is s) (RN-in-units-fraction rule n P (E + s) D m (A * 2 ^ s) rest-C (k .some) g a) in
         let c : InUnits (2 ^ (E + s)) m (l * 2 ^ s) (lowPart K L) = subst (λ (x : ℕ). InUnits x m (l * 2 ^ s) (lowPart K L)) (sym (pow-add 2 E s)) (units-finer (2 ^ E) (2 ^ s) (pow-pos s) m l (lowPart K L) (low-in-units K ok L le)) in
         units-same (2 ^ (E + s)) m (l * 2 ^ s) (RN rule n rest-C) (lowPart K L) b c
 
     pub low-everywhere : Same (RN rule n rest-C) (lowPart K L)
-    low-everywhere = go (decLe A 0)
-      where
-        go : Dec (A ≤ 0) → Same (RN rule n rest-C) (lowPart K L)
-        go (yes h) = none-left (omega arith)
-        go (no h) = some-left (lt-of-not-le h)
+    low-everywhere = elim (eq-zero-or-pos A) [ inl h ↦ none-left h | inr h ↦ some-left h ]
 
 -- ---- in one direction: the high part in the end, and the low part under one high part
 module _ (K : Context) (P : 0 < K .n) (a b : ℕ) (ab : a ≤ b) where

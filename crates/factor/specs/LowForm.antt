@@ -2,8 +2,7 @@
 use mathlib.Core.Path.{_≡_, refl, sym, ap, _∙_}
 use mathlib.Core.Bool.{Bool, true, false}
 use Prim.Native.Nat.{ℕ, zero, suc, _+_, _-_, _*_, _/_, _^_, _≤_, _<_}
-use native.Mathlib.Nat.{mul-le-mul-right, mul-le-mul-left, mul-le-mul, mul-pos, mul-div-cancel, mul-lt-mul-of-pos-right, le-refl, le-trans, le-of-eq, lt-of-not-le, pow-succ'}
-use native.Mathlib.Decide.{decLe}
+use native.Mathlib.Nat.{mul-le-mul-right, mul-le-mul-left, mul-pos, mul-div-cancel, mul-lt-mul-of-pos-right, le-trans, le-of-suc-le-suc, le-of-eq, lt-of-not-le, pow-succ'}
 use native.Mathlib.Omega.{arith}
 use lib.IntN.{ℤ, pos, negsuc, negℤ, natAbs}
 use lib.Pow.{pow-add, pow-pos, pow-mono}
@@ -88,30 +87,21 @@ module _ (K : Context) where
     -- s * 2 ^ E = l * 2 ^ (i + 1) bounds i on both sides
     module _ (i : ℕ) (v : r .significand * 1 * 2 ^ E ≡ l * 2 ^ suc i) where
       least : 2 * n ≤ suc (suc i)
-      least = go (decLe (2 * n) (suc (suc i)))
-        where
-          go : Dec (2 * n ≤ suc (suc i)) → 2 * n ≤ suc (suc i)
-          go (yes y) = y
-          go (no y) =
-              let a : 2 ^ suc (suc i) ≤ 2 ^ (n - 1 + n) = pow-mono (omega (arith, lt-of-not-le y)) in
-              let b = mul-le-mul l-most (le-refl (2 ^ suc i)) in
-              let d = mul-le-mul-left W a in
-              absurd (omega (
-                arith,
-                mul-le-mul-right (2 ^ E) (bits .least),
-                ap (λ (z : ℕ). 2 ^ (n - 1) * z) (top-is ok),
-                ap (λ (z : ℕ). W * z) (pow-add 2 (n - 1) n),
-                ap (λ (z : ℕ). W * z) (pow-succ' 2 (suc i)),
-                mul-pos (pow-pos (E - n)) (pow-pos (suc i)),
-              ))
+      least =
+          le-of-suc-le-suc (lt-of-not-le λ (y : suc (suc (suc i)) ≤ 2 * n).
+          omega (
+            arith,
+            mul-le-mul-left W (pow-mono {i = suc (suc i)} {j = n - 1 + n} (omega arith)),
+            mul-le-mul-right (2 ^ suc i) l-most,
+            mul-le-mul-right (2 ^ E) (bits .least),
+            ap (λ (z : ℕ). 2 ^ (n - 1) * z) (top-is ok),
+            ap (λ (z : ℕ). W * z) (pow-add 2 (n - 1) n),
+            ap (λ (z : ℕ). W * z) (pow-succ' 2 (suc i)),
+            mul-pos (pow-pos (E - n)) (pow-pos (suc i)),
+          ))
 
       most : suc i < E + n
-      most = lt-of-not-le (λ (g : E + n ≤ suc i). clash g)
-        where
-          clash : E + n ≤ suc i → ⊥
-          clash g =
-              let a : 2 ^ (E + n) ≤ 2 ^ suc i = pow-mono g in
-              omega (arith, mul-le-mul-right (2 ^ suc i) l-pos, mul-lt-mul-of-pos-right (bits .most) (pow-pos E), pow-add 2 E n)
+      most = lt-of-not-le λ (g : E + n ≤ suc i). omega (arith, pow-mono g, mul-le-mul-right (2 ^ suc i) l-pos, mul-lt-mul-of-pos-right (bits .most) (pow-pos E), pow-add 2 E n)
 
     pub low-form : LowForm l r
     low-form = of (r .exponent) refl
@@ -137,20 +127,18 @@ module _ (K : Context) where
   module _ (ok : Fine K) (h : ℕ) where
     open Fine ok using (some as P, room as F)
 
-    abs-negated : (q : ℕ) → natAbs (negℤ (pos q)) ≡ q
-    abs-negated zero = refl
-    abs-negated (suc q) = refl
-
-    -- s / 2 ^ q, both zero or not
-    telling : (z : ℤ) (l : ℕ) (r : Rounded) → rounded rule n (natAbs z) (2 ^ E) ≡ r → 0 < natAbs z → LowForm l r → Tells h z l (partsFrom K h z)
+    -- a rest that is not zero
+    telling : (z : ℤ) → 0 < natAbs z → natAbs z ≤ 2 ^ (E - n) → Tells h z (rn rule n (natAbs z) 1) (partsFrom K h z)
     unfolding partsFrom
-    telling z l r e m f =
-        let s : natAbs (partsFrom K h z .low) ≡ r .significand = size-of (negative z) _ ∙ ap (λ (q : Rounded). q .significand) e in
-        let q : partsFrom K h z .places ≡ f .places = ap (λ (x : Rounded). natAbs (x .exponent)) e ∙ ap natAbs (f .exponent) ∙ abs-negated (f .places) in
+    telling z m w =
+        let l = rn rule n (natAbs z) 1 in
+        let f = low-form ok (natAbs z) m w in
+        let s = size-of (negative z) (rounded rule n (natAbs z) (2 ^ E) .significand) in
+        let q : partsFrom K h z .places ≡ f .places = ap natAbs (f .exponent) ∙ size-of true (f .places) in
         let v : natAbs (partsFrom K h z .low) * 2 ^ E ≡ l * 2 ^ partsFrom K h z .places = ap (λ (x : ℕ). x * 2 ^ E) s ∙ f .value ∙ ap (λ (x : ℕ). l * 2 ^ x) (sym q) in
         record {
           high = refl;
-          sign = sym (sign-of (negative z) (rounded rule n (natAbs z) (2 ^ E) .significand) (le-trans (pow-pos (n - 1)) (le-trans (f .bits .least) (le-of-eq (ap (λ (x : Rounded). x .significand) (sym e))))));
+          sign = sym (sign-of (negative z) (rounded rule n (natAbs z) (2 ^ E) .significand) (le-trans (pow-pos (n - 1)) (f .bits .least)));
           size = sym (ap (λ (x : ℕ). x / 2 ^ partsFrom K h z .places) v ∙ mul-div-cancel l (pow-pos (partsFrom K h z .places)));
           value = v;
           none = λ y. absurd (omega arith);
@@ -163,5 +151,5 @@ module _ (K : Context) where
         let l : rn rule n 0 1 ≡ 0 = rn-whole-small rule n P 0 (omega arith) in
         let z : 0 * 2 ^ E ≡ 0 = omega arith in
         record { high = refl; sign = refl; size = l ∙ sym (ap (λ (x : ℕ). x / 2 ^ 0) z); value = omega (arith, l); none = λ _. (refl, refl); some = λ y. absurd (omega arith) }
-    from-tells (pos (suc k)) m = telling (pos (suc k)) (rn rule n (suc k) 1) (rounded rule n (suc k) (2 ^ E)) refl (omega arith) (low-form ok (suc k) (omega arith) m)
-    from-tells (negsuc k) m = telling (negsuc k) (rn rule n (suc k) 1) (rounded rule n (suc k) (2 ^ E)) refl (omega arith) (low-form ok (suc k) (omega arith) m)
+    from-tells (pos (suc k)) m = telling (pos (suc k)) (omega arith) m
+    from-tells (negsuc k) m = telling (negsuc k) (omega arith) m

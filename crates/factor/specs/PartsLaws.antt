@@ -125,14 +125,14 @@ module _ (K : Context) (ok : Fine K) (c : ℕ) (ce : End K c) where
   low-in-units = RN-in-units rule n P E (p .minus) (apart c (p .high * G)) (rest K c) rest-in-units
 
   -- ---- the high significand
+  pub high-count : highPart K c .num * 2 ^ (n - 1) ≡ p .high * highPart K c .den
+  high-count =
+      let x = highPart K c in
+      eq-of-mul-eq-mul-right G (pow-pos (E + 1 - n)) (x .num * 2 ^ (n - 1)) (p .high * x .den) (omega (arith, high-in-units .count, ap (λ (z : ℕ). x .num * z) (bottom-is K ok)))
+
   pub high-is : partsAt K c .high ≡ p .high
   unfolding partsAt
-  high-is =
-      let x = highPart K c in
-      let k = high-in-units in
-      let b = bottom-is K ok in
-      let e : x .num * 2 ^ (n - 1) ≡ p .high * x .den = eq-of-mul-eq-mul-right G (pow-pos (E + 1 - n)) (x .num * 2 ^ (n - 1)) (p .high * x .den) (omega (arith, k .count, ap (λ (z : ℕ). x .num * z) b)) in
-      ap (λ (z : ℕ). z / x .den) e ∙ mul-div-cancel (p .high) (k .some)
+  high-is = ap (λ (z : ℕ). z / highPart K c .den) high-count ∙ mul-div-cancel (p .high) (high-in-units .some)
 
   -- ---- the low significand. R is |C - Ch|
   abbrev R : ℕ
@@ -160,9 +160,6 @@ module _ (K : Context) (ok : Fine K) (c : ℕ) (ce : End K c) where
   unfolding unitParts
   rest-size = ap (λ (z : ℕ). rn rule n z 1) (sym (size-of (p .minus) R))
 
-  rest-bound : natAbs (signedOf (p .minus) R) ≤ W
-  rest-bound = rw (size-of (p .minus) R) rest-le
-
   -- no rest is not negative
   sign-is : p .minus ≡ negative (signedOf (p .minus) R)
   unfolding unitParts
@@ -172,21 +169,14 @@ module _ (K : Context) (ok : Fine K) (c : ℕ) (ce : End K c) where
       go true e = let l = ltb-true c (p .high * G) e in sym (sign-of true R (omega arith))
       go false e = refl
 
+  -- s = q = 0 where there is no rest; else |s| has n bits, and the range of q is known
+  pub low-tells : Tells K (p .high) (signedOf (p .minus) R) (rn rule n (natAbs (signedOf (p .minus) R)) 1) s
+  low-tells = rw parts-from (from-tells K ok (p .high) (signedOf (p .minus) R) (rw (size-of (p .minus) R) rest-le))
+
   -- so the parts that are kept tell the whole numbers
   pub units-of-parts : p ≡ unitPartsOf K s
-  units-of-parts =
-      let f = from-tells K ok (p .high) (signedOf (p .minus) R) rest-bound in
-      join p (partsFrom K (p .high) (signedOf (p .minus) R)) (f .high) (sign-is ∙ f .sign) (rest-size ∙ f .size) ∙ ap (unitPartsOf K) (sym parts-from)
-    where
-      join : (x : UnitParts) (y : Parts) → y .high ≡ x .high → x .minus ≡ negative (y .low) → x .low ≡ natAbs (y .low) * 2 ^ E / 2 ^ y .places → x ≡ unitPartsOf K y
-      join x y a b d i = record { high = sym a i; minus = b i; low = d i }
+  units-of-parts i = record { high = sym (low-tells .high) i; minus = (sign-is ∙ low-tells .sign) i; low = (rest-size ∙ low-tells .size) i }
 
   -- s / 2 ^ places is the low part
   pub low-kept : natAbs (s .low) * 2 ^ E ≡ p .low * 2 ^ s .places
-  low-kept =
-      let f = from-tells K ok (p .high) (signedOf (p .minus) R) rest-bound in
-      rw (parts-from, rest-size) (f .value)
-
-  -- s = q = 0 where there is no rest; else |s| has n bits, and the range of q is known
-  pub low-tells : Tells K (p .high) (signedOf (p .minus) R) (rn rule n (natAbs (signedOf (p .minus) R)) 1) s
-  low-tells = rw parts-from (from-tells K ok (p .high) (signedOf (p .minus) R) rest-bound)
+  low-kept = rw rest-size (low-tells .value)

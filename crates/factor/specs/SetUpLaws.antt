@@ -5,6 +5,7 @@ use Prim.Native.Nat.{ℕ, suc, _^_}
 use lib.Dec.{eqb, ltb, leb}
 use lib.IntN.{ℤ, pos, negsuc}
 use lib.Ieee.{binary32, toBits}
+use store.Seg.{eqb-same}
 use borrow.Author.Tests.{ltb-false, leb-false, eqb-true, eq-eqb, not-false}
 use Rattle.marks.specs.Answers.{NoneHolds, Outcome, refused, accepted}
 use Rattle.marks.specs.AnswerLaws.{only-accepted, or-false, and-true}
@@ -111,15 +112,7 @@ accepted-intact d f e =
     subst (λ (h : Factor). intact h ≡ true) t (own (e ∙ ap accepted (sym t)))
   where
     itself : (f : Factor) → sameFactor f f ≡ true
-    itself f =
-        rw (
-          eq-eqb (f .parts .high) (f .parts .high) refl,
-          sameZ-same (f .parts .low),
-          eq-eqb (f .parts .places) (f .parts .places) refl,
-          eq-eqb (toBits binary32 (f .applied .high)) (toBits binary32 (f .applied .high)) refl,
-          eq-eqb (toBits binary32 (f .applied .low)) (toBits binary32 (f .applied .low)) refl,
-          sameZ-same (f .applied .scale),
-        )
+    itself f = simp (eqb-same, sameZ-same)
 
     own : setUp d ≡ accepted (factorOf d) → intact (factorOf d) ≡ true
     own p = unfold intact appliedOf in ap (given (factorOf d)) p ∙ itself (factorOf d)

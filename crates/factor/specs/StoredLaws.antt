@@ -1,9 +1,9 @@
 -- The parts as floats: those that are stored have exactly the values Ch and Cl. Over a format and a context. Assumes nothing.
 use mathlib.Core.Path.{_≡_, refl, sym, ap, _∙_, subst}
 use mathlib.Core.Bool.{Bool, true, false, not}
-use Prim.Native.Nat.{ℕ, _+_, _-_, _*_, _^_, _≤_}
-use native.Mathlib.Nat.{le-of-lt, lt-of-not-le, eq-of-mul-eq-mul-right}
-use native.Mathlib.Decide.{decLe}
+use mathlib.Core.Logic.{inl, inr}
+use Prim.Native.Nat.{ℕ, _-_, _*_, _^_, _<_}
+use native.Mathlib.Nat.{eq-zero-or-pos, le-of-lt, eq-of-mul-eq-mul-right}
 use native.Mathlib.Omega.{arith}
 use lib.Dec.{T}
 use lib.IntN.{ℤ, natAbs}
@@ -14,10 +14,9 @@ use lib.Ieee.Exact.{HasValue}
 use lib.Ieee.Fits.{round-fits}
 use lib.Ieee.Scale.{round-same}
 use Rattle.marks.specs.Answers.{accepted}
-use Rattle.rounding.specs.Apart.{apart}
 use Rattle.rounding.specs.Fraction.{Fraction}
 use Rattle.rounding.specs.Ieee.{revalue}
-use Rattle.rounding.specs.Signed.{negative, signedOf}
+use Rattle.rounding.specs.Signed.{negative}
 use Rattle.floats.specs.Narrow.{stored-exactly}
 use Rattle.floats.specs.Numbers.{value-number, same-number, same-bits}
 use Rattle.factor.specs.declared.Parts.{Parts}
@@ -27,12 +26,11 @@ use Rattle.factor.specs.Precision.{ValidPrecision}
 use Rattle.factor.specs.Context.{Context, Fine, contextAt, contextFor, contextOf, lowerOf}
 use Rattle.factor.specs.ContextLaws.{fine-at}
 use Rattle.factor.specs.Parts.{highPart, lowPart, partsAt}
-use Rattle.factor.specs.UnitParts.{unitParts, step}
 use Rattle.factor.specs.Ends.{End}
 use Rattle.factor.specs.LowForm.{Tells}
-use Rattle.factor.specs.PartsLaws.{bottom-is, high-in-units, high-is, high-least, high-most, low-in-units, low-kept, low-tells, units-of-parts}
+use Rattle.factor.specs.PartsLaws.{high-in-units, high-count, high-is, high-least, high-most, low-in-units, low-kept, low-tells, units-of-parts}
 use Rattle.factor.specs.SetUp.{floatIn, appliedOf, factorOf, setUp, described, intact, Sound}
-use Rattle.factor.specs.Stored.{highFrom, lowFrom, appliedFrom, Storable, Held}
+use Rattle.factor.specs.Stored.{highFrom, lowFrom, appliedFrom, LowStorable, Storable, Held}
 use Rattle.factor.specs.SetUpLaws.{setUp-sound, intact-accepted, intact-sound}
 
 module _ (K : Context) (ok : Fine K) (c : ℕ) (ce : End K c) where
@@ -43,12 +41,7 @@ module _ (K : Context) (ok : Fine K) (c : ℕ) (ce : End K c) where
 
   -- Ch is the high significand over 2 ^ (n - 1)
   pub high-over : highPart K c .num * 2 ^ (n - 1) ≡ p .high * highPart K c .den
-  high-over =
-      let x = highPart K c in
-      let k = high-in-units K ok c ce in
-      let b = bottom-is K ok in
-      eq-of-mul-eq-mul-right (step K) (pow-pos (E + 1 - n)) (x .num * 2 ^ (n - 1)) (p .high * x .den)
-      (omega (arith, k .count, ap (λ (z : ℕ). x .num * z) b, ap (λ (z : ℕ). z * step K * x .den) (high-is K ok c ce)))
+  high-over = high-count K ok c ce ∙ ap (λ (z : ℕ). z * highPart K c .den) (sym (high-is K ok c ce))
 
   -- Cl is s over 2 ^ places
   pub low-over : lowPart K c .num * 2 ^ p .places ≡ natAbs (p .low) * lowPart K c .den
@@ -62,27 +55,17 @@ module _ (K : Context) (ok : Fine K) (c : ℕ) (ce : End K c) where
   low-sign = low-in-units K ok c ce .sign ∙ ap (λ w. w .minus) (units-of-parts K ok c ce)
 
   pub storable : Storable K p
-  storable =
-      let t = low-tells K ok c ce in
-      let z = natAbs (signedOf (unitParts K c .minus) (apart c (unitParts K c .high * step K))) in
-      let h = high-is K ok c ce in
-      go (decLe z 0) t h
+  storable = let h = high-is K ok c ce in record { least = rw h (high-least K ok c ce); most = rw h (high-most K ok c ce); low = low (low-tells K ok c ce) }
     where
-      go : {h l : ℕ} {z : ℤ} → Dec (natAbs z ≤ 0) → Tells K h z l p → p .high ≡ unitParts K c .high → Storable K p
-      go (yes y) t h =
-          let e = t .none (omega arith) in
-          record {
-            least = rw h (high-least K ok c ce);
-            most = rw h (high-most K ok c ce);
-            low = record { none = λ _. e; some = λ m. absurd (omega (arith, ap natAbs (e .0))); deep = λ m. absurd (omega (arith, ap natAbs (e .0))); shallow = omega (arith, e .1) };
-          }
-      go (no y) t h =
-          let b = t .some (lt-of-not-le y) in
-          record {
-            least = rw h (high-least K ok c ce);
-            most = rw h (high-most K ok c ce);
-            low = record { none = λ e. absurd (omega (arith, b .0 .least, pow-pos (n - 1))); some = λ _. b .0; deep = λ _. omega (arith, b .1); shallow = b .2 };
-          }
+      low : {h l : ℕ} {z : ℤ} → Tells K h z l p → LowStorable K (p .low) (p .places)
+      low {z = z} t = elim (eq-zero-or-pos (natAbs z)) [
+        | inl y ↦
+            let e = t .none y in
+            record { none = λ _. e; some = λ m. absurd (omega (arith, ap natAbs (e .0))); deep = λ m. absurd (omega (arith, ap natAbs (e .0))); shallow = omega (arith, e .1) }
+        | inr y ↦
+            let b = t .some y in
+            record { none = λ e. absurd (omega (arith, b .0 .least, pow-pos (n - 1))); some = λ _. b .0; deep = λ _. omega (arith, b .1); shallow = b .2 }
+      ]
 
 pub valid-held : {n : ℕ} → ValidPrecision n → Held binary32 (contextAt n)
 valid-held N = record { short = N .most; near = omega (arith, N .scale) }
@@ -96,15 +79,20 @@ module _ (f : Format) (K : Context) (ok : Fine K) (held : Held f K) where
     high-held = stored-exactly f n (ok .some) (held .short) false (p .high) (2 ^ (n - 1)) (p .high) (n - 1) (pow-pos (n - 1)) (st .most) (omega arith) (omega (arith, held .near)) refl
 
     pub low-held : HasValue (lowFrom f p) (negative (p .low)) (natAbs (p .low)) (2 ^ p .places)
-    low-held = go (decLe (natAbs (p .low)) 0)
-      where
-        go : Dec (natAbs (p .low) ≤ 0) → HasValue (lowFrom f p) (negative (p .low)) (natAbs (p .low)) (2 ^ p .places)
-        go (yes y) =
-            let none : natAbs (p .low) ≡ 0 = omega arith in
-            stored-exactly f n (ok .some) (held .short) (negative (p .low)) (natAbs (p .low)) (2 ^ p .places) 0 n (pow-pos (p .places)) (omega arith) (omega arith) (omega (arith, ok .some, ok .room, held .near)) (omega (arith, ap (λ (m : ℕ). m * 2 ^ n) none))
-        go (no y) =
-            let some = lt-of-not-le y in
-            stored-exactly f n (ok .some) (held .short) (negative (p .low)) (natAbs (p .low)) (2 ^ p .places) (natAbs (p .low)) (p .places) (pow-pos (p .places)) (le-of-lt (st .low .some some .most)) (st .low .deep some) (omega (arith, st .low .shallow, held .near)) refl
+    low-held = elim (eq-zero-or-pos (natAbs (p .low))) [
+      | inl none ↦
+          stored-exactly f n (ok .some) (held .short) (negative (p .low)) (natAbs (p .low)) (2 ^ p .places) 0 n (pow-pos (p .places)) (omega arith) (omega arith) (omega (arith, ok .some, ok .room, held .near)) (omega (arith, ap (λ (m : ℕ). m * 2 ^ n) none))
+      | inr some ↦
+          stored-exactly f n (ok .some) (held .short) (negative (p .low)) (natAbs (p .low)) (2 ^ p .places) (natAbs (p .low)) (p .places) (pow-pos (p .places)) (le-of-lt (st .low .some some .most)) (st .low .deep some) (omega (arith, st .low .shallow, held .near)) refl
+    ]
+
+  -- the float of a fraction that is m / 2 ^ q, and its value where m / 2 ^ q is stored exactly
+  module _ (x : Fraction) (s : Bool) (m q : ℕ) (some : 0 < x .den) (sign : x .minus ≡ s) (same : x .num * 2 ^ q ≡ m * x .den) where
+    float-over : floatIn f x ≡ Ieee.round f s m (2 ^ q)
+    float-over = ap (λ (b : Bool). Ieee.round f b (x .num) (x .den)) sign ∙ round-same f s (x .num) (x .den) m (2 ^ q) some (pow-pos q) same
+
+    value-over : HasValue (Ieee.round f s m (2 ^ q)) s m (2 ^ q) → HasValue (floatIn f x) (x .minus) (x .num) (x .den)
+    value-over v = rw (float-over, sign) (revalue (Ieee.round f s m (2 ^ q)) s m (2 ^ q) (x .num) (x .den) (pow-pos q) (sym same) v)
 
   -- and are those of Ch and Cl, with exactly their values
   module _ (c : ℕ) (ce : End K c) where
@@ -115,28 +103,21 @@ module _ (f : Format) (K : Context) (ok : Fine K) (held : Held f K) where
     l = lowPart K c
 
     pub high-from : floatIn f h ≡ highFrom f n (partsAt K c)
-    high-from =
-        let k = high-in-units K ok c ce in
-        ap (λ (b : Bool). Ieee.round f b (h .num) (h .den)) (k .sign) ∙ round-same f false (h .num) (h .den) (partsAt K c .high) (2 ^ (n - 1)) (k .some) (pow-pos (n - 1)) (high-over K ok c ce)
+    high-from = let k = high-in-units K ok c ce in float-over h false (partsAt K c .high) (n - 1) (k .some) (k .sign) (high-over K ok c ce)
 
     pub low-from : floatIn f l ≡ lowFrom f (partsAt K c)
-    low-from =
-        let p = partsAt K c in
-        ap (λ (b : Bool). Ieee.round f b (l .num) (l .den)) (low-sign K ok c ce)
-        ∙ round-same f (negative (p .low)) (l .num) (l .den) (natAbs (p .low)) (2 ^ p .places) (low-in-units K ok c ce .some) (pow-pos (p .places)) (low-over K ok c ce)
+    low-from = let p = partsAt K c in float-over l (negative (p .low)) (natAbs (p .low)) (p .places) (low-in-units K ok c ce .some) (low-sign K ok c ce) (low-over K ok c ce)
 
     pub stored-high : HasValue (floatIn f h) false (h .num) (h .den)
     stored-high =
         let p = partsAt K c in
-        subst (λ (x : Float). HasValue x false (h .num) (h .den)) (sym high-from)
-        (revalue (highFrom f n p) false (p .high) (2 ^ (n - 1)) (h .num) (h .den) (pow-pos (n - 1)) (sym (high-over K ok c ce)) (high-held p (storable K ok c ce)))
+        let k = high-in-units K ok c ce in
+        rw (k .sign) at (value-over h false (p .high) (n - 1) (k .some) (k .sign) (high-over K ok c ce) (high-held p (storable K ok c ce)))
 
     pub stored-low : HasValue (floatIn f l) (l .minus) (l .num) (l .den)
     stored-low =
         let p = partsAt K c in
-        subst (λ (b : Bool). HasValue (floatIn f l) b (l .num) (l .den)) (sym (low-sign K ok c ce))
-        (subst (λ (x : Float). HasValue x (negative (p .low)) (l .num) (l .den)) (sym low-from)
-        (revalue (lowFrom f p) (negative (p .low)) (natAbs (p .low)) (2 ^ p .places) (l .num) (l .den) (pow-pos (p .places)) (sym (low-over K ok c ce)) (low-held p (storable K ok c ce))))
+        value-over l (negative (p .low)) (natAbs (p .low)) (p .places) (low-in-units K ok c ce .some) (low-sign K ok c ce) (low-over K ok c ce) (low-held p (storable K ok c ce))
 
 -- ---- what set-up stores
 pub applied-from : (d : Description) → ValidPrecision (d .precision) → End (contextFor d) (d .lower) → appliedOf d ≡ appliedFrom (d .precision) (d .scale) (partsAt (contextFor d) (d .lower))

@@ -33,10 +33,7 @@ module _ (f : Format) (n : ℕ) (P : 0 < n) (N : n ≤ prec f) where
   in-units m q h =
       let j = emax f + n - 2 - q in
       let w : 2 ^ low f ≡ 2 ^ (prec f - n) * (2 ^ j * 2 ^ q) = ap (λ (z : ℕ). 2 ^ z) (omega (arith, two f, reach f)) ∙ pow-add 2 (prec f - n) (j + q) ∙ ap (λ (z : ℕ). 2 ^ (prec f - n) * z) (pow-add 2 j q) in
-      ap (λ (z : ℕ). m * z) w ∙ regroup m (2 ^ (prec f - n)) (2 ^ j) (2 ^ q)
-    where
-      regroup : (a b c d : ℕ) → a * (b * (c * d)) ≡ a * b * c * d
-      regroup a b c d = omega arith
+      omega (arith, ap (λ (z : ℕ). m * z) w)
 
   -- a fraction of this value is stored exactly
   pub stored-exactly : (s : Bool) (a c m q : ℕ) → 0 < c → m ≤ 2 ^ n → n ≤ suc q → q ≤ emax f + n - 2 → a * 2 ^ q ≡ m * c → HasValue (Ieee.round f s a c) s a c
@@ -44,11 +41,8 @@ module _ (f : Format) (n : ℕ) (P : 0 < n) (N : n ≤ prec f) where
       let j = emax f + n - 2 - q in
       let under : prec f + j < low f + suc (emax f) = omega (arith, two f, reach f) in
       round-itself f s a c (moved m) j C (moved-most m small)
-      (eq-of-mul-eq-mul-right (2 ^ q) (pow-pos q) (a * 2 ^ low f) (moved m * 2 ^ j * c) (regroup a c m (2 ^ q) (2 ^ low f) (moved m * 2 ^ j) e (in-units m q hi)))
+      (eq-of-mul-eq-mul-right (2 ^ q) (pow-pos q) (a * 2 ^ low f) (moved m * 2 ^ j * c) (omega (arith, ap (λ (z : ℕ). z * 2 ^ low f) e, ap (λ (z : ℕ). z * c) (in-units m q hi))))
       (lt-of-le-of-lt (le-trans (mul-le-mul-right (2 ^ j) (moved-most m small)) (le-of-eq (sym (pow-add 2 (prec f) j)))) (pow-lt under))
-    where
-      regroup : (a c m Q T M : ℕ) → a * Q ≡ m * c → m * T ≡ M * Q → a * T * Q ≡ M * c * Q
-      regroup a c m Q T M x y = omega (arith, ap (λ (z : ℕ). z * T) x, ap (λ (z : ℕ). z * c) y)
 
 -- ---- and it is the float of its significand moved up
 module _ (f : Format) (n m q : ℕ) (h : Narrow f n m q) where

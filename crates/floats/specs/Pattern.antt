@@ -3,10 +3,10 @@ use mathlib.Core.Path.{_≡_, refl, sym, ap, _∙_, subst}
 use mathlib.Core.Bool.{Bool, true, false, not}
 use mathlib.Core.Logic.{_⊎_, inl, inr}
 use Prim.Native.Nat.{ℕ, suc, _+_, _-_, _*_, _/_, _%_, _^_, _≤_, _<_}
-use native.Mathlib.Nat.{zero-lt-suc, mod-lt, div-lt-iff-lt-mul, mul-pos, eq-or-lt-of-le, pow-succ', lt-of-le-of-lt, lt-of-lt-of-le, lt-of-mul-lt-mul-right, mul-lt-mul-of-pos-right, mul-comm, mod-eq-of-lt}
+use native.Mathlib.Nat.{le-refl, mul-le-mul-right, zero-lt-suc, mod-lt, div-lt-iff-lt-mul, mul-pos, eq-or-lt-of-le, pow-succ', lt-of-le-of-lt, lt-of-lt-of-le, lt-of-mul-lt-mul-right, mul-lt-mul-of-pos-right, mul-comm}
 use native.Mathlib.Omega.{arith}
 use lib.Arith.{mod-mul, digits-lt, digits-div, digits-mod}
-use lib.Dec.{T}
+use lib.Dec.{T, lit≤}
 use lib.Pow.{pow-add, pow-pos, pow-mono}
 use lib.Ieee
 use lib.Ieee.{Format, prec, low, hid, ones, top, ofFields, ofBits, toBits, nanBits}
@@ -53,12 +53,13 @@ module _ (f : Format) (s : Bool) (F t : ℕ) (some : t < hid f) (few : F ≤ one
   below-top : F * hid f + t < top f
   below-top = subst (λ (z : ℕ). F * hid f + t < z) (mul-comm (suc (ones f)) (hid f)) (digits-lt (omega arith) some)
 
+  -- 1 or 0 times the sign's digit above them
+  above : (s : Bool) → (j : ℕ) × (j ≤ 1) × (signAbove f s (F * hid f + t) ≡ j * top f + (F * hid f + t))
+  above true = (1, le-refl 1, omega arith)
+  above false = (0, lit≤ tt, omega arith)
+
   below : b < 2 * top f
-  below = go s
-    where
-      go : (s : Bool) → signAbove f s (F * hid f + t) < 2 * top f
-      go true = omega (arith, below-top)
-      go false = omega (arith, below-top)
+  below = omega (arith, above s .2, mul-le-mul-right (top f) (above s .1), below-top)
 
   sign-is : signOf f b ≡ s
   sign-is = go s
@@ -68,24 +69,13 @@ module _ (f : Format) (s : Bool) (F t : ℕ) (some : t < hid f) (few : F ≤ one
       go false = lt-leb (top f) (F * hid f + t) below-top
 
   field-is : biasedExponent f b ≡ F
-  field-is = ap (λ (z : ℕ). z / hid f) (go s) ∙ digits-div F some
-    where
-      one : (a c : ℕ) → a + c ≡ 1 * a + c
-      one a c = omega arith
-
-      go : (s : Bool) → signAbove f s (F * hid f + t) % top f ≡ F * hid f + t
-      go true = ap (λ (z : ℕ). z % top f) (one (top f) (F * hid f + t)) ∙ digits-mod 1 below-top
-      go false = mod-eq-of-lt below-top
+  field-is = ap (λ (z : ℕ). z / hid f) (ap (λ (z : ℕ). z % top f) (above s .2) ∙ digits-mod (above s .0) below-top) ∙ digits-div F some
 
   digits-is : trailingSignificand f b ≡ t
-  digits-is = go s
-    where
-      joined : (h o F t : ℕ) → h * o + (F * h + t) ≡ (o + F) * h + t
-      joined h o F t = omega arith
-
-      go : (s : Bool) → trailingSignificand f (signAbove f s (F * hid f + t)) ≡ t
-      go true = ap (λ (z : ℕ). z % hid f) (joined (hid f) (suc (ones f)) F t) ∙ digits-mod (suc (ones f) + F) some
-      go false = digits-mod F some
+  digits-is =
+      let j = above s .0 in
+      let joined : j * top f + (F * hid f + t) ≡ (j * suc (ones f) + F) * hid f + t = omega arith in
+      ap (λ (z : ℕ). z % hid f) (above s .2 ∙ joined) ∙ digits-mod (j * suc (ones f) + F) some
 
 -- ---- the pattern of a sign, an exponent k and a significand m is k * hid + m below the sign
 module _ (f : Format) (s : Bool) (k m : ℕ) (n : Normalized f k m) where

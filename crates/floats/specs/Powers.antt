@@ -55,14 +55,12 @@ powers-add e k =
 pub in-smallest : (f : Format) (S B : ℕ) (z : ℤ) (j : ℕ) → z +ℤ pos (B + (emax f - 1)) ≡ pos j → S * 2 ^ B * up z * 2 ^ low f ≡ S * 2 ^ j * (hid f * down z)
 in-smallest f S B z j e =
     let one : 2 ^ low f ≡ 2 ^ (emax f - 1) * hid f = ap (λ (y : ℕ). 2 ^ y) (omega (arith, two f, reach f)) ∙ pow-add 2 (emax f - 1) (prec f - 1) in
-    regroup S (2 ^ B) (up z) (2 ^ (emax f - 1)) (hid f) (2 ^ low f) (2 ^ j) (down z) (2 ^ (B + (emax f - 1))) one (pow-add 2 B (emax f - 1)) (up-down z (B + (emax f - 1)) j e)
-  where
-    regroup : (S B u A D T J d P : ℕ) → T ≡ A * D → P ≡ B * A → u * P ≡ J * d → S * B * u * T ≡ S * J * (D * d)
-    regroup S B u A D T J d P t q e =
-        let x : S * B * u * T ≡ S * B * u * (A * D) = ap (λ (z : ℕ). S * B * u * z) t in
-        let y : u * P * (S * D) ≡ u * (B * A) * (S * D) = ap (λ (z : ℕ). u * z * (S * D)) q in
-        let z : u * P * (S * D) ≡ J * d * (S * D) = ap (λ (z : ℕ). z * (S * D)) e in
-        omega (arith, x, y, z)
+    omega (
+      arith,
+      ap (λ (y : ℕ). S * 2 ^ B * up z * y) one,
+      ap (λ (y : ℕ). up z * y * (S * hid f)) (pow-add 2 B (emax f - 1)),
+      ap (λ (y : ℕ). y * (S * hid f)) (up-down z (B + (emax f - 1)) j e),
+    )
 
 -- a format has exponents below zero
 pub emax-two : (f : Format) → 2 ≤ emax f

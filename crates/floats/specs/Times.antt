@@ -3,7 +3,7 @@ use mathlib.Core.Path.{_≡_, refl, sym, ap, ap₂, _∙_, subst}
 use mathlib.Core.Bool.{Bool, true, false, cond}
 use mathlib.Core.Logic.{_⊎_, inl, inr}
 use Prim.Native.Nat.{ℕ, zero, suc, _+_, _-_, _*_, _/_, _%_, _^_, _≤_, _<_}
-use native.Mathlib.Nat.{mul-assoc, zero-div, mul-pos, mul-le-mul, mul-le-mul-right, mul-lt-mul-of-pos-right, mul-mul-mul-comm, eq-of-mul-eq-mul-right, le-trans, le-of-eq, pow-succ', lt-of-not-le, lt-of-lt-of-le, le-of-suc-le-suc, mod-lt}
+use native.Mathlib.Nat.{eq-zero-or-pos, mul-assoc, zero-div, mul-pos, mul-le-mul, mul-lt-mul-of-pos-right, mul-mul-mul-comm, eq-of-mul-eq-mul-right, le-trans, le-of-eq, pow-succ', lt-of-not-le, lt-of-lt-of-le, le-of-suc-le-suc, mod-lt}
 use native.Mathlib.Omega.{arith}
 use lib.Dec.{eqb, lit<}
 use lib.Pow.{pow-add, pow-pos, pow-mono, shl-lt, shl-exact}
@@ -16,7 +16,7 @@ use borrow.Author.Tests.{eq-eqb, ne-eqb, eqb-true, eqb-false}
 use Rattle.rounding.specs.Grid.{toEven}
 use Rattle.rounding.specs.Unit.{rn}
 use Rattle.rounding.specs.UnitLaws.{rn-same, rn-scale-whole, rn-ge, rn-whole-small}
-use Rattle.rounding.specs.Ieee.{round-value, rn-grid}
+use Rattle.rounding.specs.Ieee.{one-value, round-value, rn-grid}
 use Rattle.floats.specs.Fields.{signOf, biasedExponent, trailingSignificand, significandOf, unitsOf, unitAt, WholeInUnits}
 use Rattle.floats.specs.Pattern.{digits-some, two-hid, bits-split, biased-most, fields-value, significand-bits}
 
@@ -32,11 +32,9 @@ mul-value f (fin u m e) (fin v n g) s t a c b d C D h k =
     ∙ round-same f (unlike s t) (m * up e * (n * up g)) (down e * down g) (a * b) (c * d) (mul-pos (down-pos e) (down-pos g)) (mul-pos C D)
     (mul-mul-mul-comm (m * up e) (n * up g) c d ∙ ap₂ (λ (p q : ℕ). p * q) (h .1) (k .1) ∙ mul-mul-mul-comm a (down e) b (down g))
 
--- a value is one number
-one-value : (x : Float) (s t : Bool) (a b c : ℕ) → HasValue x s a c → HasValue x t b c → a ≡ b
-one-value nan s t a b c h k = absurd h
-one-value (inf u) s t a b c h k = absurd h
-one-value (fin u m e) s t a b c h k = eq-of-mul-eq-mul-right (down e) (down-pos e) a b (sym (h .1) ∙ k .1)
+-- a value is one number of units
+one-count : (f : Format) (x : Float) (s t : Bool) (a b : ℕ) → HasValue x s a (2 ^ low f) → HasValue x t b (2 ^ low f) → a ≡ b
+one-count f x s t a b h k = eq-of-mul-eq-mul-right (2 ^ low f) (pow-pos (low f)) a b (one-value x s t a (2 ^ low f) b (2 ^ low f) h k .1)
 
 pub unlike-plus : (s : Bool) → unlike s false ≡ s
 unlike-plus true = refl
@@ -63,14 +61,8 @@ module _ (f : Format) (E : ℕ) (near : E < emax f) (m q l X : ℕ) (same : m * 
       let C : 0 < c = mul-pos (pow-pos q) (pow-pos (prec f - 1)) in
       let t : 2 ^ low f ≡ 2 ^ E * hid f * 2 ^ d = unit-is f E near ∙ ap (λ (z : ℕ). z * 2 ^ d) (pow-add 2 E (prec f - 1)) in
       sym (rn-grid f (m * X) c C)
-      ∙ rn-same toEven (prec f) P (m * X * 2 ^ low f) c (l * X * 2 ^ d) 1 C (lit< tt) (regroup m X (2 ^ E) l (2 ^ q) (2 ^ d) (hid f) (2 ^ low f) t same)
+      ∙ rn-same toEven (prec f) P (m * X * 2 ^ low f) c (l * X * 2 ^ d) 1 C (lit< tt) (omega (arith, ap (λ (z : ℕ). m * X * z) t, ap (λ (z : ℕ). z * (X * hid f * 2 ^ d)) same))
       ∙ rn-scale-whole toEven (prec f) P (l * X) d
-    where
-      regroup : (m X E l Q B D T : ℕ) → T ≡ E * D * B → m * E ≡ l * Q → m * X * T * 1 ≡ l * X * B * (Q * D)
-      regroup m X E l Q B D T t e =
-          let x : m * X * T ≡ m * X * (E * D * B) = ap (λ (z : ℕ). m * X * z) t in
-          let y : m * E * (X * D * B) ≡ l * Q * (X * D * B) = ap (λ (z : ℕ). z * (X * D * B)) e in
-          omega (arith, x, y)
 
   -- one multiplication is u of the unit
   pub product-value : u < 2 ^ E → (x y : Float) (s : Bool) → HasValue x s m (2 ^ q) → HasValue y false X (hid f) → HasValue (mul f x y) s (u * 2 ^ d) (2 ^ low f)
@@ -83,19 +75,12 @@ module _ (f : Format) (E : ℕ) (near : E < emax f) (m q l X : ℕ) (same : m * 
 
   -- it is zero, or at least 2 ^ - E
   pub product-least : hid f ≤ X → (u ≡ 0) ⊎ (hid f ≤ u)
-  product-least h = go l refl
-    where
-      nothing : (X : ℕ) → 0 * X ≡ 0
-      nothing X = omega arith
-
-      at-least : (H k X : ℕ) → H ≤ X → H * 2 ^ 0 * 1 ≤ suc k * X
-      at-least H k X h = let one : 1 ≤ suc k = omega arith in omega (arith, mul-le-mul-right X one)
-
-      go : (k : ℕ) → l ≡ k → (u ≡ 0) ⊎ (hid f ≤ u)
-      go zero e = inl (ap (λ (z : ℕ). rn toEven (prec f) (z * X) 1) e ∙ ap (λ (z : ℕ). rn toEven (prec f) z 1) (nothing X) ∙ rn-whole-small toEven (prec f) P 0 (omega arith))
-      go (suc k) e =
-          let a : hid f * 2 ^ 0 ≤ u = rn-ge toEven (prec f) P (l * X) 1 (hid f) 0 (lit< tt) (omega (arith, two-hid f)) (subst (λ (z : ℕ). hid f * 2 ^ 0 * 1 ≤ z * X) (sym e) (at-least (hid f) k X h)) in
-          inr (omega arith)
+  product-least h = elim (eq-zero-or-pos l) [
+    | inl e ↦
+        let none : l * X ≡ 0 = ap (λ (z : ℕ). z * X) e ∙ omega arith in
+        inl (ap (λ (z : ℕ). rn toEven (prec f) z 1) none ∙ rn-whole-small toEven (prec f) P 0 (omega arith))
+    | inr p ↦ inr (omega (arith, rn-ge toEven (prec f) P (l * X) 1 (hid f) 0 (lit< tt) (omega (arith, two-hid f)) (omega (arith, mul-le-mul p h))))
+  ]
 
 -- ---- the bits of a float of u units, u zero or at least hid, tell u
 pub record Told (f : Format) (w d b u : ℕ) : Type 0 where
@@ -116,25 +101,20 @@ module _ (f : Format) (w d : ℕ) (room : prec f ≤ suc (w + d)) (b u : ℕ) (s
   told-zero : biasedExponent f b ≡ 0 → HasValue (ofFields f (signOf f b) 0 t) sg (u * 2 ^ d) (2 ^ low f) → Told f w d b u
   unfolding ofFields
   told-zero e h =
-      let k : t * 2 ^ 0 ≡ u * 2 ^ d = one-value (odd (prec f) (signOf f b) t 0 (low f)) (signOf f b) sg (t * 2 ^ 0) (u * 2 ^ d) (2 ^ low f) (odd-sign (prec f) (signOf f b) t 0 (low f)) h in
-      let none : u ≡ 0 = none-of least k in
+      let k : t * 2 ^ 0 ≡ u * 2 ^ d = one-count f (odd (prec f) (signOf f b) t 0 (low f)) (signOf f b) sg (t * 2 ^ 0) (u * 2 ^ d) (odd-sign (prec f) (signOf f b) t 0 (low f)) h in
+      let none : u ≡ 0 = elim least [ inl z ↦ z | inr l ↦ absurd (omega (arith, k, short, mul-le-mul l (pow-pos d))) ] in
       let nothing : u * 2 ^ d ≡ 0 = ap (λ (z : ℕ). z * 2 ^ d) none ∙ omega arith in
       let all : b % top f ≡ 0 = bits-split f b ∙ omega (arith, k, nothing, ap (λ (z : ℕ). z * hid f) e) in
       record { fits = record { finite = omega (arith, e); from = λ p. absurd (omega arith); to = omega (arith, room) }; units = rw (eq-eqb (b % top f) 0 all) (sym none) }
-    where
-      none-of : (u ≡ 0) ⊎ (hid f ≤ u) → t * 2 ^ 0 ≡ u * 2 ^ d → u ≡ 0
-      none-of (inl z) k = z
-      none-of (inr l) k = absurd (omega (arith, k, short, mul-le-mul l (pow-pos d)))
 
   told-some : (k : ℕ) → biasedExponent f b ≡ suc k → ¬ (suc k ≡ ones f) → (hid f + t) * 2 ^ k ≡ u * 2 ^ d → Told f w d b u
   told-some k e o g = record { fits = record { finite = omega (arith, e, o, biased-most f b); from = λ p. le-trans (omega (arith, reached)) (le-of-eq (sym e)); to = omega (arith, e, few) }; units = rw (ne-eqb (b % top f) 0 not-zero) units }
     where
       some : hid f ≤ u
-      some = go least
-        where
-          go : (u ≡ 0) ⊎ (hid f ≤ u) → hid f ≤ u
-          go (inl z) = absurd (omega (arith, g, ap (λ (z : ℕ). z * 2 ^ d) z, H, mul-pos {m = hid f + t} {n = 2 ^ k} (omega (arith, H)) (pow-pos k)))
-          go (inr l) = l
+      some = elim least [
+        | inl z ↦ absurd (omega (arith, g, ap (λ (z : ℕ). z * 2 ^ d) z, H, mul-pos {m = hid f + t} {n = 2 ^ k} (omega (arith, H)) (pow-pos k)))
+        | inr l ↦ l
+      ]
 
       reached : d ≤ k
       reached =
@@ -168,15 +148,15 @@ module _ (f : Format) (w d : ℕ) (room : prec f ≤ suc (w + d)) (b u : ℕ) (s
 
       go : (c : Bool) → eqb (suc k) (ones f) ≡ c → HasValue (cond c (cond (eqb t 0) (inf (signOf f b)) nan) (odd (prec f) (signOf f b) (hid f + t) k (low f))) sg (u * 2 ^ d) (2 ^ low f) → Told f w d b u
       go true o x = no-value (eqb t 0) x
-      go false o x = told-some k e (eqb-false (suc k) (ones f) o) (one-value (odd (prec f) (signOf f b) (hid f + t) k (low f)) (signOf f b) sg ((hid f + t) * 2 ^ k) (u * 2 ^ d) (2 ^ low f) (odd-sign (prec f) (signOf f b) (hid f + t) k (low f)) x)
+      go false o x = told-some k e (eqb-false (suc k) (ones f) o) (one-count f (odd (prec f) (signOf f b) (hid f + t) k (low f)) (signOf f b) sg ((hid f + t) * 2 ^ k) (u * 2 ^ d) (odd-sign (prec f) (signOf f b) (hid f + t) k (low f)) x)
 
   pub told : Told f w d b u
   unfolding ofBits
   told = go (biasedExponent f b) refl v
     where
       go : (F : ℕ) → biasedExponent f b ≡ F → HasValue (ofFields f (signOf f b) (biasedExponent f b) t) sg (u * 2 ^ d) (2 ^ low f) → Told f w d b u
-      go zero e h = told-zero e (subst (λ (z : ℕ). HasValue (ofFields f (signOf f b) z t) sg (u * 2 ^ d) (2 ^ low f)) e h)
-      go (suc k) e h = told-field k e (subst (λ (z : ℕ). HasValue (ofFields f (signOf f b) z t) sg (u * 2 ^ d) (2 ^ low f)) e h)
+      go zero e h = told-zero e (rw e at h)
+      go (suc k) e h = told-field k e (rw e at h)
 
 -- ---- as code counts the units: none, or a shift of the significand that loses nothing in w bits
 pub units-none : (f : Format) (d b : ℕ) → b % top f ≡ 0 → unitsOf f d b ≡ 0
@@ -197,15 +177,13 @@ pub units-value : (f : Format) (w d b : ℕ) → WholeInUnits f w d b → HasVal
 unfolding ofBits ofFields
 units-value f w d b i = go (eqb (b % top f) 0) refl
   where
-    nothing : (k : ℕ) → 0 * 2 ^ k ≡ 0
-    nothing k = omega arith
-
     go : (z : Bool) → eqb (b % top f) 0 ≡ z → HasValue (ofBits f b) (signOf f b) (cond z 0 (significandOf f b * 2 ^ (biasedExponent f b - suc d)) * 2 ^ d) (2 ^ low f)
     go true e =
         let none = eqb-true (b % top f) 0 e in
         let field : biasedExponent f b ≡ 0 = ap (λ (z : ℕ). z / hid f) none ∙ zero-div (hid f) in
         let digits : trailingSignificand f b ≡ 0 = omega (arith, bits-split f b, none) in
-        rw (field, digits) (subst (λ (z : ℕ). HasValue (odd (prec f) (signOf f b) 0 0 (low f)) (signOf f b) z (2 ^ low f)) (nothing 0 ∙ sym (nothing d)) (odd-sign (prec f) (signOf f b) 0 0 (low f)))
+        let nothing : 0 * 2 ^ 0 ≡ 0 * 2 ^ d = omega arith in
+        rw (field, digits) (subst (λ (z : ℕ). HasValue (odd (prec f) (signOf f b) 0 0 (low f)) (signOf f b) z (2 ^ low f)) nothing (odd-sign (prec f) (signOf f b) 0 0 (low f)))
     go false e =
         let m = significandOf f b in
         let k = biasedExponent f b - 1 in

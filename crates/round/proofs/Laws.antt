@@ -2,7 +2,7 @@
 use mathlib.Core.Path.{_≡_, refl, sym, ap, _∙_}
 use mathlib.Core.Bool.{Bool, true, false, cond, true≢false}
 use Prim.Native.Nat.{ℕ, zero, suc, _+_, _-_, _*_, _/_, _^_, _≤_, _<_, zero-le}
-use native.Mathlib.Nat.{not-suc-le-zero, lt-of-not-le, lt-of-lt-of-le, le-of-eq, mul-le-mul-right, div-lt-iff-lt-mul, mul-comm, le-trans, mul-le-mul-left, div-mul-le-self}
+use native.Mathlib.Nat.{pos-of-ne-zero, not-suc-le-zero, lt-of-not-le, lt-of-lt-of-le, le-of-eq, mul-le-mul-right, div-lt-iff-lt-mul, mul-comm, le-trans, mul-le-mul-left, div-mul-le-self}
 use native.Mathlib.Omega.{arith}
 use lib.IntN.{ℤ, pos, negsuc, negℤ, natAbs, _+ℤ_, _-ℤ_, +ℤ-idl}
 use lib.Dec.{T, ltb}
@@ -23,8 +23,7 @@ use Rattle.wide.specs.OrderLaws.{high-lt}
 
 -- a number that is not zero has a digit
 pub some-digit : (r k : ℕ) → ¬ (r ≡ 0) → r < 2 ^ k → 1 ≤ k
-some-digit r zero z l = absurd (omega (arith, z))
-some-digit r (suc k) z l = omega arith
+some-digit r k z l = pos-of-ne-zero (λ (e : k ≡ 0). z (omega (arith, ap (λ (j : ℕ). 2 ^ j) e)))
 
 -- the half of 2 ^ k
 pub half-of : (k h : ℕ) → 1 ≤ k → h ≡ 2 ^ (k - 1) → h * 2 ≡ 2 ^ k
@@ -71,13 +70,7 @@ neg-fits w (negsuc n) h = record { sfits = h }
 
 -- ---- numbers of more than w digits
 pub longer : (h l w : ℕ) → ¬ (h ≡ 0) → w < size (h * 2 ^ w + l)
-longer h l w z = lt-of-not-le (λ (g : size (h * 2 ^ w + l) ≤ w). clash g)
-  where
-    clash : size (h * 2 ^ w + l) ≤ w → ⊥
-    clash g =
-        let one : 1 ≤ h = omega (arith, z) in
-        let a : 2 ^ size (h * 2 ^ w + l) ≤ 2 ^ w = pow-mono g in
-        omega (arith, size-lt (h * 2 ^ w + l), mul-le-mul-right (2 ^ w) one)
+longer h l w z = lt-of-not-le λ (g : size (h * 2 ^ w + l) ≤ w). omega (arith, pow-mono g, size-lt (h * 2 ^ w + l), mul-le-mul-right (2 ^ w) (pos-of-ne-zero z))
 
 -- and of fewer than 2 * w, whose high part leaves room for a carry
 pub high-room : (h l w k : ℕ) → h * 2 ^ w + l < 2 ^ k → k < 2 * w → h < 2 ^ (w - 1)

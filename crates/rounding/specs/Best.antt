@@ -1,16 +1,15 @@
 -- Laws: what RN means, in the standard's sense. No number of n bits is nearer, and half way between two the rule decides, with ties to even the even one. Assumes nothing.
 use mathlib.Core.Path.{_≡_, refl, sym, ap, _∙_}
-use mathlib.Core.Bool.{Bool, true, false, cond}
+use mathlib.Core.Bool.{cond}
 use Prim.Native.Nat.{ℕ, suc, _+_, _-_, _*_, _%_, _^_, _≤_, _<_}
 use native.Mathlib.Nat.{mul-le-mul-right, mul-le-mul-left, mul-pos, le-trans, le-of-eq, lt-of-not-le, lt-of-mul-lt-mul-right, pow-succ'}
 use native.Mathlib.Decide.{decLe}
 use native.Mathlib.Omega.{arith}
 use lib.Pow.{pow-add, pow-pos, pow-mono}
 use lib.Ieee.Order.{drop}
-use borrow.Author.Tests.{eqb-true, eqb-false}
 use Rattle.rounding.specs.Apart.{apart}
 use Rattle.rounding.specs.Grid.{Rule, toEven}
-use Rattle.rounding.specs.GridLaws.{nearest-is}
+use Rattle.rounding.specs.GridLaws.{even-up, nearest-is}
 use Rattle.rounding.specs.Digits.{pow-half, drop-lower, drop-at}
 use Rattle.rounding.specs.Unit.{kept, rn}
 use Rattle.rounding.specs.UnitLaws.{rn-half, rn-le, rn-ge, kept-ge, rn-in-binade}
@@ -86,20 +85,13 @@ module _ (rule : Rule) (n : ℕ) (P : 0 < n) where
             let s = mul-le-mul-right d (below j i h l u) in
             omega (arith, rn-half rule n P N d D)
         go (no a) (yes b) =
-            let u : N < j * 2 ^ i * d = lt-of-not-le a in
             let l : r < j * 2 ^ i = lt-of-mul-lt-mul-right d (omega arith) in
             let s = mul-le-mul-right d (above j i h l) in
             omega (arith, rn-half rule n P N d D)
         go (no a) (no b) =
-            let u : N < j * 2 ^ i * d = lt-of-not-le a in
-            let v : N < r * d = lt-of-not-le b in
             let l = mul-le-mul-right d (rn-le rule n P N d j i D h (omega arith)) in
             omega arith
 
 -- with ties to even the neighbour that is taken is even
 pub even-taken : (j : ℕ) → cond (toEven j) (suc j) j % 2 ≡ 0
-even-taken j = go (toEven j) refl
-  where
-    go : (b : Bool) → toEven j ≡ b → cond b (suc j) j % 2 ≡ 0
-    go true e = omega (arith, eqb-true (j % 2) 1 e)
-    go false e = omega (arith, eqb-false (j % 2) 1 e)
+even-taken j = omega (arith, even-up j)

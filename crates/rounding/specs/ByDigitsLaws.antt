@@ -1,7 +1,7 @@
 -- RN of a whole number is the one by its number of digits. Assumes nothing.
 use mathlib.Core.Path.{_≡_, refl, sym, ap, _∙_}
-use Prim.Native.Nat.{ℕ, zero, suc, _-_, _*_, _%_, _^_, _≤_, _<_}
-use native.Mathlib.Nat.{div-one, add-zero, one-mul, mul-one, le-of-lt, mul-le-mul-right, mul-lt-mul-of-pos-right}
+use Prim.Native.Nat.{ℕ, _-_, _*_, _%_, _^_, _≤_, _<_}
+use native.Mathlib.Nat.{pos-of-ne-zero, div-one, add-zero, one-mul, mul-one, le-of-lt, mul-le-mul-right, mul-lt-mul-of-pos-right}
 use native.Mathlib.Omega.{arith}
 use lib.IntN.{pos, negℤ}
 use lib.Pow.{pow-add, pow-pos, pow-mono}
@@ -19,11 +19,7 @@ use Rattle.rounding.specs.RoundLaws.{rounded-at, zero-minus}
 
 module _ (rule : Rule) (n : ℕ) (P : 0 < n) (x b : ℕ) (e : b ≡ size x) (X : 0 < x) where
   some : 0 < b
-  some = has b e (size-lt x)
-    where
-      has : (b : ℕ) → b ≡ size x → x < 2 ^ size x → 0 < b
-      has zero z l = absurd (omega (arith, ap (λ (k : ℕ). 2 ^ k) z))
-      has (suc b) z l = omega arith
+  some = pos-of-ne-zero (λ (z : b ≡ 0). omega (arith, size-lt x, ap (λ (k : ℕ). 2 ^ k) (sym e ∙ z)))
 
   -- at least half of the least number with one digit more
   full : 2 ^ b ≤ 2 * x

@@ -1,7 +1,7 @@
 -- Laws: how many of a fraction's digits are dropped, by the bounds of a binade: after these bounds the digit count is not needed. Assumes nothing.
 use mathlib.Core.Path.{_≡_, refl, ap, _∙_}
 use Prim.Native.Nat.{ℕ, zero, suc, _+_, _-_, _*_, _/_, _^_, _≤_, _<_}
-use native.Mathlib.Nat.{add-zero, mul-le-mul-right, mul-lt-mul-of-pos-right, le-of-mul-le-mul-right, lt-of-mul-lt-mul-right, mul-pos, lt-of-lt-of-le, le-div-iff-mul-le, div-lt-iff-lt-mul, le-antisymm, pow-succ', lt-of-not-le, not-le-of-lt}
+use native.Mathlib.Nat.{add-zero, mul-le-mul-left, mul-le-mul-right, le-of-lt, mul-lt-mul-of-pos-right, le-of-mul-le-mul-right, lt-of-mul-lt-mul-right, mul-pos, lt-of-lt-of-le, le-div-iff-mul-le, div-lt-iff-lt-mul, le-antisymm, pow-succ', lt-of-not-le, not-le-of-lt}
 use native.Mathlib.Omega.{arith}
 use lib.Pow.{pow-add, pow-pos, pow-mono}
 use lib.Ieee.{size}
@@ -11,13 +11,14 @@ use lib.Ieee.Order.{drop}
 pub pow-half : (n : ℕ) → 0 < n → 2 ^ n ≡ 2 * 2 ^ (n - 1)
 pow-half n h = ap (λ (z : ℕ). 2 ^ z) (omega arith) ∙ pow-succ' 2 (n - 1)
 
-over : (z n : ℕ) → z ≤ n + (z - n)
-over z n = omega arith
+-- in a unit 2 ^ - s with s at least n more than the digits of d, an N / d that is not zero has n digits
+pub enough-digits : (n N d s : ℕ) → 0 < N → n + size d ≤ s → 2 ^ n * d ≤ 2 * (N * 2 ^ s)
+enough-digits n N d s M h = omega (arith, mul-le-mul-left (2 ^ n) (le-of-lt (size-lt d)), pow-add 2 n (size d), pow-mono {i = n + size d} {j = s} h, mul-le-mul-right (2 ^ s) M)
 
 module _ (n N d : ℕ) (D : 0 < d) where
   pub drop-upper : N < 2 ^ (n + drop n N d) * d
   drop-upper =
-      lt-of-lt-of-le (div-lt-iff-lt-mul D .0 (size-lt (N / d))) (mul-le-mul-right d (pow-mono (over (size (N / d)) n)))
+      lt-of-lt-of-le (div-lt-iff-lt-mul D .0 (size-lt (N / d))) (mul-le-mul-right d (pow-mono {i = size (N / d)} {j = n + drop n N d} (omega arith)))
 
   pub drop-le : (k : ℕ) → N < 2 ^ (n + k) * d → drop n N d ≤ k
   drop-le k h = let s = size-le (N / d) (n + k) (div-lt-iff-lt-mul D .1 h) in omega arith

@@ -2,19 +2,18 @@
 use mathlib.Core.Path.{_≡_, refl, sym, ap, ap₂, _∙_}
 use mathlib.Core.Bool.{Bool, true, false, not}
 use Prim.Native.Nat.{ℕ, suc, _+_, _*_, _^_, _≤_, _<_}
-use native.Mathlib.Nat.{mul-assoc, eq-of-mul-eq-mul-right, mul-pos, mul-lt-mul-of-pos-right, mul-le-mul-right, mul-le-mul-left, le-of-lt, le-of-mul-le-mul-right, lt-of-mul-lt-mul-right}
-use native.Mathlib.Decide.{decLt, ℕ-discrete}
+use native.Mathlib.Nat.{mul-assoc, eq-of-mul-eq-mul-right, mul-pos, mul-lt-mul-of-pos-right, mul-le-mul-right, le-of-mul-le-mul-right, lt-of-mul-lt-mul-right}
 use native.Mathlib.Omega.{arith}
 use lib.Dec.{ltb, eqb}
 use lib.IntN.{ℤ, pos, negsuc}
-use lib.Pow.{pow-add, pow-pos, pow-mono}
+use lib.Pow.{pow-add, pow-pos}
 use lib.Ieee.{size, minus, up, down, unlike}
-use lib.Ieee.Digits.{size-lt, minus-val}
+use lib.Ieee.Digits.{minus-val}
 use lib.Ieee.Fits.{down-pos}
-use borrow.Author.Tests.{lt-ltb, le-ltb, eq-eqb, ne-eqb}
 use Rattle.rounding.specs.Apart.{apart}
-use Rattle.rounding.specs.ApartLaws.{apart-mul}
+use Rattle.rounding.specs.ApartLaws.{apart-mul, ltb-scale, eqb-scale}
 use Rattle.rounding.specs.Grid.{Rule}
+use Rattle.rounding.specs.Digits.{enough-digits}
 use Rattle.rounding.specs.Unit.{rn}
 use Rattle.rounding.specs.Round.{rounded}
 use Rattle.rounding.specs.RoundLaws.{rounded-whole, rounded-value}
@@ -70,16 +69,13 @@ module _ (rule : Rule) (n : ℕ) (P : 0 < n) (x y : Fraction) (X : 0 < x .num) (
   scaled-by z a b w e =
       let s = n + size (x .den) in
       let N = x .num * 2 ^ (s + a) in
-      let fine = enough (x .num) (x .den) s a X (omega (arith, mul-le-mul-left (2 ^ n) (le-of-lt (size-lt (x .den))), pow-add 2 n (size (x .den)))) in
+      let fine = enough-digits n (x .num) (x .den) (s + a) X (omega arith) in
       let cx : InUnits (2 ^ (s + a) * x .den) (x .minus) N x = record { unit = mul-pos (pow-pos (s + a)) D; some = D; sign = refl; count = omega arith } in
       let cy : InUnits (2 ^ (s + b) * x .den) (y .minus) N y = record { unit = mul-pos (pow-pos (s + b)) D; some = Y; sign = refl; count = shifted (y .num) (y .den) (x .num) (x .den) (2 ^ s) (2 ^ a) (2 ^ b) (up z) (down z) (2 ^ (s + a)) (2 ^ (s + b)) (down-pos z) (pow-add 2 s a) (pow-add 2 s b) w e } in
       let rx = RN-in-units-fraction rule n P (s + a) (x .den) (x .minus) N x D fine cx in
       let ry = RN-in-units-fraction rule n P (s + b) (x .den) (y .minus) N y D fine cy in
       unshifted (RN rule n y .num) (RN rule n y .den) (RN rule n x .num) (RN rule n x .den) (rn rule n N (x .den)) (2 ^ s) (2 ^ a) (2 ^ b) (up z) (down z) (2 ^ (s + a)) (2 ^ (s + b)) (ry .unit) (pow-add 2 s a) (pow-add 2 s b) w (rx .count) (ry .count)
     where
-      enough : (M d s a : ℕ) → 0 < M → 2 ^ n * d ≤ 2 ^ s → 2 ^ n * d ≤ 2 * (M * 2 ^ (s + a))
-      enough M d s a m h = omega (arith, h, pow-mono {i = s} {j = s + a} (omega arith), mul-le-mul-right (2 ^ (s + a)) m)
-
       shifted : (N d M e S A B u v SA SB : ℕ) → 0 < v → SA ≡ S * A → SB ≡ S * B → u * B ≡ A * v → N * (e * v) ≡ M * u * d → N * (SB * e) ≡ M * SA * d
       shifted N d M e S A B u v SA SB some p q w h =
           eq-of-mul-eq-mul-right v some (N * (SB * e)) (M * SA * d)
@@ -130,40 +126,14 @@ sumSize false false a b = a + b
 sumSize true false a b = apart a b
 sumSize false true a b = apart a b
 
-joined-sign : (m k : Bool) (a b d : ℕ) → joined m k a b d .minus ≡ sumSign m k a b
-joined-sign true true a b d = refl
-joined-sign true false a b d = refl
-joined-sign false true a b d = refl
-joined-sign false false a b d = refl
-
-joined-size : (m k : Bool) (a b d : ℕ) → joined m k a b d .num ≡ sumSize m k a b
-joined-size true true a b d = refl
-joined-size true false a b d = refl
-joined-size false true a b d = refl
-joined-size false false a b d = refl
-
-joined-den : (m k : Bool) (a b d : ℕ) → joined m k a b d .den ≡ d
-joined-den true true a b d = refl
-joined-den true false a b d = refl
-joined-den false true a b d = refl
-joined-den false false a b d = refl
+joined-is : (m k : Bool) (a b d : ℕ) → joined m k a b d ≡ record { minus = sumSign m k a b; num = sumSize m k a b; den = d }
+joined-is true true a b d = refl
+joined-is true false a b d = refl
+joined-is false true a b d = refl
+joined-is false false a b d = refl
 
 pub plus-some : (x y : Fraction) → 0 < x .den → 0 < y .den → 0 < plus x y .den
-plus-some x y X Y = rw (joined-den (x .minus) (y .minus) (x .num * y .den) (y .num * x .den) (x .den * y .den)) (mul-pos X Y)
-
-pub ltb-scale : (a b c : ℕ) → 0 < c → ltb (a * c) (b * c) ≡ ltb a b
-ltb-scale a b c C = go (decLt a b)
-  where
-    go : Dec (a < b) → ltb (a * c) (b * c) ≡ ltb a b
-    go (yes h) = lt-ltb (a * c) (b * c) (mul-lt-mul-of-pos-right h C) ∙ sym (lt-ltb a b h)
-    go (no h) = let l : b ≤ a = omega arith in le-ltb (a * c) (b * c) (mul-le-mul-right c l) ∙ sym (le-ltb a b l)
-
-pub eqb-scale : (a b c : ℕ) → 0 < c → eqb (a * c) (b * c) ≡ eqb a b
-eqb-scale a b c C = go (ℕ-discrete a b)
-  where
-    go : Dec (a ≡ b) → eqb (a * c) (b * c) ≡ eqb a b
-    go (yes h) = eq-eqb (a * c) (b * c) (ap (λ (z : ℕ). z * c) h) ∙ sym (eq-eqb a b h)
-    go (no h) = ne-eqb (a * c) (b * c) (λ e. h (eq-of-mul-eq-mul-right c C a b e)) ∙ sym (ne-eqb a b h)
+plus-some x y X Y = rw (joined-is (x .minus) (y .minus) (x .num * y .den) (y .num * x .den) (x .den * y .den)) (mul-pos X Y)
 
 sign-scale : (m k : Bool) (a b c : ℕ) → 0 < c → sumSign m k (a * c) (b * c) ≡ sumSign m k a b
 sign-scale true true a b c C = refl
@@ -185,22 +155,13 @@ plus-in-units T a b m k x y c d =
     let u : p * T ≡ a * e = omega (arith, ap (λ (z : ℕ). z * y .den) (c .count)) in
     let v : q * T ≡ b * e = omega (arith, ap (λ (z : ℕ). z * x .den) (d .count)) in
     let E : 0 < e = mul-pos (c .some) (d .some) in
-    record {
+    rw (joined-is (x .minus) (y .minus) p q e, c .sign, d .sign)
+    (record {
       unit = c .unit;
-      some = rw (joined-den (x .minus) (y .minus) p q e) E;
-      sign =
-          joined-sign (x .minus) (y .minus) p q e
-          ∙ ap₂ (λ (f g : Bool). sumSign f g p q) (c .sign) (d .sign)
-          ∙ sym (sign-scale m k p q T (c .unit))
-          ∙ ap₂ (λ (f g : ℕ). sumSign m k f g) u v
-          ∙ sign-scale m k a b e E;
-      count =
-          ap (λ (z : ℕ). z * T) (joined-size (x .minus) (y .minus) p q e ∙ ap₂ (λ (f g : Bool). sumSize f g p q) (c .sign) (d .sign))
-          ∙ sym (size-scale m k p q T)
-          ∙ ap₂ (λ (f g : ℕ). sumSize m k f g) u v
-          ∙ size-scale m k a b e
-          ∙ ap (λ (z : ℕ). sumSize m k a b * z) (sym (joined-den (x .minus) (y .minus) p q e));
-    }
+      some = E;
+      sign = sym (sign-scale m k p q T (c .unit)) ∙ ap₂ (λ (f g : ℕ). sumSign m k f g) u v ∙ sign-scale m k a b e E;
+      count = sym (size-scale m k p q T) ∙ ap₂ (λ (f g : ℕ). sumSize m k f g) u v ∙ size-scale m k a b e;
+    })
 
 pub less-in-units : (T : ℕ) (a b : ℕ) (x y : Fraction) → InUnits T false a x → InUnits T false b y → InUnits T (ltb a b) (apart a b) (less x y)
 less-in-units T a b x y c d = plus-in-units T a b false true x (negated y) c (record { unit = d .unit; some = d .some; sign = ap not (d .sign); count = d .count })

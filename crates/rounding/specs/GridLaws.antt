@@ -1,15 +1,25 @@
 -- Laws of the nearest whole number, for every tie rule: what nearest means, and that it is monotone, exact where it can be, and not above q below the midpoint that follows it. Assumes nothing.
-use mathlib.Core.Path.{_≡_, refl, sym, ap, _∙_, subst}
+use mathlib.Core.Path.{_≡_, refl, sym, ap, ap₂, _∙_, subst}
 use mathlib.Core.Bool.{Bool, true, false, cond}
 use Prim.Native.Nat.{ℕ, suc, _+_, _*_, _/_, _%_, _≤_, _<_}
 use native.Mathlib.Decide.{decLe}
-use native.Mathlib.Nat.{div-add-mod', mod-lt, mul-le-mul-right, le-antisymm, lt-of-mul-lt-mul-right, eq-of-mul-eq-mul-right, le-of-eq, mul-pos, lt-of-not-le, mul-lt-mul-of-pos-right, le-of-mul-le-mul-right, mul-mod-left}
+use native.Mathlib.Nat.{div-add-mod', mod-lt, mul-comm, mul-le-mul-right, le-antisymm, lt-of-mul-lt-mul-right, eq-of-mul-eq-mul-right, le-of-eq, mul-pos, lt-of-not-le, mul-mod-left}
 use native.Mathlib.Omega.{arith}
 use lib.Dec.{eqb, ltb}
 use borrow.Author.Tests.{eqb-true, eqb-false, ltb-true, ltb-false, eq-eqb, ne-eqb, lt-ltb, le-ltb}
+use lib.Ieee.Nearest.{div-same}
 use Rattle.rounding.specs.declared.Location.{Location}
 use Rattle.rounding.specs.declared.Location.the-variants.{Exact, BelowHalf, Half, AboveHalf}
-use Rattle.rounding.specs.Grid.{Rule, location, choose, nearest}
+use Rattle.rounding.specs.ApartLaws.{ltb-scale, eqb-scale}
+use Rattle.rounding.specs.Grid.{Rule, toEven, location, choose, nearest}
+
+-- ties to even add the last digit
+pub even-up : (q : ℕ) → q + q % 2 ≡ cond (toEven q) (suc q) q
+even-up q = go (toEven q) refl
+  where
+    go : (b : Bool) → toEven q ≡ b → q + q % 2 ≡ cond b (suc q) q
+    go true e = omega (arith, eqb-true (q % 2) 1 e)
+    go false e = omega (arith, eqb-false (q % 2) 1 e)
 
 -- ---- what a location says of the remainder
 abbrev pub Lies : Location → (r d : ℕ) → Type 0
@@ -102,46 +112,20 @@ nearest-below rule N d q D h = omega (arith, lt-of-mul-lt-mul-right d {m = neare
 -- ---- the location, too, depends on the fraction alone
 cross : (N d M e : ℕ) → 0 < d → 0 < e → N * e ≡ M * d → N % d * e ≡ M % e * d
 cross N d M e D P h =
-    let a = div-add-mod' N d in
-    let b = div-add-mod' M e in
-    let ra = mod-lt N D in
-    let rb = mod-lt M P in
-    let p = N / d in
-    let q = M / e in
-    let x : (p * d + N % d) * e ≡ (q * e + M % e) * d = ap (λ (z : ℕ). z * e) a ∙ h ∙ ap (λ (z : ℕ). z * d) (sym b) in
-    let y = mul-lt-mul-of-pos-right ra P in
-    let z = mul-lt-mul-of-pos-right rb D in
-    let s : p ≡ q = le-antisymm (omega (arith, lt-of-mul-lt-mul-right (d * e) {m = p} {n = suc q} (omega arith))) (omega (arith, lt-of-mul-lt-mul-right (d * e) {m = q} {n = suc p} (omega arith))) in
-    omega (arith, ap (λ (w : ℕ). w * (d * e)) s)
-
-module _ (r d s e : ℕ) (D : 0 < d) (P : 0 < e) (h : r * e ≡ s * d) where
-  zero-same : eqb r 0 ≡ eqb s 0
-  zero-same = go (eqb r 0) refl
-    where
-      go : (b : Bool) → eqb r 0 ≡ b → b ≡ eqb s 0
-      go true p =
-          let z : 0 * e ≡ s * d = ap (λ (w : ℕ). w * e) (sym (eqb-true r 0 p)) ∙ h in
-          sym (eq-eqb s 0 (eq-of-mul-eq-mul-right d D s 0 (omega arith)))
-      go false p = sym (ne-eqb s 0 (λ q. eqb-false r 0 p (eq-of-mul-eq-mul-right e P r 0 (h ∙ ap (λ (w : ℕ). w * d) q ∙ omega arith))))
-
-  half-same : eqb (r * 2) d ≡ eqb (s * 2) e
-  half-same = go (eqb (r * 2) d) refl
-    where
-      go : (b : Bool) → eqb (r * 2) d ≡ b → b ≡ eqb (s * 2) e
-      go true p = sym (eq-eqb (s * 2) e (eq-of-mul-eq-mul-right d D (s * 2) e (omega (arith, ap (λ (w : ℕ). w * e) (eqb-true (r * 2) d p)))))
-      go false p = sym (ne-eqb (s * 2) e (λ q. eqb-false (r * 2) d p (eq-of-mul-eq-mul-right e P (r * 2) d (omega (arith, ap (λ (w : ℕ). w * d) q)))))
-
-  below-same : ltb (r * 2) d ≡ ltb (s * 2) e
-  below-same = go (ltb (r * 2) d) refl
-    where
-      go : (b : Bool) → ltb (r * 2) d ≡ b → b ≡ ltb (s * 2) e
-      go true p = sym (lt-ltb (s * 2) e (lt-of-mul-lt-mul-right d (omega (arith, mul-lt-mul-of-pos-right (ltb-true (r * 2) d p) P))))
-      go false p = sym (le-ltb (s * 2) e (le-of-mul-le-mul-right {k = d} (omega (arith, mul-le-mul-right e (ltb-false (r * 2) d p))) D))
+    omega (arith, ap (λ (z : ℕ). z * e) (div-add-mod' N d), ap (λ (z : ℕ). z * d) (div-add-mod' M e), ap (λ (z : ℕ). z * (d * e)) (div-same N d M e D P h))
 
 pub location-same : (N d M e : ℕ) → 0 < d → 0 < e → N * e ≡ M * d → location (N % d) d ≡ location (M % e) e
 location-same N d M e D P h =
-    let c = cross N d M e D P h in
-    rw (zero-same (N % d) d (M % e) e D P c, below-same (N % d) d (M % e) e D P c, half-same (N % d) d (M % e) e D P c)
+    let r = N % d in
+    let s = M % e in
+    let c : r * e ≡ s * d = cross N d M e D P h in
+    let twice : r * 2 * e ≡ s * 2 * d = omega arith in
+    let none : 0 * e ≡ 0 * d = omega arith in
+    rw (
+      sym (eqb-scale r 0 e P) ∙ ap₂ eqb c none ∙ eqb-scale s 0 d D,
+      sym (ltb-scale (r * 2) d e P) ∙ ap₂ ltb twice (mul-comm d e) ∙ ltb-scale (s * 2) e d D,
+      sym (eqb-scale (r * 2) d e P) ∙ ap₂ eqb twice (mul-comm d e) ∙ eqb-scale (s * 2) e d D,
+    )
 
 pub location-exact : (k d : ℕ) → 0 < d → location (k * d % d) d ≡ Exact
 location-exact k d D = rw (mul-mod-left k d)

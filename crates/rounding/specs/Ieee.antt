@@ -1,8 +1,8 @@
 -- Laws: RN with ties to even is the toolchain's own account of the standard: over a format of 24 or 53 bits, for every fraction in its normal range,
 -- the value that `lib.Ieee.round` gives. Assumes nothing.
 use mathlib.Core.Path.{_≡_, refl, sym, ap, _∙_, subst}
-use mathlib.Core.Bool.{Bool, true, false, cond}
-use Prim.Native.Nat.{ℕ, suc, _+_, _-_, _*_, _/_, _%_, _^_, _≤_, _<_, compare, Ordering, Ordering·lt, Ordering·eq, Ordering·gt}
+use mathlib.Core.Bool.{Bool, cond}
+use Prim.Native.Nat.{ℕ, _+_, _-_, _*_, _/_, _%_, _^_, _≤_, _<_, compare, Ordering, Ordering·lt, Ordering·eq, Ordering·gt}
 use native.Mathlib.Nat.{div-add-mod', mod-lt, mul-pos, mul-right-comm, eq-of-mul-eq-mul-right, lt-of-le-of-lt}
 use native.Mathlib.Omega.{arith}
 use lib.Dec.{T, isLe, isEq, lit<}
@@ -19,7 +19,7 @@ use lib.Ieee.Scale.{grid, overflow}
 use borrow.Author.Tests.{leb-true, leb-false, eqb-true, eqb-false}
 use Rattle.rounding.specs.declared.Location.the-variants.{Half, AboveHalf}
 use Rattle.rounding.specs.Grid.{nearest, toEven}
-use Rattle.rounding.specs.GridLaws.{Nearest, tie-remainder, choose-nearest, nearest-only}
+use Rattle.rounding.specs.GridLaws.{even-up, Nearest, tie-remainder, choose-nearest, nearest-only}
 use Rattle.rounding.specs.Digits.{pow-half}
 use Rattle.rounding.specs.Unit.{kept, rn}
 use Rattle.rounding.specs.UnitLaws.{rn-le, rn-fixed}
@@ -27,13 +27,6 @@ use Rattle.rounding.specs.Round.{rounded, Equals}
 use Rattle.rounding.specs.RoundLaws.{rounded-value}
 
 -- ---- the nearest whole number
-even-up : (q : ℕ) → q + q % 2 ≡ cond (toEven q) (suc q) q
-even-up q = go (toEven q) refl
-  where
-    go : (b : Bool) → toEven q ≡ b → q + q % 2 ≡ cond b (suc q) q
-    go true e = omega (arith, eqb-true (q % 2) 1 e)
-    go false e = omega (arith, eqb-false (q % 2) 1 e)
-
 module _ (N d q r : ℕ) (e : q * d + r ≡ N) (R : r < d) where
   by-order : (o : Ordering) → compare (r * 2) d ≡ o → Nearest toEven N d (Ieee.nearest q o)
   by-order Ordering·lt c =

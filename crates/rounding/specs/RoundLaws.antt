@@ -3,20 +3,21 @@ use mathlib.Core.Path.{_≡_, refl, sym, ap, _∙_, subst}
 use mathlib.Core.Bool.{Bool, true, false, cond}
 use Prim.Native.Nat.{ℕ, zero, suc, _+_, _-_, _*_, _%_, _^_, _≤_, _<_}
 use native.Mathlib.Decide.{decLe}
-use native.Mathlib.Nat.{zero-add, mul-pos, mul-le-mul-left, add-comm, mul-le-mul-right, le-of-eq, le-of-lt, lt-of-not-le, pow-succ', eq-of-mul-eq-mul-right}
+use native.Mathlib.Nat.{zero-lt-suc, pos-of-ne-zero, le-refl, zero-add, mul-pos, add-comm, mul-le-mul-right, le-of-eq, lt-of-not-le, pow-succ', eq-of-mul-eq-mul-right}
 use native.Mathlib.Omega.{arith}
 use lib.Dec.{eqb}
+use lib.Arith.{lt-of-le-ne}
 use lib.Pow.{pow-add, pow-pos}
 use lib.IntN.{ℤ, pos, negsuc, negℤ, _+ℤ_}
 use lib.Ieee.{size, minus, up, down}
-use lib.Ieee.Digits.{size-lt, minus-val}
+use lib.Ieee.Digits.{minus-val}
 use lib.Ieee.Order.{drop}
 use borrow.Author.Tests.{eqb-true, eqb-false, eq-eqb, le-leb, lt-leb, le-ltb, lt-ltb}
 use Rattle.rounding.specs.declared.Location.{Location}
 use Rattle.rounding.specs.declared.Rounded.{Rounded}
 use Rattle.rounding.specs.Grid.{Rule, location, nearest}
 use Rattle.rounding.specs.GridLaws.{nearest-same, location-same}
-use Rattle.rounding.specs.Digits.{pow-half, drop-finer}
+use Rattle.rounding.specs.Digits.{pow-half, enough-digits, drop-finer}
 use Rattle.rounding.specs.Unit.{kept, rn}
 use Rattle.rounding.specs.UnitLaws.{kept-le, kept-ge, rn-scale-whole, rn-whole-small}
 use Rattle.rounding.specs.Round.{normalised, stepped, roundedIn, rounded, Equals, HasBits}
@@ -61,12 +62,24 @@ zero-minus (suc a) = rw (lt-leb (suc a) 0 (omega arith)) (ap negsuc (omega arith
 
 -- ---- one fraction in two units: N / d of the unit 2 ^ - t is M / e of the unit 2 ^ - s
 module _ (rule : Rule) (n : ℕ) (P : 0 < n) where
+  -- what is normalised is the carry's record, or as it was kept: a law of all exponents and units by the two cases
+  by-carry : (Q : (ℕ → ℕ → Rounded) → Type 0) (k : ℕ) (l : Location)
+      → (k ≡ 2 ^ n → Q (λ (j t : ℕ). record { significand = 2 ^ (n - 1); exponent = minus (suc j) t; location = l })) → (¬ (k ≡ 2 ^ n) → Q (λ (j t : ℕ). record { significand = k; exponent = minus j t; location = l }))
+      → Q (λ (j t : ℕ). normalised n k j t l)
+  unfolding normalised
+  by-carry Q k l carry as-kept = go (eqb k (2 ^ n)) refl
+    where
+      go : (b : Bool) → eqb k (2 ^ n) ≡ b
+          → Q (λ (j t : ℕ). cond b (record { significand = 2 ^ (n - 1); exponent = minus (suc j) t; location = l }) (record { significand = k; exponent = minus j t; location = l }))
+      go true e = carry (eqb-true k (2 ^ n) e)
+      go false e = as-kept (eqb-false k (2 ^ n) e)
+
   step-same : (t k N u M v j : ℕ) → 0 < u → 0 < v → N * v ≡ M * u → stepped rule n t k N u ≡ stepped rule n (t + j) (k + j) M v
-  unfolding stepped normalised
+  unfolding stepped
   step-same t k N u M v j D Q h =
-      rw (nearest-same rule N u M v D Q h, location-same N u M v D Q h, minus-add k t j)
-      (ap (λ (z : ℤ). cond (eqb (nearest rule M v) (2 ^ n)) (record { significand = 2 ^ (n - 1); exponent = z; location = location (M % v) v }) (record { significand = nearest rule M v; exponent = minus k t; location = location (M % v) v }))
-      (sym (minus-add (suc k) t j) ∙ ap (λ (z : ℕ). minus z (t + j)) (omega arith)))
+      let next : minus (suc (k + j)) (t + j) ≡ minus (suc k) t = ap (λ (z : ℕ). minus z (t + j)) (omega arith) ∙ minus-add (suc k) t j in
+      rw (nearest-same rule N u M v D Q h, location-same N u M v D Q h)
+      (by-carry (λ (f : ℕ → ℕ → Rounded). f k t ≡ f (k + j) (t + j)) (nearest rule M v) (location (M % v) v) (λ _. rw next) (λ _. rw (minus-add k t j)))
 
   finer : (t N d M e j : ℕ) → 0 < d → 0 < e → N * 2 ^ j * e ≡ M * d → 2 ^ n * d ≤ 2 * N → roundedIn rule n t N d ≡ roundedIn rule n (t + j) M e
   unfolding roundedIn
@@ -85,13 +98,9 @@ module _ (rule : Rule) (n : ℕ) (P : 0 < n) where
   rounded-at (suc K) d t M e D Q h fine =
       let s = n + size d in
       let A = suc K * 2 ^ s in
-      let a : 2 ^ n * d ≤ 2 * A = omega (arith, mul-le-mul-left (2 ^ n) (le-of-lt (size-lt d)), pow-add 2 n (size d), mul-le-mul-right (2 ^ s) (one-le K)) in
-      finer s A d (A * 2 ^ t) d t D D refl a
+      finer s A d (A * 2 ^ t) d t D D refl (enough-digits n (suc K) d s (zero-lt-suc K) (le-refl s))
       ∙ ap (λ (z : ℕ). roundedIn rule n z (A * 2 ^ t) d) (add-comm s t)
       ∙ sym (finer t M e (A * 2 ^ t) d s Q D (omega (arith, ap (λ (z : ℕ). z * 2 ^ s) h)) fine)
-    where
-      one-le : (k : ℕ) → 1 ≤ suc k
-      one-le k = omega arith
 
   pub rounded-same : (N d M e : ℕ) → 0 < d → 0 < e → N * e ≡ M * d → rounded rule n N d ≡ rounded rule n M e
   unfolding rounded
@@ -101,43 +110,22 @@ module _ (rule : Rule) (n : ℕ) (P : 0 < n) where
   rounded-same (suc K) d M e D Q h =
       let t = n + size d in
       let A = suc K * 2 ^ t in
-      sym (rounded-at M e t A d Q D (omega (arith, ap (λ (z : ℕ). z * 2 ^ t) h)) (omega (arith, mul-le-mul-left (2 ^ n) (le-of-lt (size-lt d)), pow-add 2 n (size d), mul-le-mul-right (2 ^ t) (one-le K))))
-    where
-      one-le : (k : ℕ) → 1 ≤ suc k
-      one-le k = omega arith
+      sym (rounded-at M e t A d Q D (omega (arith, ap (λ (z : ℕ). z * 2 ^ t) h)) (enough-digits n (suc K) d t (zero-lt-suc K) (le-refl t)))
 
-  -- ---- its value
-  normalised-value : (k j t : ℕ) (l : Location) → Equals (normalised n k j t l) (k * 2 ^ j) (2 ^ t)
-  unfolding normalised
-  normalised-value k j t l = go (eqb k (2 ^ n)) refl
-    where
-      go : (b : Bool) → eqb k (2 ^ n) ≡ b
-          → Equals (cond b (record { significand = 2 ^ (n - 1); exponent = minus (suc j) t; location = l }) (record { significand = k; exponent = minus j t; location = l })) (k * 2 ^ j) (2 ^ t)
-      go true e =
-          minus-val (2 ^ (n - 1)) (suc j) t
-          ∙ ap (λ (z : ℕ). z * down (minus (suc j) t)) (omega (arith, ap (λ (z : ℕ). 2 ^ (n - 1) * z) (pow-succ' 2 j), ap (λ (z : ℕ). z * 2 ^ j) (eqb-true k (2 ^ n) e), ap (λ (z : ℕ). z * 2 ^ j) (pow-half n P)))
-      go false e = minus-val k j t
-
-  pub roundedIn-value : (t N d : ℕ) → Equals (roundedIn rule n t N d) (rn rule n N d) (2 ^ t)
-  unfolding roundedIn stepped rn kept
-  roundedIn-value t N d = let j = drop n N d in normalised-value (nearest rule N (d * 2 ^ j)) j t (location (N % (d * 2 ^ j)) (d * 2 ^ j))
-
-  -- the exponent, counted from the unit
-  normalised-exponent : (k j t : ℕ) (l : Location) → (i : ℕ) × (normalised n k j t l .exponent ≡ minus i t) × (normalised n k j t l .significand * 2 ^ i ≡ k * 2 ^ j)
-  unfolding normalised
-  normalised-exponent k j t l = go (eqb k (2 ^ n)) refl
-    where
-      at : Bool → Rounded
-      at b = cond b (record { significand = 2 ^ (n - 1); exponent = minus (suc j) t; location = l }) (record { significand = k; exponent = minus j t; location = l })
-
-      go : (b : Bool) → eqb k (2 ^ n) ≡ b → (i : ℕ) × (at b .exponent ≡ minus i t) × (at b .significand * 2 ^ i ≡ k * 2 ^ j)
-      go true e =
-          (suc j, refl, omega (arith, ap (λ (z : ℕ). 2 ^ (n - 1) * z) (pow-succ' 2 j), ap (λ (z : ℕ). z * 2 ^ j) (eqb-true k (2 ^ n) e), ap (λ (z : ℕ). z * 2 ^ j) (pow-half n P)))
-      go false e = (j, refl, refl)
-
+  -- ---- its exponent, counted from the unit, and its value
   pub roundedIn-exponent : (t N d : ℕ) → (i : ℕ) × (roundedIn rule n t N d .exponent ≡ minus i t) × (roundedIn rule n t N d .significand * 2 ^ i ≡ rn rule n N d)
   unfolding roundedIn stepped rn kept
-  roundedIn-exponent t N d = let j = drop n N d in normalised-exponent (nearest rule N (d * 2 ^ j)) j t (location (N % (d * 2 ^ j)) (d * 2 ^ j))
+  roundedIn-exponent t N d =
+      let j = drop n N d in
+      let k = nearest rule N (d * 2 ^ j) in
+      by-carry (λ (f : ℕ → ℕ → Rounded). (i : ℕ) × (f j t .exponent ≡ minus i t) × (f j t .significand * 2 ^ i ≡ k * 2 ^ j)) k (location (N % (d * 2 ^ j)) (d * 2 ^ j))
+      (λ e. (suc j, refl, omega (arith, ap (λ (z : ℕ). 2 ^ (n - 1) * z) (pow-succ' 2 j), ap (λ (z : ℕ). z * 2 ^ j) e, ap (λ (z : ℕ). z * 2 ^ j) (pow-half n P))))
+      (λ _. (j, refl, refl))
+
+  pub roundedIn-value : (t N d : ℕ) → Equals (roundedIn rule n t N d) (rn rule n N d) (2 ^ t)
+  roundedIn-value t N d =
+      let x = roundedIn-exponent t N d in
+      rw (x .1) (minus-val (roundedIn rule n t N d .significand) (x .0) t ∙ ap (λ (z : ℕ). z * down (minus (x .0) t)) (x .2))
 
   -- in every unit that is fine enough RN's value is that of `rn`
   pub rounded-value : (N d t M e : ℕ) → 0 < d → 0 < e → N * 2 ^ t * e ≡ M * d → 2 ^ n * e ≤ 2 * M → Equals (rounded rule n N d) (rn rule n M e) (2 ^ t)
@@ -152,7 +140,7 @@ module _ (rule : Rule) (n : ℕ) (P : 0 < n) where
       omega (arith, z)
   rounded-whole (suc K) d t M D h =
       let r = rounded rule n (suc K) d in
-      let m : 0 < M = pos-of K d t M D h in
+      let m : 0 < M = pos-of-ne-zero (λ (z : M ≡ 0). omega (arith, ap (λ (x : ℕ). x * d) z, mul-le-mul-right (2 ^ t) (zero-lt-suc K), pow-pos t)) in
       let w : 2 ^ (t + n) ≡ 2 ^ t * 2 ^ n = pow-add 2 t n in
       let v : Equals r (rn rule n (M * 2 ^ n) 1) (2 ^ (t + n)) =
       rounded-value (suc K) d (t + n) (M * 2 ^ n) 1 D (omega arith) (omega (arith, ap (λ (z : ℕ). suc K * z) w, ap (λ (z : ℕ). z * 2 ^ n) h)) (omega (arith, mul-le-mul-right (2 ^ n) m)) in
@@ -160,24 +148,8 @@ module _ (rule : Rule) (n : ℕ) (P : 0 < n) where
       let c = down (r .exponent) in
       eq-of-mul-eq-mul-right (2 ^ n) (pow-pos n) (a * 2 ^ t) (rn rule n M 1 * c)
       (omega (arith, v, ap (λ (z : ℕ). a * z) w, ap (λ (z : ℕ). z * c) (rn-scale-whole rule n P M n)))
-    where
-      pos-of : (K d t M : ℕ) → 0 < d → suc K * 2 ^ t ≡ M * d → 0 < M
-      pos-of K d t zero D h = absurd (omega (arith, mul-le-mul-right (2 ^ t) (one-le' K), pow-pos t))
-        where
-          one-le' : (k : ℕ) → 1 ≤ suc k
-          one-le' k = omega arith
-      pos-of K d t (suc M) D h = omega arith
 
   -- ---- n bits
-  normalised-bits : (k j t : ℕ) (l : Location) → 2 ^ (n - 1) ≤ k → k ≤ 2 ^ n → HasBits n (normalised n k j t l .significand)
-  unfolding normalised
-  normalised-bits k j t l lo hi = go (eqb k (2 ^ n)) refl
-    where
-      go : (b : Bool) → eqb k (2 ^ n) ≡ b
-          → HasBits n (cond {A = Rounded} b (record { significand = 2 ^ (n - 1); exponent = minus (suc j) t; location = l }) (record { significand = k; exponent = minus j t; location = l }) .significand)
-      go true e = record { least = le-of-eq refl; most = omega (arith, pow-half n P, pow-pos (n - 1)) }
-      go false e = record { least = lo; most = omega (arith, eqb-false k (2 ^ n) e) }
-
   pub rounded-bits : (N d : ℕ) → 0 < N → 0 < d → HasBits n (rounded rule n N d .significand)
   unfolding rounded roundedIn stepped kept
   rounded-bits zero d m D = absurd (omega arith)
@@ -185,8 +157,9 @@ module _ (rule : Rule) (n : ℕ) (P : 0 < n) where
       let s = n + size d in
       let A = suc K * 2 ^ s in
       let j = drop n A d in
-      let a : 2 ^ n * d ≤ 2 * A = omega (arith, mul-le-mul-left (2 ^ n) (le-of-lt (size-lt d)), pow-add 2 n (size d), mul-le-mul-right (2 ^ s) m) in
-      normalised-bits (kept rule n A d) j s (location (A % (d * 2 ^ j)) (d * 2 ^ j)) (kept-ge rule n P A d D a) (kept-le rule n P A d D)
+      by-carry (λ (f : ℕ → ℕ → Rounded). HasBits n (f j s .significand)) (kept rule n A d) (location (A % (d * 2 ^ j)) (d * 2 ^ j))
+      (λ _. record { least = le-of-eq refl; most = omega (arith, pow-half n P, pow-pos (n - 1)) })
+      (λ e. record { least = kept-ge rule n P A d D (enough-digits n (suc K) d s m (le-refl s)); most = lt-of-le-ne (kept-le rule n P A d D) e })
 
   -- ---- the carry: what is kept may be 2 ^ n, which is the next binade's first
   pub rounded-carry : (t N d : ℕ) → kept rule n N d ≡ 2 ^ n → (roundedIn rule n t N d .significand ≡ 2 ^ (n - 1)) × (roundedIn rule n t N d .exponent ≡ minus (suc (drop n N d)) t)
@@ -194,25 +167,13 @@ module _ (rule : Rule) (n : ℕ) (P : 0 < n) where
   rounded-carry t N d e = let h = eq-eqb (kept rule n N d) (2 ^ n) e in (rw h, rw h)
 
   -- ---- scaling by a power of two moves the exponent alone
-  normalised-shift : (k i t j : ℕ) (l : Location) → shifted j (normalised n k i (t + j) l) ≡ normalised n k i t l
-  unfolding normalised
-  normalised-shift k i t j l = go (eqb k (2 ^ n))
-    where
-      go : (b : Bool)
-          → shifted j (cond b (record { significand = 2 ^ (n - 1); exponent = minus (suc i) (t + j); location = l }) (record { significand = k; exponent = minus i (t + j); location = l }))
-          ≡ cond b (record { significand = 2 ^ (n - 1); exponent = minus (suc i) t; location = l }) (record { significand = k; exponent = minus i t; location = l })
-      go true = rw (minus-shift (suc i) t j)
-      go false = rw (minus-shift i t j)
-
   pub rounded-scale : (N d j : ℕ) → 0 < N → 0 < d → rounded rule n (N * 2 ^ j) d ≡ shifted j (rounded rule n N d)
   unfolding roundedIn stepped
   rounded-scale N d j M D =
       let t = n + size d in
       let A = N * 2 ^ (t + j) in
       let i = drop n A d in
-      let w = pow-add 2 t j in
-      let v = ap (λ (z : ℕ). N * z) w in
-      let fine : 2 ^ n * d ≤ 2 * A = omega (arith, mul-le-mul-left (2 ^ n) (le-of-lt (size-lt d)), pow-add 2 n (size d), mul-le-mul-right (2 ^ t) M, mul-le-mul-left (N * 2 ^ t) (pow-pos j)) in
-      rounded-at (N * 2 ^ j) d t A d D D (omega (arith, ap (λ (z : ℕ). z * d) v)) fine
-      ∙ sym (normalised-shift (nearest rule A (d * 2 ^ i)) i t j (location (A % (d * 2 ^ i)) (d * 2 ^ i)))
+      let fine = enough-digits n N d (t + j) M (omega arith) in
+      rounded-at (N * 2 ^ j) d t A d D D (omega (arith, ap (λ (z : ℕ). N * z * d) (pow-add 2 t j))) fine
+      ∙ by-carry (λ (f : ℕ → ℕ → Rounded). f i t ≡ shifted j (f i (t + j))) (nearest rule A (d * 2 ^ i)) (location (A % (d * 2 ^ i)) (d * 2 ^ i)) (λ _. rw (minus-shift (suc i) t j)) (λ _. rw (minus-shift i t j))
       ∙ ap (shifted j) (sym (rounded-at N d (t + j) A d D D refl fine))

@@ -5,15 +5,14 @@ use mathlib.Core.Bool.{cond}
 use Prim.Native.Nat.{ℕ, suc, _+_, _-_, _*_, _%_, _^_, _≤_, _<_}
 use native.Mathlib.Nat.{mul-le-mul-right, mul-le-mul-left, le-of-mul-le-mul-right, le-of-lt}
 use native.Mathlib.Omega.{arith}
-use lib.Pow.{pow-add, pow-pos, pow-mono}
+use lib.Pow.{pow-add, pow-pos}
 use lib.IntN.{ℤ, pos, negsuc}
 use lib.Ieee.{size, up, down}
-use lib.Ieee.Digits.{size-lt}
 use Rattle.rounding.specs.declared.Rounded.{Rounded}
 use Rattle.rounding.specs.Apart.{apart}
 use Rattle.rounding.specs.ApartLaws.{apart-mul}
 use Rattle.rounding.specs.Grid.{Rule, toEven}
-use Rattle.rounding.specs.Digits.{pow-half}
+use Rattle.rounding.specs.Digits.{pow-half, enough-digits}
 use Rattle.rounding.specs.Unit.{rn}
 use Rattle.rounding.specs.Round.{rounded, Equals, HasBits}
 use Rattle.rounding.specs.RoundLaws.{rounded-bits, rounded-value}
@@ -46,9 +45,7 @@ cross A B x y T a b t p q h = le-of-mul-le-mul-right {k = T} (omega (arith, ap (
 
 module _ (rule : Rule) (n : ℕ) (P : 0 < n) (N d : ℕ) (M : 0 < N) (D : 0 < d) where
   fine : (m : ℕ) → 2 ^ n * d ≤ 2 * (N * 2 ^ (n + size d + m))
-  fine m =
-      let a : 2 ^ (n + size d) ≤ 2 ^ (n + size d + m) = pow-mono (omega arith) in
-      omega (arith, mul-le-mul-left (2 ^ n) (le-of-lt (size-lt d)), pow-add 2 n (size d), mul-le-mul-right (2 ^ (n + size d + m)) M)
+  fine m = enough-digits n N d (n + size d + m) M (omega arith)
 
   -- in a unit in which v is whole
   by-unit : (r v : Rounded) (m R K : ℕ) → Equals r R (2 ^ (n + size d + m)) → Equals v K (2 ^ (n + size d + m)) → apart (R * d) (N * 2 ^ (n + size d + m)) ≤ apart (K * d) (N * 2 ^ (n + size d + m)) → AsNear N d r v

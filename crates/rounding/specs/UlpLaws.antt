@@ -2,16 +2,15 @@
 use mathlib.Core.Path.{_≡_, refl, sym, ap, ap₂, _∙_, subst}
 use mathlib.Core.Bool.{false}
 use Prim.Native.Nat.{ℕ, suc, _+_, _-_, _*_, _^_, _≤_, _<_}
-use native.Mathlib.Nat.{mul-le-mul-right, mul-le-mul-left, mul-lt-mul-of-pos-right, mul-pos, mul-assoc, le-of-lt}
+use native.Mathlib.Nat.{mul-le-mul-right, mul-le-mul-left, mul-lt-mul-of-pos-right, mul-pos, mul-assoc}
 use native.Mathlib.Omega.{arith}
 use lib.Pow.{pow-add, pow-pos}
 use lib.IntN.{ℤ, pos, negsuc, _+ℤ_, _-ℤ_, +ℤ-negℤ-cancel}
 use lib.Ieee.{size, minus, unlike}
-use lib.Ieee.Digits.{size-lt}
 use lib.Ieee.Order.{drop}
 use Rattle.rounding.specs.Apart.{apart}
 use Rattle.rounding.specs.Grid.{Rule}
-use Rattle.rounding.specs.Digits.{pow-half, drop-lower, drop-upper, drop-at, drop-finer}
+use Rattle.rounding.specs.Digits.{pow-half, enough-digits, drop-lower, drop-upper, drop-at, drop-finer}
 use Rattle.rounding.specs.Unit.{rn}
 use Rattle.rounding.specs.UnitLaws.{rn-half}
 use Rattle.rounding.specs.RoundLaws.{minus-add, minus-shift, minus-zero, zero-minus}
@@ -29,7 +28,7 @@ module _ (v : Fraction) (p : Positive v) where
 
   -- it has n digits there, if t is n more than the digits of its denominator
   digits : (n : ℕ) → 2 ^ n * v .den ≤ 2 * (v .num * 2 ^ (n + size (v .den)))
-  digits n = let t = n + size (v .den) in omega (arith, mul-le-mul-left (2 ^ n) (le-of-lt (size-lt (v .den))), pow-add 2 n (size (v .den)), mul-le-mul-right (2 ^ t) (p .above))
+  digits n = enough-digits n (v .num) (v .den) (n + size (v .den)) (p .above) (omega arith)
 
   -- ---- its binade
   pub in-binade : InBinade (binadeOf v) v

@@ -1,7 +1,7 @@
 -- Laws of rounding to n bits in a unit, for every precision, tie rule and denominator: monotone, fixed on what has n bits, within half a step,
 -- scaled by powers of two, and constant where none of its midpoints lies. Assumes nothing.
 use mathlib.Core.Path.{_≡_, refl, sym, ap, _∙_, subst}
-use mathlib.Core.Logic.{_⊎_, inl, inr}
+use mathlib.Core.Logic.{inl, inr}
 use Prim.Native.Nat.{ℕ, suc, _+_, _-_, _*_, _^_, _≤_, _<_}
 use native.Mathlib.Nat.{mul-le-mul-right, le-trans, le-of-eq, le-antisymm, lt-of-not-le, mul-assoc, mul-pos, eq-or-lt-of-le, lt-of-mul-lt-mul-right, mul-lt-mul-of-pos-right, mul-one, pow-succ'}
 use native.Mathlib.Decide.{decLe, decLt}
@@ -50,20 +50,15 @@ module _ (rule : Rule) (n : ℕ) (P : 0 < n) where
   normal-of-drop N d D h = le-trans (mul-le-mul-right d (pow-mono {i = n} {j = n + drop n N d} (omega arith))) (drop-some n N d D P h)
 
   -- ---- monotone
-  lift : (N d M e j : ℕ) → 0 < d → 0 < e → N * e ≤ M * d → M < 2 ^ (n + j) * e → N < 2 ^ (n + j) * d
-  lift N d M e j D Q h u = lt-of-mul-lt-mul-right e (omega (arith, mul-lt-mul-of-pos-right u D))
-
   pub rn-mono : (N d M e : ℕ) → 0 < d → 0 < e → N * e ≤ M * d → rn rule n N d ≤ rn rule n M e
   unfolding rn
   rn-mono N d M e D Q h =
       let i = drop n N d in
       let j = drop n M e in
-      let go : (i ≡ j) ⊎ (i < j) → rn rule n N d ≤ rn rule n M e =
-      elim [
+      elim (eq-or-lt-of-le (drop-le n N d D j (lt-of-mul-lt-mul-right e (omega (arith, mul-lt-mul-of-pos-right (drop-upper n M e Q) D))))) [
         | inl s ↦
-            subst (λ (z : ℕ). z ≤ rn rule n M e) (sym (rn-in-binade N d j s))
-            (subst (λ (z : ℕ). nearest rule N (d * 2 ^ j) * 2 ^ j ≤ z) (sym (rn-in-binade M e j refl))
-            (mul-le-mul-right (2 ^ j) (nearest-mono rule N (d * 2 ^ j) M (e * 2 ^ j) (step-pos d j D) (step-pos e j Q) (omega (arith, mul-le-mul-right (2 ^ j) h)))))
+            rw (rn-in-binade N d j s, rn-in-binade M e j refl)
+            (mul-le-mul-right (2 ^ j) (nearest-mono rule N (d * 2 ^ j) M (e * 2 ^ j) (step-pos d j D) (step-pos e j Q) (omega (arith, mul-le-mul-right (2 ^ j) h))))
         | inr l ↦
             -- a power of two lies between
             let x = mul-le-mul-right (2 ^ i) (kept-le N d D) in
@@ -71,8 +66,6 @@ module _ (rule : Rule) (n : ℕ) (P : 0 < n) where
             let z : 2 ^ n * 2 ^ i ≤ 2 ^ (n - 1) * 2 ^ j = le-trans (le-of-eq (sym (pow-add 2 n i))) (le-trans (pow-mono {i = n + i} {j = n - 1 + j} (omega arith)) (le-of-eq (pow-add 2 (n - 1) j))) in
             le-trans x (le-trans z y)
       ]
-      in
-      go (eq-or-lt-of-le (drop-le n N d D j (lift N d M e j D Q h (drop-upper n M e Q))))
 
   pub rn-same : (N d M e : ℕ) → 0 < d → 0 < e → N * e ≡ M * d → rn rule n N d ≡ rn rule n M e
   rn-same N d M e D Q h = le-antisymm (rn-mono N d M e D Q (le-of-eq h)) (rn-mono M e N d Q D (le-of-eq (sym h)))
@@ -174,8 +167,7 @@ module _ (rule : Rule) (n : ℕ) (P : 0 < n) where
   unfolding rn kept
   normal N d D fine =
       let k = drop n N d in
-      let go : (kept rule n N d ≡ 2 ^ n) ⊎ (kept rule n N d < 2 ^ n) → Normal rule n N d =
-      elim [
+      elim (eq-or-lt-of-le (kept-le N d D)) [
         | inl e ↦
             let v : 2 ^ n * 2 ^ k ≡ 2 ^ (n - 1) * 2 ^ suc k = ap (λ (z : ℕ). z * 2 ^ k) (pow-half n P) ∙ omega (arith, ap (λ (z : ℕ). 2 ^ (n - 1) * z) (pow-succ' 2 k)) in
             let u = drop-upper n N d D in
@@ -190,8 +182,6 @@ module _ (rule : Rule) (n : ℕ) (P : 0 < n) where
             }
         | inr l ↦ record { sig = kept rule n N d; exp = k; value = refl; least = kept-ge N d D fine; most = l; under = let r = nearest-is rule N (d * 2 ^ k) (step-pos d k D) .high in omega arith }
       ]
-      in
-      go (eq-or-lt-of-le (kept-le N d D))
 
   -- ---- no midpoint between two fractions, themselves included: they round alike, also where two binades meet
   pub rn-constant : (a b d : ℕ) → 0 < d → 2 ^ n * d ≤ 2 * a → a ≤ b

@@ -12,10 +12,7 @@ use Rattle.wide.specs.Division.{Normal}
 
 -- The number of digits of x is the only m with x < 2 ^ m ≤ 2 * x + 1.
 pub size-is : (x m : ℕ) → x < 2 ^ m → 2 ^ m ≤ 2 * x + 1 → m ≡ size x
-size-is x m below most = le-antisymm (le-of-suc-le-suc (lt-of-not-le (λ (more : suc (size x) ≤ m). absurd (clash more)))) (size-le x m below)
-  where
-    clash : suc (size x) ≤ m → ⊥
-    clash more = omega (arith, size-lt x, pow-mono more, pow-suc 2 (size x))
+size-is x m below most = le-antisymm (le-of-suc-le-suc (lt-of-not-le (λ (more : suc (size x) ≤ m). omega (arith, size-lt x, pow-mono more, pow-suc 2 (size x))))) (size-le x m below)
 
 -- A number above 0 is at least half of the power that its digits reach.
 pub size-most : (x : ℕ) → 0 < x → 2 ^ size x ≤ 2 * x

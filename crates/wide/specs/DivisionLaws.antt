@@ -16,8 +16,7 @@ divided-by n d q r e below =
 -- The quotient is one digit where the high part is below the divisor.
 pub quotient-lt : (B h l d : ℕ) → h < d → l < B → (h * B + l) / d < B
 quotient-lt B h l d high low =
-    let pos : 0 < d = omega arith in
-    div-lt-iff-lt-mul pos .1 (lt-of-lt-of-le (digits-lt high low) (le-of-eq (mul-comm d B)))
+    div-lt-iff-lt-mul {k = d} (omega arith) .1 (lt-of-lt-of-le (digits-lt high low) (le-of-eq (mul-comm d B)))
 
 -- One digit of the quotient of h * B + l by d, where the divisor's upper digit is at least half the base.
 module _ (B d h l : ℕ) (half : B ≤ 2 * (d / B)) (high : h < d) (low : l < B) where
@@ -56,17 +55,13 @@ module _ (B d h l : ℕ) (half : B ≤ 2 * (d / B)) (high : h < d) (low : l < B)
 module _ {n d estimate left taken : ℕ} (known : Estimate n d estimate left taken) where
   -- It is the quotient where no less is left than has to be taken.
   pub estimate-right : taken ≤ left → (estimate ≡ n / d) × (left - taken ≡ n % d)
-  estimate-right there =
-      let sum = known .sum in
-      let less = known .left-lt in
-      divided-by n d estimate (left - taken) (omega arith) (omega arith)
+  estimate-right there = divided-by n d estimate (left - taken) (omega arith) (omega arith)
 
   above : (c : ℕ) → c * d + left < taken → c < estimate
-  above c lacks = let sum = known .sum in lt-of-mul-lt-mul-right d (omega arith)
+  above c lacks = lt-of-mul-lt-mul-right d (omega arith)
 
   less-by : (c r : ℕ) → c ≤ estimate → r + taken ≡ left + c * d → r < d → (estimate - c ≡ n / d) × (r ≡ n % d)
   less-by c r few rest below =
-      let sum = known .sum in
       let e : estimate - c + c ≡ estimate = omega arith in
       divided-by n d (estimate - c) r (omega (arith, simp add-mul at (ap (λ (x : ℕ). x * d) e))) below
 
@@ -84,13 +79,11 @@ module _ {n d estimate left taken : ℕ} (known : Estimate n d estimate left tak
 
   -- Twice d always does.
   pub twice-enough : taken - left - d ≤ d
-  twice-enough = let few = known .taken-lt in omega arith
+  twice-enough = omega arith
 
   -- It is 2 too large where d does not.
   pub two-too-large : d < taken - left → (estimate - 2 ≡ n / d) × (d - (taken - left - d) ≡ n % d)
-  two-too-large lacks =
-      let few = known .taken-lt in
-      less-by 2 (d - (taken - left - d)) (at-least-two lacks) (omega arith) (omega arith)
+  two-too-large lacks = less-by 2 (d - (taken - left - d)) (at-least-two lacks) (omega arith) (omega arith)
 
 -- Digit after digit: the remainder r of the high digits a goes before the next digit m.
 pub divided-next : (B d a m q r q′ r′ : ℕ) → 0 < d → q ≡ a / d → r ≡ a % d → q′ ≡ (r * B + m) / d → r′ ≡ (r * B + m) % d
@@ -120,7 +113,6 @@ raised-high-lt W h l d s h′ l′ high low some e =
 -- And shifted with a divisor made normal it loses no digit of two parts.
 pub raised-room : (w h l d k : ℕ) → h < d → l < 2 ^ w → Normal w d k → h * 2 ^ w + l < 2 ^ (w + w - k)
 raised-room w h l d k high low normal =
-    let short : k ≤ w + w = let less = normal .shift-lt in omega arith in
-    spare (w + w) k (h * 2 ^ w + l) short
+    spare (w + w) k (h * 2 ^ w + l) (omega arith)
     (lt-trans (raised-lt (2 ^ w) h l d (2 ^ k) high low (pow-pos k))
     (lt-of-lt-of-le (mul-lt-mul-of-pos-right (normal .fits) (pow-pos w)) (le-of-eq (sym (pow-add 2 w w)))))

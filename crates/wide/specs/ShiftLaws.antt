@@ -27,8 +27,7 @@ top-digits w k l hk = div-div-eq-div-mul l 2 (2 ^ (w - 1 - k)) ∙ ap (λ (x : �
 -- What a shift to the left by w - k leaves of w digits is the k lowest.
 lowest-left : (w k h : ℕ) → k ≤ w → h * 2 ^ (w - k) % 2 ^ w ≡ h % 2 ^ k * 2 ^ (w - k)
 lowest-left w k h hk =
-    let e : w ≡ k + (w - k) = omega arith in
-    ap (λ (x : ℕ). h * 2 ^ (w - k) % 2 ^ x) e
+    ap (λ (x : ℕ). h * 2 ^ (w - k) % 2 ^ x) (omega arith)
     ∙ mod-pow-add (h * 2 ^ (w - k)) k (w - k)
     ∙ ap (λ (x : ℕ). x % 2 ^ k * 2 ^ (w - k) + h * 2 ^ (w - k) % 2 ^ (w - k)) (shl-shr h (w - k))
     ∙ ap (λ (x : ℕ). h % 2 ^ k * 2 ^ (w - k) + x) (mul-mod-left h (2 ^ (w - k)))
@@ -60,23 +59,20 @@ module _ (w k h l : ℕ) where
   -- The high part so made fits w digits where the number has k digits to spare.
   pub left-within-lt : k ≤ w → h * 2 ^ w + l < 2 ^ (w + w - k) → h * 2 ^ k + l / 2 ^ (w - k) < 2 ^ w
   left-within-lt hk room =
-      let e : w + w - k + k ≡ w + w = omega arith in
       lt-of-mul-lt-mul-right (2 ^ w)
       (lt-of-le-of-lt (le-add-right _ (l * 2 ^ k % 2 ^ w))
-      (lt-of-le-of-lt (le-of-eq (left-within hk)) (lt-of-lt-of-le (shl-lt (w + w - k) k room) (le-of-eq (ap (λ (x : ℕ). 2 ^ x) e ∙ pow-add 2 w w)))))
+      (lt-of-le-of-lt (le-of-eq (left-within hk)) (lt-of-lt-of-le (shl-lt (w + w - k) k room) (le-of-eq (ap (λ (x : ℕ). 2 ^ x) (omega arith) ∙ pow-add 2 w w)))))
 
   -- Times 2 ^ k past the low part: the high part is 0 where no digit is lost, and the low part becomes the high one.
   pub left-past : w ≤ k → h * 2 ^ w + l < 2 ^ (w + w - k) → l * 2 ^ (k - w) * 2 ^ w ≡ (h * 2 ^ w + l) * 2 ^ k
   left-past hk room =
-      let small : w + w - k ≤ w = omega arith in
       mul-assoc l (2 ^ (k - w)) (2 ^ w) ∙ ap (λ (x : ℕ). l * x) (sym (power-split k w hk))
-      ∙ ap (λ (x : ℕ). x * 2 ^ k) (below-base (2 ^ w) h l (lt-of-lt-of-le room (pow-mono small)))
+      ∙ ap (λ (x : ℕ). x * 2 ^ k) (below-base (2 ^ w) h l (lt-of-lt-of-le room (pow-mono {i = w + w - k} {j = w} (omega arith))))
 
   -- The high part so made fits w digits too.
   pub left-past-lt : w ≤ k → k ≤ w + w → h * 2 ^ w + l < 2 ^ (w + w - k) → l * 2 ^ (k - w) < 2 ^ w
   left-past-lt hk most room =
-      let e : w + w - k + (k - w) ≡ w = omega arith in
-      lt-of-lt-of-le (shl-lt (w + w - k) (k - w) (lt-of-le-of-lt (omega arith) room)) (le-of-eq (ap (λ (x : ℕ). 2 ^ x) e))
+      lt-of-lt-of-le (shl-lt (w + w - k) (k - w) (lt-of-le-of-lt (omega arith) room)) (le-of-eq (ap (λ (x : ℕ). 2 ^ x) (omega arith)))
 
   apart : k ≤ w → h * 2 ^ w + l ≡ h * 2 ^ (w - k) * 2 ^ k + l
   apart hk = ap (λ (x : ℕ). h * x + l) (power-split w k hk) ∙ ap (λ (x : ℕ). x + l) (sym (mul-assoc h (2 ^ (w - k)) (2 ^ k)))
@@ -93,15 +89,13 @@ module _ (w k h l : ℕ) where
   -- The low part so made fits w digits.
   pub right-within-lt : k ≤ w → l < 2 ^ w → h % 2 ^ k * 2 ^ (w - k) + l / 2 ^ k < 2 ^ w
   right-within-lt hk hl =
-      let e : w ≡ w - k + k = omega arith in
-      let kept : l / 2 ^ k < 2 ^ (w - k) = shr-lt (w - k) k (subst (λ (x : ℕ). l < 2 ^ x) e hl) in
+      let kept : l / 2 ^ k < 2 ^ (w - k) = shr-lt (w - k) k (subst (λ (x : ℕ). l < 2 ^ x) (omega arith) hl) in
       lt-of-lt-of-le (digits-lt (mod-lt h (pow-pos k)) kept) (le-of-eq (mul-comm (2 ^ k) (2 ^ (w - k)) ∙ sym (power-split w k hk)))
 
   -- Over 2 ^ k past the low part: the high part's digits from there on.
   pub right-past : w ≤ k → l < 2 ^ w → h / 2 ^ (k - w) ≡ (h * 2 ^ w + l) / 2 ^ k
   right-past hk hl =
-      let e : w + (k - w) ≡ k = omega arith in
-      sym (ap (λ (x : ℕ). (h * 2 ^ w + l) / 2 ^ x) (sym e) ∙ sym (shr-shr (h * 2 ^ w + l) w (k - w)) ∙ ap (λ (x : ℕ). x / 2 ^ (k - w)) (high h w hl))
+      sym (ap (λ (x : ℕ). (h * 2 ^ w + l) / 2 ^ x) (omega arith) ∙ sym (shr-shr (h * 2 ^ w + l) w (k - w)) ∙ ap (λ (x : ℕ). x / 2 ^ (k - w)) (high h w hl))
 
   -- The k lowest digits, within the low part.
   pub lowest-within : k ≤ w → l % 2 ^ k ≡ (h * 2 ^ w + l) % 2 ^ k
@@ -110,7 +104,6 @@ module _ (w k h l : ℕ) where
   -- The k lowest digits, past the low part.
   pub lowest-past : w ≤ k → l < 2 ^ w → h % 2 ^ (k - w) * 2 ^ w + l ≡ (h * 2 ^ w + l) % 2 ^ k
   lowest-past hk hl =
-      let e : k - w + w ≡ k = omega arith in
       sym
-      (ap (λ (x : ℕ). (h * 2 ^ w + l) % 2 ^ x) (sym e) ∙ mod-pow-add (h * 2 ^ w + l) (k - w) w
+      (ap (λ (x : ℕ). (h * 2 ^ w + l) % 2 ^ x) (omega arith) ∙ mod-pow-add (h * 2 ^ w + l) (k - w) w
       ∙ ap₂ (λ (x y : ℕ). x % 2 ^ (k - w) * 2 ^ w + y) (high h w hl) (low h w hl))

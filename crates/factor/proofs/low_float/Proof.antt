@@ -2,7 +2,7 @@
 use mathlib.Core.Path.{_≡_, refl, sym, ap, ap₂, _∙_}
 use mathlib.Core.Bool.{Bool}
 use Prim.Native.Nat.{ℕ, _^_, _<_}
-use native.Mathlib.Nat.{le-of-lt}
+use native.Mathlib.Nat.{pos-of-ne-zero, le-of-lt}
 use native.Mathlib.Omega.{arith}
 use lib.IntN.{ℤ, pos, natAbs}
 use lib.Ieee
@@ -32,10 +32,7 @@ returns c =
     c .plus-zero .ensures ∙ zero-is ∙ ap₂ (λ (l : ℤ) (q : ℕ). Ieee.round binary32 (negative l) (natAbs l) (2 ^ q)) (sym (z .0)) (sym (z .1))
 
 some : (c : tie.Else1) → 0 < natAbs (c .before .before .args .low)
-some c = pos-of (natAbs (c .before .before .args .low)) (λ e. c .if1 .left (size-is (c .before) ∙ e))
-  where
-    pos-of : (m : ℕ) → (m ≡ 0 → ⊥) → 0 < m
-    pos-of m h = omega (arith, h)
+some c = pos-of-ne-zero (λ e. c .if1 .left (size-is (c .before) ∙ e))
 
 narrow-float-requires : tie.Need-narrow-float-requires
 narrow-float-requires c κs =

@@ -1,6 +1,7 @@
 -- `factor::parts_from` meets its contract: no rest, or one that is rounded. Assumes nothing.
 use mathlib.Core.Path.{_≡_, sym, ap, ap₂, _∙_, subst}
-use Prim.Native.Nat.{ℕ, _^_, _<_}
+use Prim.Native.Nat.{_^_, _<_}
+use native.Mathlib.Nat.{pos-of-ne-zero}
 use native.Mathlib.Omega.{arith}
 use lib.IntN.{ℤ, pos, natAbs, _-ℤ_}
 use mir.Syntax.{w32, w64}
@@ -49,10 +50,7 @@ known c =
     let rounding = c .before .before .before in
     let a = rounding .before in
     parts-some (K a) (fine a) (a .args .high) (a .args .rest) (rounding .round-signed .result) (rounded-rest rounding)
-    (some (natAbs (a .args .rest)) (λ e. c .if1 .left (rest-size (c .before) ∙ e))) (a .pre .1)
-  where
-    some : (m : ℕ) → (m ≡ 0 → ⊥) → 0 < m
-    some m h = omega (arith, h)
+    (pos-of-ne-zero (λ e. c .if1 .left (rest-size (c .before) ∙ e))) (a .pre .1)
 
 -- the scale less the exponent, as it is worked out
 module _ (c : tie.After-struct-told2) where

@@ -24,9 +24,6 @@ use Rattle.factor.specs.StoredLaws.{storable, applied-from}
 use Rattle.factor.proofs.set_up.Statement.{statement}
 use Rattle.factor.proofs.set_up.Tie as tie
 
-enum-told : tie.Need-enum-told
-enum-told c = search needs
-
 returns : tie.Need-returns
 unfolding setUp
 returns c = refuses (stop (only-refused 11 _ _ (sym (ap precisionSays (c .enum-told .given .1)) ∙ c .before .before .new .ensures))) _
@@ -180,5 +177,5 @@ returns-7 c =
 
 pub set-up-spec : {M : Type 1} → statement M
 set-up-spec =
-    tie.close (tie.spec (λ c κs. search needs) (λ c. search needs) enum-told returns ends-out-requires returns-2 returns-3 (λ c κs. search needs) returns-4 parts-at-requires parts-at-requires-2 returns-5
+    tie.close (tie.spec (λ c κs. search needs) (λ c. search needs) (λ c. search needs) returns ends-out-requires returns-2 returns-3 (λ c κs. search needs) returns-4 parts-at-requires parts-at-requires-2 returns-5
     (λ c κs. search needs) returns-6 stored-parts-requires returns-7)

@@ -1,7 +1,7 @@
 -- `round::locate_wide` meets its contract, as `locate` does. Assumes nothing.
 use mathlib.Core.Path.{_≡_, sym, _∙_}
-use Prim.Native.Nat.{_*_, _^_, _≤_, _<_}
-use native.Mathlib.Omega.{arith}
+use Prim.Native.Nat.{_*_, _^_, _≤_}
+use lib.Arith.{lt-of-le-ne}
 use borrow.Author.Needs.{needs}
 use borrow.Author.Tests.{eqb-true, eqb-false, ltb-true, ltb-false}
 use Rattle.rounding.specs.GridLaws.{located-exact, located-below, located-half, located-above}
@@ -49,10 +49,7 @@ returns-4 c =
     let r = valueOf (a .r) in
     let h = valueOf (after .wide-power .result) in
     let le : h ≤ r = ltb-false r h (sym (c .before .before .before .below .ensures) ∙ c .before .before .if2 .left) in
-    sym (located-above r h (2 ^ a .k) (half-is after) (apart-of r h le (eqb-false r h (sym (c .before .same2 .ensures) ∙ c .if3 .left))))
-  where
-    apart-of : (r h : Prim.Native.Nat.ℕ) → h ≤ r → (r ≡ h → ⊥) → h < r
-    apart-of r h l e = omega (arith, e)
+    sym (located-above r h (2 ^ a .k) (half-is after) (lt-of-le-ne le (λ e. eqb-false r h (sym (c .before .same2 .ensures) ∙ c .if3 .left) (sym e))))
 
 pub locate-wide-spec : {M : Type 1} → statement M
 locate-wide-spec =

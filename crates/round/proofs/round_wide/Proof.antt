@@ -1,9 +1,8 @@
 -- `round::round_wide` meets its contract: one word, or more than n digits, of which all but n are dropped. Assumes nothing.
 use mathlib.Core.Path.{_≡_, sym, ap, ap₂, _∙_}
 use Prim.Native.Nat.{ℕ, _+_, _-_, _/_, _%_, _^_, _≤_, _<_}
-use native.Mathlib.Nat.{mod-lt, lt-of-lt-of-le, le-of-eq, le-trans}
+use native.Mathlib.Nat.{mod-lt, lt-of-lt-of-le, le-of-eq}
 use native.Mathlib.Omega.{arith}
-use lib.Ieee.{size}
 use lib.Pow.{pow-pos, pow-mono}
 use borrow.Author.Needs.{needs}
 use Rattle.rounding.specs.declared.Location.{Location}
@@ -72,10 +71,7 @@ returns-2 c =
     let t : c .before .choose-neighbour .result ≡ nearest rule x (2 ^ k) = c .before .choose-neighbour .ensures ∙ ap₂ (λ (z r : ℕ). choose rule z (location r (2 ^ k))) q (located .before .low-digits .ensures) in
     c .normalise .ensures
     ∙ ap₂ (λ (z : ℕ) (m : Location). normalised (a .n) z k 0 m) t l
-    ∙ rounded-many rule (a .n) (d .before .before .pre .0) x (d .digits .result) (d .digits .ensures .0) (omega (arith, longer-pos x (d .digits .result) (d .digits .ensures .0) (long d))) (omega (arith, long d, d .before .before .pre .1))
-  where
-    longer-pos : (x b : ℕ) → b ≡ size x → 64 < b → 0 < x
-    longer-pos x b e h = le-trans (pow-pos 64) (lib.Ieee.Digits.size-reaches x 64 (lt-of-lt-of-le h (le-of-eq e)))
+    ∙ rounded-many rule (a .n) (d .before .before .pre .0) x (d .digits .result) (d .digits .ensures .0) (omega (arith, d .before .if1 .left)) (omega (arith, long d, d .before .before .pre .1))
 
 pub round-wide-spec : {M : Type 1} → statement M
 round-wide-spec =

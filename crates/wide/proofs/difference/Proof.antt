@@ -1,5 +1,5 @@
 -- `wide::difference` meets its contract: the laws of a difference by parts, at the base 2 ^ 64. Assumes nothing.
-use Prim.Native.Nat.{ℕ, _+_, _-_, _^_, _≤_, _<_}
+use Prim.Native.Nat.{_^_, _≤_, _<_}
 use native.Mathlib.Nat.{le-of-lt}
 use native.Mathlib.Omega.{arith}
 use borrow.Author.Needs.{needs}
@@ -8,16 +8,6 @@ use Rattle.wide.specs.Value.{valueOf}
 use Rattle.wide.specs.DifferenceLaws.{high-part-le, high-part-lt, difference-by-parts, difference-by-borrow}
 use Rattle.wide.proofs.difference.Statement.{statement}
 use Rattle.wide.proofs.difference.Tie as tie
-
--- plain facts on two words of which the first is the smaller
-gap-pos : (x y : ℕ) → x < y → 1 ≤ y - x
-gap-pos x y less = omega arith
-
-gap-le : (x y : ℕ) → y < 2 ^ 64 → y - x ≤ 2 ^ 64 - 1
-gap-le x y fits = omega arith
-
-gap-rest-lt : (x y : ℕ) → x < y → y < 2 ^ 64 → 2 ^ 64 - 1 - (y - x) + 1 < 2 ^ 64
-gap-rest-lt x y less fits = omega arith
 
 -- the high words, where one is borrowed
 less : (u v : Wide) → valueOf v ≤ valueOf u → u .lo < v .lo → v .hi < u .hi
@@ -48,16 +38,16 @@ sub-t6 c =
 sub-t7 : tie.Need-sub-t7
 sub-t7 c =
     let start = c .before .before .before .before .before in
-    gap-pos (start .args .v .hi) (start .args .u .hi) (less (start .args .u) (start .args .v) (start .pre) (c .before .before .if1 .left))
+    omega (arith, less (start .args .u) (start .args .v) (start .pre) (c .before .before .if1 .left))
 
 sub-t8 : tie.Need-sub-t8
 sub-t8 c = le-of-lt (c .before .before .before .before .if1 .left)
 
 sub-t9 : tie.Need-sub-t9
-sub-t9 c = gap-le _ _ (c .before .struct-known9 .given .1 .0 .fits)
+sub-t9 c = omega (arith, c .before .struct-known9 .given .1 .0 .fits)
 
 add-t10 : tie.Need-add-t10
-add-t10 c = record { fits = gap-rest-lt _ _ (c .before .before .before .before .if1 .left) (c .before .struct-known9 .given .1 .0 .fits) }
+add-t10 c = record { fits = omega (arith, c .before .before .before .before .if1 .left, c .before .struct-known9 .given .1 .0 .fits) }
 
 pub difference-spec : {M : Type 1} → statement M
 difference-spec = tie.close (tie.spec (λ c. search needs) returns sub-t6 sub-t7 sub-t8 sub-t9 add-t10 returns-2)

@@ -4,6 +4,7 @@ use Prim.Native.Nat.{ℕ, _+_, _*_, _/_, _%_, _≤_}
 use native.Mathlib.Omega.{arith}
 use Rattle.wide.specs.ProductLaws.{product-by-digits, columns, product-room}
 use Rattle.wide.proofs.Base.{B}
+use borrow.Author.Needs.{needs}
 use Rattle.wide.proofs.product.Statement.{statement}
 use Rattle.wide.proofs.product.Tie as tie
 
@@ -31,35 +32,7 @@ returns c =
     let b = c .args .b in
     columns B (a / B * (b / B)) (a / B * (b % B)) (a % B * (b / B)) (a % B * (b % B)) _ _ refl refl ∙ sym (product-by-digits B a b)
 
-mul-lowest : tie.Need-mul-lowest
-mul-lowest c = let known = parts c in omega arith
-
-mul-middle : tie.Need-mul-middle
-mul-middle c = let known = parts c in omega arith
-
-add-middle : tie.Need-add-middle
-add-middle c = let known = parts c in omega arith
-
-mul-next : tie.Need-mul-next
-mul-next c = let known = parts c in omega arith
-
-add-next : tie.Need-add-next
-add-next c = let known = parts c in omega arith
-
-mul-t10 : tie.Need-mul-t10
-mul-t10 c = let known = parts c in omega arith
-
-add-t12 : tie.Need-add-t12
-add-t12 c = let known = parts c in omega arith
-
-add-t14 : tie.Need-add-t14
-add-t14 c = let known = parts c in omega arith
-
-mul-t16 : tie.Need-mul-t16
-mul-t16 c = omega arith
-
-add-t18 : tie.Need-add-t18
-add-t18 c = omega arith
-
 pub product-spec : {M : Type 1} → statement M
-product-spec = tie.close (tie.spec mul-lowest mul-middle add-middle mul-next add-next mul-t10 add-t12 add-t14 mul-t16 add-t18 returns)
+product-spec =
+    tie.close (tie.spec (λ c. let known = parts c in omega arith) (λ c. let known = parts c in omega arith) (λ c. let known = parts c in omega arith) (λ c. let known = parts c in omega arith)
+    (λ c. let known = parts c in omega arith) (λ c. let known = parts c in omega arith) (λ c. let known = parts c in omega arith) (λ c. let known = parts c in omega arith) (λ c. search needs) (λ c. search needs) returns)
