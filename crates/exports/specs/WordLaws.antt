@@ -77,12 +77,6 @@ module _ (f : Factor) (W : Writable f) where
   places-narrow : f .parts .places < 2 ^ 32
   places-narrow = omega (arith, stored .low .shallow, W .sound .precision .most, W .sound .precision .scale)
 
-  high-narrow : toBits binary32 (f .applied .high) < 2 ^ 32
-  high-narrow = toBits-lt binary32 (f .applied .high) (W .high)
-
-  low-narrow : toBits binary32 (f .applied .low) < 2 ^ 32
-  low-narrow = toBits-lt binary32 (f .applied .low) (W .low)
-
   scale-held : mag (f .applied .scale) < 2 ^ 31
   scale-held = omega (arith, scale-small (f .applied .scale) (W .sound .scale))
 
@@ -96,8 +90,8 @@ module _ (f : Factor) (W : Writable f) where
       rw (
         not-past (f .precision .bits) bits-narrow,
         not-past (f .parts .places) places-narrow,
-        not-past (toBits binary32 (f .applied .high)) high-narrow,
-        not-past (toBits binary32 (f .applied .low)) low-narrow,
+        not-past (toBits binary32 (f .applied .high)) (toBits-lt binary32 (f .applied .high) (W .high)),
+        not-past (toBits binary32 (f .applied .low)) (toBits-lt binary32 (f .applied .low) (W .low)),
         not-past (unsigned 32 (f .applied .scale)) scale-narrow,
       )
 

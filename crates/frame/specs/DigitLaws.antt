@@ -1,29 +1,26 @@
 -- Digits that are printed are read back, and what is read is what would be printed. Assumes nothing.
 use mathlib.Core.Path.{_≡_, refl, sym, ap, ap₂, _∙_}
-use mathlib.Core.Bool.{true, false, and-false}
+use mathlib.Core.Bool.{Bool, true, false, cond, and-false}
 use mathlib.Core.List.{List, [], _∷_}
 use Prim.Native.Nat.{ℕ, zero, suc, _+_, _-_, _*_, _/_, _%_, _^_, _≤_, _<_}
 use native.Mathlib.Nat.{mod-lt, mod-one, div-one, div-div-eq-div-mul, pow-suc, pow-succ', one-le-pow, div-lt-iff-lt-mul, add-mul, mul-assoc, add-assoc}
-use native.Mathlib.Decide.{decLe, decLt}
+use native.Mathlib.Decide.{decLt}
 use native.Mathlib.Omega.{arith}
 use lib.Arith.{digits-div, digits-mod, mod-mul}
 use lib.Dec.{leb}
 use lib.ListN.{length}
-use borrow.Author.Tests.{lt-ltb, le-ltb, le-leb, lt-leb}
+use borrow.Author.Tests.{lt-ltb, le-ltb, leb-true, le-leb, lt-leb}
+use Rattle.marks.specs.AnswerLaws.{and-true}
 use Rattle.frame.specs.declared.Field.{Field}
 use Rattle.frame.specs.declared.Field.the-variants.{Value, Malformed}
 use Rattle.frame.specs.Digits.{digitByte, digits, hexDigits, between, digitValue, andThen, valueAfter}
 
 -- ---- the test
--- Between, below and above.
 pub between-in : (l h b : ℕ) → l ≤ b → b ≤ h → between l h b ≡ true
 between-in l h b p q = simp (le-leb l b p, le-leb b h q)
 
-pub between-under : (l h b : ℕ) → b < l → between l h b ≡ false
-between-under l h b p = simp (lt-leb l b p)
-
-pub between-over : (l h b : ℕ) → h < b → between l h b ≡ false
-between-over l h b p = simp (lt-leb b h p) (and-false (leb l b))
+between-tells : (l h b : ℕ) → between l h b ≡ true → (l ≤ b) × (b ≤ h)
+between-tells l h b e = let t = and-true (leb l b) (leb b h) e in (leb-true l b (t .0), leb-true b h (t .1))
 
 -- ---- one digit
 -- The digits up to nine, and those from ten on.
@@ -35,18 +32,14 @@ pub high-byte : (d : ℕ) → 10 ≤ d → digitByte d ≡ 65 + (d - 10)
 unfolding digitByte
 high-byte d h = rw (le-ltb d 10 h)
 
--- The bytes of the digits up to nine, those of the digits from ten on, and all others.
+-- The bytes of the digits up to nine, and those of the digits from ten on.
 pub low-value : (b : ℕ) → 48 ≤ b → b ≤ 57 → digitValue b ≡ Value (b - 48)
 unfolding digitValue
 low-value b p q = rw (between-in 48 57 b p q)
 
 pub high-value : (b : ℕ) → 65 ≤ b → b ≤ 70 → digitValue b ≡ Value (10 + (b - 65))
 unfolding digitValue
-high-value b p q = rw (between-over 48 57 b (omega arith), between-in 65 70 b p q)
-
-pub no-value : (b : ℕ) → between 48 57 b ≡ false → between 65 70 b ≡ false → digitValue b ≡ Malformed
-unfolding digitValue
-no-value b p q = rw (p, q)
+high-value b p q = simp (lt-leb b 57 (omega arith), and-false, between-in 65 70 b p q)
 
 -- A digit that is printed is read.
 pub digit-read : (d : ℕ) → d < 16 → digitValue (digitByte d) ≡ Value d
@@ -57,38 +50,25 @@ digit-read d h = by (decLt d 10)
     by (no q) =
         ap digitValue (high-byte d (omega (arith, q))) ∙ high-value (65 + (d - 10)) (omega arith) (omega (arith, q)) ∙ ap Value (omega (arith, q))
 
--- where a byte stands to the digits
-data Kind (b : ℕ) : Type 0 where
-  low : 48 ≤ b → b ≤ 57 → Kind b
-  high : 65 ≤ b → b ≤ 70 → Kind b
-  other : digitValue b ≡ Malformed → Kind b
-
-kind : (b : ℕ) → Kind b
-kind b = by (decLt b 48) (decLe b 57) (decLt b 65) (decLe b 70)
-  where
-    by : Dec (b < 48) → Dec (b ≤ 57) → Dec (b < 65) → Dec (b ≤ 70) → Kind b
-    by (yes p) q r s = other (no-value b (between-under 48 57 b p) (between-under 65 70 b (omega arith)))
-    by (no p) (yes q) r s = low (omega (arith, p)) q
-    by (no p) (no q) (yes r) s = other (no-value b (between-over 48 57 b (omega (arith, q))) (between-under 65 70 b r))
-    by (no p) (no q) (no r) (yes s) = high (omega (arith, r)) s
-    by (no p) (no q) (no r) (no s) = other (no-value b (between-over 48 57 b (omega (arith, q))) (between-over 65 70 b (omega (arith, s))))
-
 -- A field is not both.
 pub read-nothing : (f : Field) (v : ℕ) → f ≡ Malformed → f ≡ Value v → ⊥
 read-nothing f v p q = let z : _≡_ {A = ℕ} 0 1 = cc in omega arith
 
 -- A digit that is read is the one that is printed.
 pub digit-printed : (b d : ℕ) → digitValue b ≡ Value d → (digitByte d ≡ b) × (d < 16)
-digit-printed b d e = by (kind b)
+unfolding digitValue
+digit-printed b d e = by (between 48 57 b) refl (between 65 70 b) refl e
   where
-    by : Kind b → (digitByte d ≡ b) × (d < 16)
-    by (low p q) =
-        let f : b - 48 ≡ d = cc (low-value b p q) in
+    by : (s : Bool) → between 48 57 b ≡ s → (t : Bool) → between 65 70 b ≡ t → cond s (Value (b - 48)) (cond t (Value (10 + (b - 65))) Malformed) ≡ Value d → (digitByte d ≡ b) × (d < 16)
+    by true p t q e =
+        let within = between-tells 48 57 b p in
+        let f : b - 48 ≡ d = cc in
         (low-byte d (omega arith) ∙ omega arith, omega arith)
-    by (high p q) =
-        let f : 10 + (b - 65) ≡ d = cc (high-value b p q) in
+    by false p true q e =
+        let within = between-tells 65 70 b q in
+        let f : 10 + (b - 65) ≡ d = cc in
         (high-byte d (omega arith) ∙ omega arith, omega arith)
-    by (other p) = absurd (read-nothing (digitValue b) d p e)
+    by false p false q e = absurd (read-nothing Malformed d refl e)
 
 -- ---- several digits
 -- There are w of them.
@@ -105,11 +85,7 @@ value-read (suc w) u v =
     let d = v / 16 ^ w % 16 in
     ap (λ (f : Field). andThen f (λ (x : ℕ). valueAfter (u * 16 + x) (hexDigits w v))) (digit-read d (mod-lt (v / 16 ^ w) (omega arith)))
     ∙ value-read w (u * 16 + d) v
-    ∙ ap Value
-    (ap (λ (x : ℕ). x + v % 16 ^ w) (add-mul (u * 16) d (16 ^ w) ∙ ap (λ (x : ℕ). x + d * 16 ^ w) (mul-assoc u 16 (16 ^ w)))
-    ∙ add-assoc (u * (16 * 16 ^ w)) (d * 16 ^ w) (v % 16 ^ w)
-    ∙ ap (λ (x : ℕ). u * (16 * 16 ^ w) + x) (sym (mod-mul v (omega arith) (one-le-pow w 16 (omega arith))))
-    ∙ ap (λ (p : ℕ). u * p + v % p) (sym (pow-succ' 16 w)))
+    ∙ ap Value (simp (pow-succ', mod-mul v {m = 16} (omega arith) (one-le-pow w 16 (omega arith)), add-mul, mul-assoc, add-assoc))
 
 -- What digits were that were read after others whose value was u.
 pub record Printed (bytes : List ℕ) (u v : ℕ) : Type 0 where

@@ -64,31 +64,12 @@ module _ (d : Description) (p : Printable d) where
   abbrev text : List ℕ
   text = frameText d
 
-  -- each field of the line that is printed stands in its place
-  precision-read : precisionField text ≡ Value (d .precision)
-  unfolding frameText fieldAt digits
-  precision-read = read-back 2 (d .precision) (p .precision)
-
-  scale-read : scaleField text ≡ Value (byteOf (d .scale))
-  unfolding frameText fieldAt digits
-  scale-read = read-back 2 (byteOf (d .scale)) (byte-below (d .scale) (p .scale))
-
-  lower-read : lowerField text ≡ Value (d .lower)
-  unfolding frameText fieldAt digits
-  lower-read = read-back endDigits (d .lower) (p .lower)
-
-  upper-read : upperField text ≡ Value (d .upper)
-  unfolding frameText fieldAt digits
-  upper-read = read-back endDigits (d .upper) (p .upper)
-
-  spaced-out : spaced endDigits text ≡ true
-  unfolding frameText spaced digits
-  spaced-out = refl
-
-  -- The line that a frame's fields print is that frame.
+  -- The line that a frame's fields print is that frame: each field stands in its place.
   pub frame-read : frameOf text ≡ accepted d
+  unfolding frameText fieldAt digits spaced
   frame-read =
-      sym (frame-is text (ap not spaced-out) precision-read scale-read lower-read upper-read)
+      sym (frame-is text refl (read-back 2 (d .precision) (p .precision)) (read-back 2 (byteOf (d .scale)) (byte-below (d .scale) (p .scale)))
+      (read-back endDigits (d .lower) (p .lower)) (read-back endDigits (d .upper) (p .upper)))
       ∙ ap (λ (k : ℤ). accepted (record { precision = d .precision; scale = k; lower = d .lower; upper = d .upper })) (byte-signed (d .scale) (p .scale))
 
 -- ---- read, then printed

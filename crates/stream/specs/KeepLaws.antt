@@ -11,48 +11,39 @@ use lib.Seq.{length-take-le, take-suc-set, drop-cons}
 use borrow.Author.Tests.{eqb-false, ltb-true, ltb-false, lt-ltb, le-ltb, eq-eqb, ne-eqb}
 use Rattle.frame.specs.Lines.{lineFeed}
 use Rattle.stream.specs.Keep.{mostKept, keep, kept, upToFeed, Part}
-use Rattle.stream.specs.PieceLaws.{no-feed-join, reading, reading-byte, reading-long}
+use Rattle.stream.specs.PieceLaws.{by-test, no-feed-join, reading, reading-byte, reading-long}
 
 pub none-kept : Part []
 none-kept = record { plain = Prim.tt; short = omega arith }
 
 pub part-keep : (h : List ℕ) (b : ℕ) → ¬ (b ≡ lineFeed) → Part h → Part (keep h b)
-part-keep h b n p = go (ltb (length h) mostKept) refl
-  where
-    go : (t : Bool) → ltb (length h) mostKept ≡ t → Part (cond t (h ++ (b ∷ [])) h)
-    go true e =
-        let l : length h < mostKept = ltb-true (length h) mostKept e in
-        record { plain = no-feed-join h (b ∷ []) (p .plain) (n, Prim.tt); short = rw length-append (omega arith) }
-    go false e = p
+part-keep h b n p =
+    by-test (λ t. Part (cond t (h ++ (b ∷ [])) h)) (ltb (length h) mostKept)
+    (λ e. let l = ltb-true (length h) mostKept e in
+    record { plain = no-feed-join h (b ∷ []) (p .plain) (n, Prim.tt); short = rw length-append (omega arith) })
+    (λ e. p)
 
 reading-keep : (i b : ℕ) (h input : List ℕ) → ¬ (b ≡ lineFeed) → Part h → reading i h (b ∷ input) ≡ reading i (keep h b) input
-reading-keep i b h input n p = go (ltb (length h) mostKept) refl
-  where
-    go : (t : Bool) → ltb (length h) mostKept ≡ t → reading i h (b ∷ input) ≡ reading i (cond t (h ++ (b ∷ [])) h) input
-    go true e = reading-byte i b h input
-    go false e = reading-long i b h input (p .plain) n (ltb-false (length h) mostKept e)
+reading-keep i b h input n p =
+    by-test (λ t. reading i h (b ∷ input) ≡ reading i (cond t (h ++ (b ∷ [])) h) input) (ltb (length h) mostKept)
+    (λ e. reading-byte i b h input)
+    (λ e. reading-long i b h input (p .plain) n (ltb-false (length h) mostKept e))
 
 pub kept-part : (h input : List ℕ) → Part h → Part (kept h input)
 unfolding kept
 kept-part h [] p = p
-kept-part h (b ∷ input) p = go (kept-part (keep h b) input) (eqb b lineFeed) refl
-  where
-    go : (Part (keep h b) → Part (kept (keep h b) input)) → (t : Bool) → eqb b lineFeed ≡ t → Part (cond t h (kept (keep h b) input))
-    go more true e = p
-    go more false e = more (part-keep h b (eqb-false b lineFeed e) p)
+kept-part h (b ∷ input) p =
+    by-test (λ t. Part (cond t h (kept (keep h b) input))) (eqb b lineFeed) (λ e. p) (λ e. kept-part (keep h b) input (part-keep h b (eqb-false b lineFeed e) p))
 
 -- reading up to the line feed prints nothing
 pub reading-kept : (i : ℕ) (h input later : List ℕ) → Part h → reading i h (input ++ later) ≡ reading i (kept h input) (upToFeed input ++ later)
 unfolding kept upToFeed
 reading-kept i h [] later p = refl
-reading-kept i h (b ∷ input) later p = go (reading-kept i (keep h b) input later) (eqb b lineFeed) refl
-  where
-    go : (Part (keep h b) → reading i (keep h b) (input ++ later) ≡ reading i (kept (keep h b) input) (upToFeed input ++ later)) → (t : Bool) → eqb b lineFeed ≡ t
-        → reading i h (b ∷ (input ++ later)) ≡ reading i (cond t h (kept (keep h b) input)) (cond t (b ∷ input) (upToFeed input) ++ later)
-    go more true e = refl
-    go more false e =
-        let n : ¬ (b ≡ lineFeed) = eqb-false b lineFeed e in
-        reading-keep i b h (input ++ later) n p ∙ more (part-keep h b n p)
+reading-kept i h (b ∷ input) later p =
+    by-test (λ t. reading i h (b ∷ (input ++ later)) ≡ reading i (cond t h (kept (keep h b) input)) (cond t (b ∷ input) (upToFeed input) ++ later)) (eqb b lineFeed)
+    (λ e. refl)
+    (λ e. let n = eqb-false b lineFeed e in
+    reading-keep i b h (input ++ later) n p ∙ reading-kept i (keep h b) input later (part-keep h b n p))
 
 -- ---- the same in a buffer, of which the first so many bytes are kept
 module _ (l : List ℕ) (n b : ℕ) (size : length l ≡ mostKept) where
@@ -68,30 +59,17 @@ module _ (l : List ℕ) (n b : ℕ) (size : length l ≡ mostKept) where
 
 -- ---- and at a place of the input
 module _ (h l : List ℕ) (p : ℕ) where
-  pub kept-end : length l ≤ p → kept h (drop p l) ≡ h
-  unfolding kept
-  kept-end e = ap (kept h) (drop-of-length-le l e)
-
-  pub end-up : length l ≤ p → upToFeed (drop p l) ≡ drop p l
-  unfolding upToFeed
-  end-up e = ap upToFeed (drop-of-length-le l e) ∙ sym (drop-of-length-le l e)
+  -- where the line stops, for now or with its line feed
+  pub at-end : length l ≤ p → (kept h (drop p l) ≡ h) × (upToFeed (drop p l) ≡ drop p l)
+  unfolding kept upToFeed
+  at-end e = rw (drop-of-length-le l e) (refl, refl)
 
   module _ (i : p < length l) where
-    pub kept-feed : getD l p 0 ≡ lineFeed → kept h (drop p l) ≡ h
-    unfolding kept
-    kept-feed e = ap (kept h) (drop-cons l p 0 i) ∙ ap (λ (t : Bool). cond t h (kept (keep h (getD l p 0)) (drop (suc p) l))) (eq-eqb (getD l p 0) lineFeed e)
+    pub at-feed : getD l p 0 ≡ lineFeed → (kept h (drop p l) ≡ h) × (upToFeed (drop p l) ≡ drop p l)
+    unfolding kept upToFeed
+    at-feed e = rw (drop-cons l p 0 i, eq-eqb (getD l p 0) lineFeed e) (refl, refl)
 
-    pub feed-up : getD l p 0 ≡ lineFeed → upToFeed (drop p l) ≡ drop p l
-    unfolding upToFeed
-    feed-up e =
-        ap upToFeed (drop-cons l p 0 i)
-        ∙ ap (λ (t : Bool). cond t (getD l p 0 ∷ drop (suc p) l) (upToFeed (drop (suc p) l))) (eq-eqb (getD l p 0) lineFeed e)
-        ∙ sym (drop-cons l p 0 i)
-
-    pub kept-byte : ¬ (getD l p 0 ≡ lineFeed) → kept h (drop p l) ≡ kept (keep h (getD l p 0)) (drop (suc p) l)
-    unfolding kept
-    kept-byte n = ap (kept h) (drop-cons l p 0 i) ∙ ap (λ (t : Bool). cond t h (kept (keep h (getD l p 0)) (drop (suc p) l))) (ne-eqb (getD l p 0) lineFeed n)
-
-    pub byte-up : ¬ (getD l p 0 ≡ lineFeed) → upToFeed (drop p l) ≡ upToFeed (drop (suc p) l)
-    unfolding upToFeed
-    byte-up n = ap upToFeed (drop-cons l p 0 i) ∙ ap (λ (t : Bool). cond t (getD l p 0 ∷ drop (suc p) l) (upToFeed (drop (suc p) l))) (ne-eqb (getD l p 0) lineFeed n)
+    -- and where it goes on
+    pub at-byte : ¬ (getD l p 0 ≡ lineFeed) → (kept h (drop p l) ≡ kept (keep h (getD l p 0)) (drop (suc p) l)) × (upToFeed (drop p l) ≡ upToFeed (drop (suc p) l))
+    unfolding kept upToFeed
+    at-byte n = rw (drop-cons l p 0 i, ne-eqb (getD l p 0) lineFeed n) (refl, refl)

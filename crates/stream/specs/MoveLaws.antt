@@ -22,10 +22,11 @@ use Rattle.stream.specs.declared.Task.{Task}
 use Rattle.stream.specs.declared.Progress.{Progress}
 use Rattle.stream.specs.declared.Move.{Move}
 use Rattle.stream.specs.Output.{mostLines, judgedLine}
+use Rattle.stream.specs.PieceLaws.{by-test}
 use Rattle.stream.specs.Keep.{kept, upToFeed, Part, mostKept}
 use Rattle.stream.specs.KeepLaws.{none-kept, kept-part}
 use Rattle.stream.specs.Step.{begunWith, tallied, partLines, reportBy, mostWritten, Read, readOf, Stepped, atLine, judgedStep, lineStep, sweptStep, taskStep, stepOf, endTask, endOf}
-use Rattle.stream.specs.StepLaws.{judged-good, step-good}
+use Rattle.stream.specs.StepLaws.{reading-by, judged-good, step-good}
 use Rattle.stream.specs.Good.{GoodTask, Good, Fit}
 use Rattle.stream.specs.PartLaws.{part-short}
 use Rattle.stream.specs.Moves.{Turned, Moved}
@@ -128,8 +129,7 @@ module _ (p : Progress) (fit : Fit p) (input : List ℕ) (at : ℕ) (out : List 
       → Moved (stepOf (readOf p) ahead) input r out used after
   moved-swept t e h r after d =
       by-task (Task.Sweeping t) r after e
-      (subst (λ (s : Stepped). Moved s input r out used after)
-      (sym (swept-left (p .number) (tallied t) (tallied t .state .finished) (partLines (t .state)) ahead))
+      (rw (swept-left (p .number) (tallied t) (tallied t .state .finished) (partLines (t .state)) ahead)
       (record { fit = d .fit; read = d .read; inside = omega (arith, h, d .place); left = ap (λ (k : ℕ). drop k input) (d .place); bytes = d .bytes }))
 
   module _ (e : p .task ≡ Task.Reading) where
@@ -149,11 +149,7 @@ module _ (p : Progress) (fit : Fit p) (input : List ℕ) (at : ℕ) (out : List 
     module _ (few : p .number ≤ mostLines) (held : List ℕ) (n place : ℕ) (size : length held ≡ mostKept) (short : n ≤ mostKept)
         (keeps : take n held ≡ kept line ahead) (inside : place ≤ length input) (rest : drop place input ≡ upToFeed ahead) where
       reads : (r : Move) (after : List ℕ) → Moved (lineStep (p .number) (take n held) (drop place input)) input r out used after → Moved (stepOf (readOf p) ahead) input r out used after
-      reads r after d =
-          by-task Task.Reading r after e
-          (rw (le-leb (p .number) mostLines few)
-          (subst (λ (h : List ℕ). Moved (lineStep (p .number) h (upToFeed ahead)) input r out used after) keeps
-          (subst (λ (l : List ℕ). Moved (lineStep (p .number) (take n held) l) input r out used after) rest d)))
+      reads r after d = by-task Task.Reading r after e (rw (le-leb (p .number) mostLines few, ← keeps, ← rest) d)
 
       -- the input ends before the line does
       pub moved-kept : place ≡ length input
@@ -161,8 +157,7 @@ module _ (p : Progress) (fit : Fit p) (input : List ℕ) (at : ℕ) (out : List 
       moved-kept h =
           let none : drop place input ≡ [] = ap (λ (k : ℕ). drop k input) h ∙ drop-length input in
           reads _ out
-          (subst (λ (l : List ℕ). Moved (lineStep (p .number) (take n held) l) input (record { progress = record { number = p .number; held = held; length = n; task = Task.Reading }; at = place; used = used }) out used out)
-          (sym none)
+          (rw none
           (record {
             fit = record {
               size = size;
@@ -184,11 +179,8 @@ module _ (p : Progress) (fit : Fit p) (input : List ℕ) (at : ℕ) (out : List 
       moved-line h next r after d e =
           let i : place < length input = omega arith in
           reads r after
-          (subst (λ (l : List ℕ). Moved (lineStep (p .number) (take n held) l) input r out used after)
-          (sym (drop-cons input place 0 i))
-          (subst (λ (s : Stepped). Moved s input r out used after)
-          (sym (judged-left (p .number) (judgedLine (take n held)) (drop (suc place) input)))
-          (record { fit = d .fit; read = d .read; inside = omega (arith, d .place, e); left = ap (λ (k : ℕ). drop k input) (d .place ∙ e ∙ add-one place); bytes = d .bytes })))
+          (rw (drop-cons input place 0 i, judged-left (p .number) (judgedLine (take n held)) (drop (suc place) input))
+          (record { fit = d .fit; read = d .read; inside = omega (arith, d .place, e); left = ap (λ (k : ℕ). drop k input) (d .place ∙ e ∙ add-one place); bytes = d .bytes }))
 
 -- ---- the end of the input
 
@@ -213,11 +205,11 @@ module _ (p : Progress) (fit : Fit p) (out : List ℕ) (used : ℕ) where
     begun z = omega (arith, length-take-le (p .length) (p .held) (omega (arith, fit .size, fit .few)))
 
     pub end-past : mostLines < p .number → Written out used (endOf (readOf p)) out used
-    end-past h = go (take (p .length) (p .held)) refl
+    end-past h = end-by Task.Reading out used e (rw (past (take (p .length) (p .held))) (written-none out used))
       where
-        go : (l : List ℕ) → take (p .length) (p .held) ≡ l → Written out used (endOf (readOf p)) out used
-        go [] q = end-by Task.Reading out used e (rw q (written-none out used))
-        go (b ∷ l) q = end-by Task.Reading out used e (rw (q, lt-leb (p .number) mostLines h) (written-none out used))
+        past : (l : List ℕ) → endTask (p .number) l Task.Reading ≡ []
+        past [] = refl
+        past (b ∷ l) = rw (lt-leb (p .number) mostLines h)
 
     pub end-refused : ¬ (p .length ≡ 0) → p .number ≤ mostLines → (after : List ℕ) (next : ℕ) → Written out used (refusalLine (p .number) 24) after next → Written out used (endOf (readOf p)) after next
     end-refused z h after next w = end-by Task.Reading after next e (rw (some (take (p .length) (p .held)) (begun z), le-leb (p .number) mostLines h) w)
@@ -242,12 +234,8 @@ step-short r input = go (r .task)
   where
     go : (t : Task) → length (taskStep (r .number) (r .line) t input .bytes) ≤ mostWritten
     go (Task.Sweeping t) = swept-short (r .number) (tallied t) (tallied t .state .finished) (t .state) input
-    go Task.Reading = reads (leb (r .number) mostLines)
-      where
-        reads : (b : Bool)
-            → length (cond b (lineStep (r .number) (kept (r .line) input) (upToFeed input)) (record { read = record { number = r .number; line = r .line; task = Task.Reading }; left = []; bytes = [] }) .bytes) ≤ mostWritten
-        reads true = line-short (r .number) (kept (r .line) input) (upToFeed input)
-        reads false = omega arith
+    go Task.Reading =
+        reading-by (λ s. length (s .bytes) ≤ mostWritten) (r .number) (r .line) input (λ h. line-short (r .number) (kept (r .line) input) (upToFeed input)) (λ h. omega arith)
 
 -- so what a step leaves of the room is known
 pub with-room : (p : Progress) (input : List ℕ) (at : ℕ) (r : Move) (out : List ℕ) (used : ℕ) (after : List ℕ)
@@ -258,11 +246,8 @@ with-room p input at r out used after m = (m, omega (arith, m .bytes .place, ste
 end-short : (i : ℕ) (line : List ℕ) (t : Task) → length (endTask i line t) ≤ mostWritten
 end-short i line (Task.Sweeping t) = omega arith
 end-short i [] Task.Reading = omega arith
-end-short i (b ∷ line) Task.Reading = go (leb i mostLines)
-  where
-    go : (b : Bool) → length (cond b (refusalLine i 24) []) ≤ mostWritten
-    go true = omega (arith, length-refusal i 24)
-    go false = omega arith
+end-short i (b ∷ line) Task.Reading =
+    by-test (λ t. length (cond t (refusalLine i 24) []) ≤ mostWritten) (leb i mostLines) (λ e. omega (arith, length-refusal i 24)) (λ e. omega arith)
 
 pub end-room : (p : Progress) (out : List ℕ) (used : ℕ) (after : List ℕ) (next : ℕ)
     → Written out used (endOf (readOf p)) after next

@@ -1,6 +1,5 @@
 -- One sweep call of the program: what it answers, read off the suspects that are left. Assumes nothing.
 use mathlib.Core.Path.{_≡_, refl, sym, ap, _∙_}
-use mathlib.Core.Bool.{Bool, true, false, true≢false}
 use mathlib.Core.List.{List}
 use Prim.Native.Nat.{ℕ, _+_, _-_, _≤_}
 use native.Mathlib.Omega.{arith}
@@ -23,7 +22,7 @@ use Rattle.sweep.specs.Answers.{viewOf, codeOf, callOf, termsBy, replyOf}
 use Rattle.sweep.specs.Demand3.{call-by-row}
 use Rattle.stream.specs.declared.Tally.{Tally}
 use Rattle.stream.specs.Output.{markOf, isWrong, isOpen, counted, odds}
-use Rattle.stream.specs.SweepLaws.{length-lines, opens-are, wrongs-are}
+use Rattle.stream.specs.SweepLaws.{length-lines, told}
 use Rattle.stream.specs.Step.{listSize, noCap, leftOf, triedBy, triedOf, afterOf, stateAt, tallied, partLines}
 use Rattle.stream.specs.Good.{Going, Counted, addedTo, Addable}
 
@@ -54,15 +53,15 @@ module _ (t : Tally) (c : Counted t) (after : SweepState) (trials place : ℕ) (
   mark = markOf (s .factor)
 
   open-ones : opens ≡ counted isOpen mark (triedOf s)
-  open-ones = e ∙ ap odds (a .words) ∙ sym (opens-are mark (triedOf s))
+  open-ones = e ∙ ap odds (a .words) ∙ sym (told mark (triedOf s) .0)
 
   wrong-ones : place - opens ≡ counted isWrong mark (triedOf s)
-  wrong-ones = omega (arith, a .place, wrongs-are mark (triedOf s), opens-are mark (triedOf s), open-ones)
+  wrong-ones = omega (arith, a .place, told mark (triedOf s), open-ones)
 
   pub addable : Addable t trials place opens
   addable =
       let k : triedBy s ≤ length (leftOf s) = tries-within mark noCap listSize (leftOf s) in
-      let o : opens ≤ place = omega (arith, a .place, wrongs-are mark (triedOf s), opens-are mark (triedOf s), open-ones) in
+      let o : opens ≤ place = omega (arith, a .place, told mark (triedOf s), open-ones) in
       let f = a .fits in
       record {
         tried = omega (arith, a .trials, c .few);
@@ -77,17 +76,9 @@ module _ (t : Tally) (c : Counted t) (after : SweepState) (trials place : ℕ) (
 -- ---- the call
 
 -- what a reply tells
-abbrev trialsIn : Outcome Result → ℕ
-trialsIn (refused n) = 0
-trialsIn (accepted r) = r .trials
-
-abbrev placeIn : Outcome Result → ℕ
-placeIn (refused n) = 0
-placeIn (accepted r) = r .place
-
-abbrev isRefused : Outcome Result → Bool
-isRefused (refused n) = true
-isRefused (accepted r) = false
+abbrev resultIn : Outcome Result → Result
+resultIn (refused n) = record { trials = 0; rounds = 0; place = 0 }
+resultIn (accepted r) = r
 
 module _ (s : SweepState) (g : Going s) (list : List ℕ) (size : length list ≡ listSize) where
   not-refused : judged (conditions engine (viewOf s) (termsBy noCap (length list) 0)) ≡ none
@@ -115,17 +106,17 @@ module _ (s : SweepState) (g : Going s) (list : List ℕ) (size : length list �
   pub answered : (a : SweepAnswer) (left : List ℕ) → replyOf a left ≡ sweepCall engine (viewOf s) (callOf noCap list 0) → AnsweredBy s a left
   answered (SweepAnswer.Accepted r) left e =
       let all = e ∙ reply-is in
-      let p : r .place ≡ length (wordsBy s) = ap (λ (x : Reply Factor). placeIn (x .answer)) all ∙ omega arith in
+      let p : r .place ≡ length (wordsBy s) = ap (λ (x : Reply Factor). resultIn (x .answer) .place) all ∙ omega arith in
       let l : left ≡ sets list 0 (wordsBy s) = ap (λ (x : Reply Factor). x .list) all in
       record {
         state = ap (λ (x : Reply Factor). codeOf (x .state)) all;
-        trials = ap (λ (x : Reply Factor). trialsIn (x .answer)) all;
+        trials = ap (λ (x : Reply Factor). resultIn (x .answer) .trials) all;
         place = p;
         words = ap (λ (k : ℕ). take k left) p ∙ ap (take (length (wordsBy s))) l ∙ front;
         long = ap length l ∙ length-sets list 0 (wordsBy s) ∙ size;
         fits = few-words;
       }
-  answered (SweepAnswer.Refused r) left e = true≢false (ap (λ (x : Reply Factor). isRefused (x .answer)) (e ∙ reply-is))
+  answered (SweepAnswer.Refused r) left e = let z : _≡_ {A = ℕ} 0 1 = cc (ap (λ (x : Reply Factor). x .answer) (e ∙ reply-is)) in omega arith
 
 -- A part prints at most 576 bytes.
 pub part-short : (s : SweepState) → length (partLines s) ≤ 576

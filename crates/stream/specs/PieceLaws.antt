@@ -1,6 +1,6 @@
 -- The program while it reads a line: what is still to print, from the part of the line that is kept and the input to come. Assumes nothing.
 use mathlib.Core.Path.{_≡_, refl, sym, ap, _∙_}
-use mathlib.Core.Bool.{true, not}
+use mathlib.Core.Bool.{Bool, true, false, not}
 use mathlib.Core.List.{List, [], _∷_, _++_, append-assoc, append-nil}
 use Prim.Native.Nat.{ℕ, suc, _+_, _*_, _≤_, _<_}
 use native.Mathlib.Omega.{arith}
@@ -15,6 +15,11 @@ use Rattle.frame.specs.Frame.{endDigits, spaced, describedBy, frameOf}
 use Rattle.frame.specs.Report.{refusalLine}
 use Rattle.stream.specs.Keep.{mostKept, NoFeed}
 use Rattle.stream.specs.Output.{Pieces, before, put, pieces, mostLines, among, lastOutput, judgedLine, judgedOutput, lineOutput, linesOutput, output}
+
+-- what depends on a test, by its two answers
+pub by-test : (P : Bool → Type 0) (t : Bool) → (t ≡ true → P true) → (t ≡ false → P false) → P t
+by-test P true holds fails = holds refl
+by-test P false holds fails = fails refl
 
 pub no-feed-join : (l m : List ℕ) → NoFeed l → NoFeed m → NoFeed (l ++ m)
 no-feed-join [] m p q = q

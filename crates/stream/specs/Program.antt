@@ -13,7 +13,7 @@ use Rattle.stream.specs.declared.Next.{Next}
 use Rattle.stream.specs.declared.Task
 use Rattle.stream.specs.declared.Task.{Task}
 use Rattle.stream.specs.Output.{mostLines, output}
-use Rattle.stream.specs.PieceLaws.{reading-past}
+use Rattle.stream.specs.PieceLaws.{by-test, reading-past}
 use Rattle.stream.specs.Step.{mostWritten, Read, Stepped, sweepingTask, wantsStep, atLine, endOf}
 use Rattle.stream.specs.StepLaws.{restTask, restOf, begin-good, end-tells, begin-tells}
 use Rattle.stream.specs.Good.{Good}
@@ -32,6 +32,10 @@ idle Task.Reading [] w = record { reading = refl; empty = refl }
 idle Task.Reading (b ∷ left) w = absurd (true≢false w)
 idle (Task.Sweeping t) [] w = absurd (true≢false w)
 idle (Task.Sweeping t) (b ∷ left) w = absurd (true≢false w)
+
+-- nor would one be without a chunk
+idle-ended : (task : Task) (left : List ℕ) → wantsStep task left ≡ false → wantsStep task [] ≡ false
+idle-ended task left w = ap sweepingTask (idle task left w .reading)
 
 -- what each answer says of the two tests
 again-wanted : (wanted few : Bool) → nextIf wanted few ≡ Next.Again → wanted ≡ true
@@ -64,37 +68,20 @@ due r left chunks = cond (wantsStep (r .task) left) (restOf r (left ++ inputOf c
 -- after a read
 read-due : (r : Read) (left : List ℕ) → wantsStep (r .task) left ≡ false → (chunks : List (List ℕ)) → restOf r (inputOf chunks) ≡ due r (chunkOf chunks) (chunksAfter chunks)
 unfolding inputOf
-read-due r left w chunks = go chunks
-  where
-    ended : wantsStep (r .task) [] ≡ false
-    ended = let i = idle (r .task) left w in ap sweepingTask (i .reading)
-
-    go : (chunks : List (List ℕ)) → restOf r (inputOf chunks) ≡ due r (chunkOf chunks) (chunksAfter chunks)
-    go [] = rw ended
-    go ([] ∷ chunks) = rw ended
-    go ((b ∷ chunk) ∷ chunks) = refl
+read-due r left w [] = rw (idle-ended (r .task) left w)
+read-due r left w ([] ∷ chunks) = rw (idle-ended (r .task) left w)
+read-due r left w ((b ∷ chunk) ∷ chunks) = refl
 
 -- after steps
 steps-due : (r : Read) (left : List ℕ) (chunks : List (List ℕ))
     → restOf r (left ++ inputOf chunks) ≡ onward (nextOf r left) (due r left chunks) (due r (chunkOf chunks) (chunksAfter chunks))
-steps-due r left chunks = go (wantsStep (r .task) left) refl
-  where
-    later : List ℕ
-    later = inputOf chunks
-
-    more : List ℕ
-    more = due r (chunkOf chunks) (chunksAfter chunks)
-
-    Due : Bool → Bool → Type 0
-    Due b few = restOf r (left ++ later) ≡ onward (nextIf b few) (cond b (restOf r (left ++ later)) (restOf r [])) more
-
-    unwanted : wantsStep (r .task) left ≡ false → (few : Bool) → leb (r .number) mostLines ≡ few → Due false few
-    unwanted w true e = ap (λ (l : List ℕ). restOf r (l ++ later)) (idle (r .task) left w .empty) ∙ read-due r left w chunks
-    unwanted w false e = nothing-lost r left (rw (w, e)) (left ++ later)
-
-    go : (b : Bool) → wantsStep (r .task) left ≡ b → Due b (leb (r .number) mostLines)
-    go true w = refl
-    go false w = unwanted w (leb (r .number) mostLines) refl
+steps-due r left chunks =
+    let all = restOf r (left ++ inputOf chunks) in
+    let more = due r (chunkOf chunks) (chunksAfter chunks) in
+    by-test (λ b. all ≡ onward (nextIf b (leb (r .number) mostLines)) (cond b all (restOf r [])) more) (wantsStep (r .task) left) (λ w. refl)
+    (λ w. by-test (λ few. all ≡ onward (nextIf false few) (restOf r []) more) (leb (r .number) mostLines)
+    (λ e. ap (λ (l : List ℕ). restOf r (l ++ inputOf chunks)) (idle (r .task) left w .empty) ∙ read-due r left w chunks)
+    (λ e. nothing-lost r left (rw (w, e)) (left ++ inputOf chunks)))
 
 -- ---- one turn
 
@@ -110,45 +97,34 @@ module _ (room : ℕ) (r : Read) (g : Good r) (left : List ℕ) where
 
   after-good : Good after
   unfolding workOf
-  after-good = go (wantsStep (r .task) left)
-    where
-      go : (b : Bool) → Good (workIf b room r left .steps .read)
-      go true = steps-good (length left + room) room r g left
-      go false = g
+  after-good = by-test (λ b. Good (workIf b room r left .steps .read)) (wantsStep (r .task) left) (λ w. steps-good (length left + room) room r g left) (λ w. g)
 
   module _ (chunks : List (List ℕ)) where
     -- A turn loses nothing: what it writes, and what is due after it, is what was due.
     turn-tells : due r left chunks ≡ work .steps .bytes ++ onward (work .next) (due after (work .steps .left) chunks) (due after (chunkOf chunks) (chunksAfter chunks))
     unfolding workOf
-    turn-tells = go (wantsStep (r .task) left) refl
-      where
-        go : (b : Bool) → wantsStep (r .task) left ≡ b
-            → cond b (restOf r (left ++ inputOf chunks)) (restOf r [])
-            ≡ workIf b room r left .steps .bytes ++ onward (workIf b room r left .next) (due (workIf b room r left .steps .read) (workIf b room r left .steps .left) chunks) (due (workIf b room r left .steps .read) (chunkOf chunks) (chunksAfter chunks))
-        go true w = steps-tell (inputOf chunks) (length left + room) room r g left ∙ ap (λ (l : List ℕ). steps .bytes ++ l) (steps-due (steps .read) (steps .left) chunks)
-        go false w = end-tells r g (idle (r .task) left w .reading) ∙ sym (append-nil (endOf r))
+    turn-tells =
+        let all : Batch → List ℕ = λ w. w .steps .bytes ++ onward (w .next) (due (w .steps .read) (w .steps .left) chunks) (due (w .steps .read) (chunkOf chunks) (chunksAfter chunks)) in
+        by-test (λ b. cond b (restOf r (left ++ inputOf chunks)) (restOf r []) ≡ all (workIf b room r left)) (wantsStep (r .task) left)
+        (λ w. steps-tell (inputOf chunks) (length left + room) room r g left ∙ ap (λ (l : List ℕ). steps .bytes ++ l) (steps-due (steps .read) (steps .left) chunks))
+        (λ w. end-tells r g (idle (r .task) left w .reading) ∙ sym (append-nil (endOf r)))
 
   -- a turn that goes on without a read has written something
   again-writes : mostWritten ≤ room → work .next ≡ Next.Again → 0 < length (work .steps .bytes)
   unfolding workOf
-  again-writes h = go (wantsStep (r .task) left)
-    where
-      go : (b : Bool) → workIf b room r left .next ≡ Next.Again → 0 < length (workIf b room r left .steps .bytes)
-      go true e =
-          let full = steps-end (length left + room) room r g left (omega arith) (again-wanted (wantsStep (steps .read .task) (steps .left)) (leb (steps .read .number) mostLines) e) in
-          omega arith
-      go false e = let z : _≡_ {A = ℕ} 0 1 = cc in absurd (omega arith)
+  again-writes h =
+      by-test (λ b. workIf b room r left .next ≡ Next.Again → 0 < length (workIf b room r left .steps .bytes)) (wantsStep (r .task) left)
+      (λ w e. let full = steps-end (length left + room) room r g left (omega arith) (again-wanted (wantsStep (steps .read .task) (steps .left)) (leb (steps .read .number) mostLines) e) in
+      omega arith)
+      (λ w e. let z : _≡_ {A = ℕ} 0 1 = cc in absurd (omega arith))
 
   -- a turn that reads wants no step
   read-ended : work .next ≡ Next.Read → wantsStep (after .task) [] ≡ false
   unfolding workOf
-  read-ended = go (wantsStep (r .task) left)
-    where
-      go : (b : Bool) → workIf b room r left .next ≡ Next.Read → wantsStep (workIf b room r left .steps .read .task) [] ≡ false
-      go true e =
-          let unwanted = read-unwanted (wantsStep (steps .read .task) (steps .left)) (leb (steps .read .number) mostLines) e in
-          ap sweepingTask (idle (steps .read .task) (steps .left) unwanted .reading)
-      go false e = let z : _≡_ {A = ℕ} 0 1 = cc in absurd (omega arith)
+  read-ended =
+      by-test (λ b. workIf b room r left .next ≡ Next.Read → wantsStep (workIf b room r left .steps .read .task) [] ≡ false) (wantsStep (r .task) left)
+      (λ w e. idle-ended (steps .read .task) (steps .left) (read-unwanted (wantsStep (steps .read .task) (steps .left)) (leb (steps .read .number) mostLines) e))
+      (λ w e. let z : _≡_ {A = ℕ} 0 1 = cc in absurd (omega arith))
 
 -- ---- the program is cut short
 
@@ -189,47 +165,31 @@ record Completes (room : ℕ) (r : Read) (left : List ℕ) (chunks : List (List 
   all : (m : ℕ) → turns ≤ m → loopOutput m room r left chunks ≡ due r left chunks
 
 module _ (room : ℕ) (h : mostWritten ≤ room) where
-  -- one turn, and what comes after it
+  -- one turn, where from so many turns on all is written that is due after it
+  by-turn : (r : Read) (g : Good r) (left : List ℕ) (chunks : List (List ℕ)) (turns : ℕ) → let w = workOf room r left in
+      ((m : ℕ) → turns ≤ m → onward (w .next) (loopOutput m room (w .steps .read) (w .steps .left) chunks) (loopOutput m room (w .steps .read) (chunkOf chunks) (chunksAfter chunks))
+      ≡ onward (w .next) (due (w .steps .read) (w .steps .left) chunks) (due (w .steps .read) (chunkOf chunks) (chunksAfter chunks)))
+      → Completes room r left chunks
+  unfolding loopOutput
+  by-turn r g left chunks turns f = record { turns = suc turns; all = all }
+    where
+      all : (m : ℕ) → suc turns ≤ m → loopOutput m room r left chunks ≡ due r left chunks
+      all zero k = absurd (omega arith)
+      all (suc m) k = ap (λ (l : List ℕ). workOf room r left .steps .bytes ++ l) (f m (omega arith)) ∙ sym (turn-tells room r g left chunks)
+
+  -- by what comes after it
   turn-completes : (r : Read) (g : Good r) (left : List ℕ) (chunks : List (List ℕ)) (n : Next) → workOf room r left .next ≡ n
       → (n ≡ Next.Again → Completes room (workOf room r left .steps .read) (workOf room r left .steps .left) chunks)
       → (n ≡ Next.Read → Completes room (workOf room r left .steps .read) (chunkOf chunks) (chunksAfter chunks))
       → Completes room r left chunks
-  unfolding loopOutput
-  turn-completes r g left chunks n e again more = go n e again more
-    where
-      w : Batch
-      w = workOf room r left
-
-      onwards : (a c : List ℕ) → List ℕ
-      onwards a c = w .steps .bytes ++ onward (w .next) a c
-
-      told : due r left chunks ≡ onwards (due (w .steps .read) (w .steps .left) chunks) (due (w .steps .read) (chunkOf chunks) (chunksAfter chunks))
-      told = turn-tells room r g left chunks
-
-      by : (turns : ℕ)
-          → ((m : ℕ) → turns ≤ m → onward (w .next) (loopOutput m room (w .steps .read) (w .steps .left) chunks) (loopOutput m room (w .steps .read) (chunkOf chunks) (chunksAfter chunks))
-          ≡ onward (w .next) (due (w .steps .read) (w .steps .left) chunks) (due (w .steps .read) (chunkOf chunks) (chunksAfter chunks)))
-          → Completes room r left chunks
-      by turns f = record { turns = suc turns; all = all }
-        where
-          all : (m : ℕ) → suc turns ≤ m → loopOutput m room r left chunks ≡ due r left chunks
-          all zero k = absurd (omega arith)
-          all (suc m) k = ap (λ (l : List ℕ). w .steps .bytes ++ l) (f m (omega arith)) ∙ sym told
-
-      go : (n : Next) → w .next ≡ n
-          → (n ≡ Next.Again → Completes room (w .steps .read) (w .steps .left) chunks)
-          → (n ≡ Next.Read → Completes room (w .steps .read) (chunkOf chunks) (chunksAfter chunks))
-          → Completes room r left chunks
-      go Next.Again e again more = let c = again refl in by (c .turns) (λ m k. rw e (c .all m k))
-      go Next.Read e again more = let c = more refl in by (c .turns) (λ m k. rw e (c .all m k))
-      go Next.Stop e again more = by 0 (λ m k. rw e)
+  turn-completes r g left chunks Next.Again e again more = let c = again refl in by-turn r g left chunks (c .turns) (λ m k. rw e (c .all m k))
+  turn-completes r g left chunks Next.Read e again more = let c = more refl in by-turn r g left chunks (c .turns) (λ m k. rw e (c .all m k))
+  turn-completes r g left chunks Next.Stop e again more = by-turn r g left chunks 0 (λ m k. rw e)
 
   -- nothing is left to read
   ended-completes : (r : Read) → Good r → wantsStep (r .task) [] ≡ false → (chunks : List (List ℕ)) → Completes room r [] chunks
   unfolding workOf
-  ended-completes r g w chunks =
-      let stop : workOf room r [] .next ≡ Next.Stop = rw w in
-      turn-completes r g [] chunks Next.Stop stop (λ e. let z : _≡_ {A = ℕ} 0 1 = cc in absurd (omega arith)) (λ e. let z : _≡_ {A = ℕ} 0 1 = cc in absurd (omega arith))
+  ended-completes r g w chunks = let stop : workOf room r [] .next ≡ Next.Stop = rw w in by-turn r g [] chunks 0 (λ m k. rw stop)
 
   -- a turn that goes on without a read leaves less to print
   fewer : (r : Read) (g : Good r) (left : List ℕ) (chunks : List (List ℕ)) → workOf room r left .next ≡ Next.Again
@@ -240,22 +200,19 @@ module _ (room : ℕ) (h : mostWritten ≤ room) where
       let told : due r left chunks ≡ w .steps .bytes ++ again = turn-tells room r g left chunks ∙ rw e in
       omega (arith, again-writes room r g left h e, ap length told, length-append (w .steps .bytes) again)
 
-  -- a chunk, of which so much is still to print
+  -- a chunk, of which less than so much is still to print
   chunk-completes : (chunks : List (List ℕ))
       → ((r : Read) → Good r → wantsStep (r .task) [] ≡ false → Completes room r (chunkOf chunks) (chunksAfter chunks))
-      → (n : ℕ) (r : Read) → Good r → (left : List ℕ) → length (due r left chunks) ≤ n → Completes room r left chunks
-  chunk-completes chunks later zero r g left k =
-      turn-completes r g left chunks (workOf room r left .next) refl
-      (λ e. absurd (omega (arith, fewer r g left chunks e)))
-      (λ e. later (workOf room r left .steps .read) (after-good room r g left) (read-ended room r g left e))
+      → (n : ℕ) (r : Read) → Good r → (left : List ℕ) → length (due r left chunks) < n → Completes room r left chunks
+  chunk-completes chunks later zero r g left k = absurd (omega arith)
   chunk-completes chunks later (suc n) r g left k =
       turn-completes r g left chunks (workOf room r left .next) refl
       (λ e. chunk-completes chunks later n (workOf room r left .steps .read) (after-good room r g left) (workOf room r left .steps .left) (omega (arith, fewer r g left chunks e)))
       (λ e. later (workOf room r left .steps .read) (after-good room r g left) (read-ended room r g left e))
 
   completes : (chunks : List (List ℕ)) (r : Read) → Good r → (left : List ℕ) → Completes room r left chunks
-  completes [] r g left = chunk-completes [] (λ s q w. ended-completes s q w []) (length (due r left [])) r g left (omega arith)
-  completes (chunk ∷ chunks) r g left = chunk-completes (chunk ∷ chunks) (λ s q w. completes chunks s q chunk) (length (due r left (chunk ∷ chunks))) r g left (omega arith)
+  completes [] r g left = chunk-completes [] (λ s q w. ended-completes s q w []) (suc (length (due r left []))) r g left (omega arith)
+  completes (chunk ∷ chunks) r g left = chunk-completes (chunk ∷ chunks) (λ s q w. completes chunks s q chunk) (suc (length (due r left (chunk ∷ chunks)))) r g left (omega arith)
 
 -- The program comes to an end, and has then written the output of its input: from so many turns on. Chunk sizes cannot matter.
 pub record Ends (room : ℕ) (chunks : List (List ℕ)) : Type 0 where

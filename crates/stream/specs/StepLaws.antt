@@ -1,19 +1,17 @@
 -- A step of the program loses nothing: the bytes that it writes, and what is still to print after it, are what was to print before. Assumes nothing.
 use mathlib.Core.Path.{_≡_, refl, sym, ap, _∙_}
-use mathlib.Core.Bool.{Bool, true, false, cond, false≢true}
+use mathlib.Core.Bool.{Bool, true, cond}
 use mathlib.Core.List.{List, [], _∷_, _++_, append-assoc}
 use Prim.Native.Nat.{ℕ, suc, _+_, _-_, _*_, _^_, _≤_, _<_}
 use native.Mathlib.Nat.{pow-suc}
-use native.Mathlib.Decide.{decLe}
 use native.Mathlib.Omega.{arith}
 use lib.Dec.{eqb, leb}
 use lib.Pow.{pow-pos, pow-mono}
 use lib.ListN.{length, take-append-drop, length-drop}
 use lib.Seq.{length-take-le}
-use borrow.Author.Tests.{eqb-true, le-leb, lt-leb, le-ltb}
+use borrow.Author.Tests.{eqb-true, leb-true, leb-false, le-leb, lt-leb, le-ltb}
 use Rattle.frame.specs.Lines.{lineFeed}
 use Rattle.frame.specs.Report.{reportLine}
-use Rattle.marks.specs.declared.Mark.{Mark}
 use Rattle.marks.specs.Answers.{Outcome, refused, accepted, andThen}
 use Rattle.factor.specs.declared.Description.{Description}
 use Rattle.factor.specs.declared.Factor.{Factor}
@@ -30,9 +28,9 @@ use Rattle.sweep.specs.Engine.{suspect}
 use Rattle.stream.specs.declared.Tally.{Tally}
 use Rattle.stream.specs.declared.Task
 use Rattle.stream.specs.declared.Task.{Task}
-use Rattle.stream.specs.Output.{mostLines, among, suspectsOf, markOf, isWrong, isOpen, counted, judgedLine, judgedOutput, lastOutput, lineOutput, output}
-use Rattle.stream.specs.PieceLaws.{reading, reading-all, reading-feed, reading-end, reading-past}
-use Rattle.stream.specs.SweepLaws.{opens-are, wrongs-are, words-few, sweeping, sweeping-all, sweeping-some, sweeping-none}
+use Rattle.stream.specs.Output.{mostLines, among, suspectsOf, markOf, judgedLine, judgedOutput, lastOutput, lineOutput, output}
+use Rattle.stream.specs.PieceLaws.{by-test, reading, reading-all, reading-feed, reading-end, reading-past}
+use Rattle.stream.specs.SweepLaws.{told, sweeping, sweeping-all, sweeping-some, sweeping-none}
 use Rattle.stream.specs.Keep.{kept, upToFeed, Part}
 use Rattle.stream.specs.KeepLaws.{none-kept, kept-part, reading-kept}
 use Rattle.stream.specs.Good.{Going, Counted, GoodTask, Good}
@@ -99,14 +97,6 @@ module _ (f : Factor) (whole : intact f ≡ true) where
       let l = least-most in
       ap (row (suspect f) (leastOf n)) (omega arith)
 
-abbrev headOr : ℕ → List ℕ → ℕ
-headOr d [] = d
-headOr d (x ∷ l) = x
-
-abbrev isCons : List ℕ → Bool
-isCons [] = false
-isCons (x ∷ l) = true
-
 -- a line is accepted only with a factor that is intact
 pub judged-intact : (line : List ℕ) (f : Factor) → judgedLine line ≡ accepted f → intact f ≡ true
 unfolding judgedLine
@@ -120,12 +110,15 @@ judged-intact line f e = go (frameOf line) e
 
 up-head : (input : List ℕ) (b : ℕ) (rest : List ℕ) → upToFeed input ≡ b ∷ rest → b ≡ lineFeed
 unfolding upToFeed
-up-head [] b rest e = absurd (false≢true (ap isCons e))
-up-head (x ∷ input) b rest e = go (up-head input b rest) (eqb x lineFeed) refl e
-  where
-    go : (upToFeed input ≡ b ∷ rest → b ≡ lineFeed) → (t : Bool) → eqb x lineFeed ≡ t → cond t (x ∷ input) (upToFeed input) ≡ b ∷ rest → b ≡ lineFeed
-    go more true q e = sym (ap (headOr 0) e) ∙ eqb-true x lineFeed q
-    go more false q e = more e
+up-head [] b rest e = let z : _≡_ {A = ℕ} 0 1 = cc in absurd (omega arith)
+up-head (x ∷ input) b rest e =
+    by-test (λ t. cond t (x ∷ input) (upToFeed input) ≡ b ∷ rest → b ≡ lineFeed) (eqb x lineFeed) (λ q e. cc (eqb-true x lineFeed q)) (λ q e. up-head input b rest e) e
+
+-- while a line is read: it counts, or it comes after the last that does
+pub reading-by : (P : Stepped → Type 0) (i : ℕ) (line input : List ℕ) → (i ≤ mostLines → P (lineStep i (kept line input) (upToFeed input))) → (mostLines < i → P (lineStep i line []))
+    → P (taskStep i line Task.Reading input)
+reading-by P i line input counts past =
+    by-test (λ t. P (cond t (lineStep i (kept line input) (upToFeed input)) (lineStep i line []))) (leb i mostLines) (λ e. counts (leb-true i mostLines e)) (λ e. past (leb-false i mostLines e))
 
 module _ (later : List ℕ) where
   -- what a step must do
@@ -184,13 +177,10 @@ module _ (later : List ℕ) where
 
   reading-tells : (i : ℕ) (line input : List ℕ) → Part line → Tells (reading i line (input ++ later)) (taskStep i line Task.Reading input)
   unfolding restOf
-  reading-tells i line input p = go (decLe i mostLines)
-    where
-      go : Dec (i ≤ mostLines) → Tells (reading i line (input ++ later)) (taskStep i line Task.Reading input)
-      go (yes h) =
-          rw (le-leb i mostLines h)
-          (reading-kept i line input later p ∙ line-tells i (kept line input) (upToFeed input) (kept-part line input p) h (λ b l e. up-head input b l e))
-      go (no h) = rw (lt-leb i mostLines (omega arith)) (reading-past i line (input ++ later) (omega arith) ∙ sym (reading-past i line later (omega arith)))
+  reading-tells i line input p =
+      reading-by (Tells (reading i line (input ++ later))) i line input
+      (λ h. reading-kept i line input later p ∙ line-tells i (kept line input) (upToFeed input) (kept-part line input p) h (λ b l e. up-head input b l e))
+      (λ h. reading-past i line (input ++ later) h ∙ sym (reading-past i line later h))
 
   -- A step loses nothing.
   pub step-tells : (r : Read) → Good r → (input : List ℕ) → Tells (restOf r (input ++ later)) (stepOf r input)
@@ -203,9 +193,6 @@ module _ (later : List ℕ) where
 
 -- ---- what holds of all that was read, after a step
 
-counted-few : (mark : ℕ → Mark) (l : List ℕ) → counted isWrong mark l + counted isOpen mark l ≤ length l
-counted-few mark l = omega (arith, opens-are mark l, wrongs-are mark l, words-few mark l)
-
 -- the counts after a part
 pub tallied-counted : (t : Tally) (l : List ℕ) → afterOf (t .state) ≡ l → leftOf (stateAt (t .state) (headOf l)) ≡ l → Counted t → Counted (talliedTo t l)
 tallied-counted t l e left c =
@@ -214,7 +201,7 @@ tallied-counted t l e left c =
     let size : length (leftOf s) - triedBy s ≡ length l = sym (length-drop (triedBy s) (leftOf s)) ∙ ap length e in
     record {
       few = omega (arith, c .few, ap length left);
-      failing = omega (arith, c .failing, counted-few (markOf (s .factor)) (triedOf s), length-take-le (triedBy s) (leftOf s) k);
+      failing = omega (arith, c .failing, told (markOf (s .factor)) (triedOf s), length-take-le (triedBy s) (leftOf s) k);
     }
 
 part-good : (i : ℕ) (t : Tally) (input : List ℕ) → i ≤ mostLines → Going (t .state) → Counted t → Good (taskStep i [] (Task.Sweeping t) input .read)
@@ -253,11 +240,10 @@ step-good r g input = go (r .task) (g .task)
   where
     go : (t : Task) → GoodTask (r .number) t → Good (taskStep (r .number) (r .line) t input .read)
     go (Task.Sweeping t) q = part-good (r .number) t input (q .0) (q .1) (q .2)
-    go Task.Reading q = reads (decLe (r .number) mostLines)
-      where
-        reads : Dec (r .number ≤ mostLines) → Good (taskStep (r .number) (r .line) Task.Reading input .read)
-        reads (yes h) = rw (le-leb (r .number) mostLines h) (line-good (r .number) (kept (r .line) input) (upToFeed input) h (kept-part (r .line) input (g .line)))
-        reads (no h) = rw (lt-leb (r .number) mostLines (omega arith)) (record { number = g .number; line = g .line; task = Prim.tt })
+    go Task.Reading q =
+        reading-by (λ s. Good (s .read)) (r .number) (r .line) input
+        (λ h. line-good (r .number) (kept (r .line) input) (upToFeed input) h (kept-part (r .line) input (g .line)))
+        (λ h. record { number = g .number; line = g .line; task = Prim.tt })
 
 -- ---- at the end of the input
 
@@ -266,11 +252,7 @@ unfolding restOf endOf
 end-tells r g e = rw e (reading-end (r .number) (r .line) (g .line .plain) ∙ go (r .line))
   where
     go : (l : List ℕ) → among (r .number) (lastOutput (r .number) l) ≡ endTask (r .number) l Task.Reading
-    go [] = none (leb (r .number) mostLines)
-      where
-        none : (t : Bool) → _≡_ {A = List ℕ} (cond t [] []) []
-        none true = refl
-        none false = refl
+    go [] = by-test (λ t. _≡_ {A = List ℕ} (cond t [] []) []) (leb (r .number) mostLines) (λ e. refl) (λ e. refl)
     go (b ∷ l) = refl
 
 -- ---- and at the beginning

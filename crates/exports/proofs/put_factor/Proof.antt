@@ -9,33 +9,6 @@ use borrow.Author.Needs.{needs}
 use Rattle.exports.proofs.put_factor.Statement.{statement}
 use Rattle.exports.proofs.put_factor.Tie as tie
 
-slice-write-out-2 : tie.Need-slice-write-out-2
-slice-write-out-2 c = simp length-set (omega arith)
-
-slice-write-out-3 : tie.Need-slice-write-out-3
-slice-write-out-3 c = simp length-set (omega arith)
-
-slice-write-out-4 : tie.Need-slice-write-out-4
-slice-write-out-4 c = simp length-set (omega arith)
-
-slice-write-out-5 : tie.Need-slice-write-out-5
-slice-write-out-5 c = simp length-set (omega arith)
-
-slice-write-out-6 : tie.Need-slice-write-out-6
-slice-write-out-6 c = simp length-set (omega arith)
-
-slice-write-out-7 : tie.Need-slice-write-out-7
-slice-write-out-7 c = simp length-set (omega arith)
-
-slice-write-out-8 : tie.Need-slice-write-out-8
-slice-write-out-8 c = simp length-set (omega arith)
-
-slice-write-out-9 : tie.Need-slice-write-out-9
-slice-write-out-9 c = simp length-set (omega arith)
-
-same-length : tie.Need-same-length
-same-length c = simp length-set
-
 low-is : (c : tie.Start) → toZ w64 (ofZ w64 (c .args .f .parts .low)) ≡ c .args .f .parts .low
 low-is c = search needs
 
@@ -54,5 +27,7 @@ returns c =
 
 pub put-factor-spec : {M : Type 1} → statement M
 put-factor-spec =
-    tie.close (tie.spec (λ c. search needs) (λ c. search needs) slice-write-out-2 slice-write-out-3 slice-write-out-4 (λ c κs. search needs) slice-write-out-5 (λ c. search needs) slice-write-out-6 (λ c κs. search needs)
-    (λ c. search needs) slice-write-out-7 (λ c κs. search needs) (λ c. search needs) slice-write-out-8 (λ c κs. search needs) slice-write-out-9 same-length returns)
+    tie.close (tie.spec (λ c. search needs) (λ c. search needs) (λ c. simp length-set (omega arith)) (λ c. simp length-set (omega arith)) (λ c. simp length-set (omega arith))
+    (λ c κs. search needs) (λ c. simp length-set (omega arith)) (λ c. search needs) (λ c. simp length-set (omega arith)) (λ c κs. search needs)
+    (λ c. search needs) (λ c. simp length-set (omega arith)) (λ c κs. search needs) (λ c. search needs) (λ c. simp length-set (omega arith))
+    (λ c κs. search needs) (λ c. simp length-set (omega arith)) (λ c. simp length-set) returns)

@@ -9,15 +9,6 @@ use borrow.Author.Needs.{needs}
 use Rattle.exports.proofs.put_state.Statement.{statement}
 use Rattle.exports.proofs.put_state.Tie as tie
 
-slice-write-out-2 : tie.Need-slice-write-out-2
-slice-write-out-2 c = simp length-set (omega arith)
-
-slice-write-out-3 : tie.Need-slice-write-out-3
-slice-write-out-3 c = simp length-set (omega arith)
-
-slice-write-out-4 : tie.Need-slice-write-out-4
-slice-write-out-4 c = simp length-set (omega arith)
-
 mark-is : (b : Bool) → boolByte b ≡ cond b 1 0
 mark-is true = refl
 mark-is false = refl
@@ -29,4 +20,6 @@ returns c =
     rw (put .put-factor .ensures, mark-is (put .before .before .before .before .args .s .finished))
 
 pub put-state-spec : {M : Type 1} → statement M
-put-state-spec = tie.close (tie.spec (λ c κs. search needs) (λ c. search needs) slice-write-out-2 slice-write-out-3 (λ c. search needs) slice-write-out-4 (λ c. search needs) returns)
+put-state-spec =
+    tie.close (tie.spec (λ c κs. search needs) (λ c. search needs) (λ c. simp length-set (omega arith)) (λ c. simp length-set (omega arith)) (λ c. search needs) (λ c. simp length-set (omega arith))
+    (λ c. search needs) returns)

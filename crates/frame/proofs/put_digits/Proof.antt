@@ -15,9 +15,6 @@ use Rattle.frame.specs.WrittenLaws.{set-before}
 use Rattle.frame.proofs.put_digits.Statement.{statement}
 use Rattle.frame.proofs.put_digits.Tie as tie
 
-digit-small : (x base : ℕ) → 0 < base → base ≤ 16 → x % base < 16
-digit-small x base p q = lt-of-lt-of-le (mod-lt x p) q
-
 -- the last `done` digits stand in their places, and `rest` is what is left of v
 record Begun (buf₀ : List ℕ) (at width base v : ℕ) (buf : List ℕ) (rest done : ℕ) : Type 0 where
   within : done ≤ width
@@ -69,7 +66,7 @@ loop-holds : tie.Need-loop-holds Inv-loop μ-loop
 loop-holds c = begin _ _ _ _ _
 
 digit-byte-requires : tie.Need-digit-byte-requires Inv-loop μ-loop
-digit-byte-requires c κs = let pre = c .before .before .before .pre in digit-small _ _ (pre .1) (pre .2)
+digit-byte-requires c κs = let pre = c .before .before .before .pre in lt-of-lt-of-le (mod-lt _ (pre .1)) (pre .2)
 
 slice-write-buf : tie.Need-slice-write-buf Inv-loop μ-loop
 slice-write-buf c = let at-loop = c .before .before in omega (arith, same _ _ _ _ _ _ _ _ (at-loop .loop .inv))

@@ -67,17 +67,8 @@ Inv-loop line at width value₀ i₀ value i = Begun line at width value i
 abbrev μ-loop : tie.MeasureT-loop
 μ-loop line at width value₀ i₀ value i = width - i
 
-returns : tie.Need-returns Inv-loop μ-loop
-returns c = sym (field-outside _ _ _ (omega arith))
-
-returns-2 : tie.Need-returns-2 Inv-loop μ-loop
-returns-2 c = sym (field-outside _ _ _ (omega arith))
-
 loop-holds : tie.Need-loop-holds Inv-loop μ-loop
 loop-holds c = begin _ _ _ (omega arith)
-
-enum-told : tie.Need-enum-told Inv-loop μ-loop
-enum-told c = search needs
 
 returns-3 : tie.Need-returns-3 Inv-loop μ-loop
 returns-3 c =
@@ -102,5 +93,6 @@ returns-4 c = all-read _ _ _ (omega arith) _ _ (c .before .loop .inv) (c .loop-t
 
 pub read-field-spec : {M : Type 1} → statement M
 read-field-spec =
-    tie.close (tie.spec Inv-loop μ-loop returns (λ c. search needs) returns-2 loop-holds (λ c. search needs) (λ c. search needs) (λ c κs. search needs) (λ c. search needs) enum-told returns-3 mul-value add-value
+    tie.close (tie.spec Inv-loop μ-loop (λ c. sym (field-outside _ _ _ (omega arith))) (λ c. search needs)
+    (λ c. sym (field-outside _ _ _ (omega arith))) loop-holds (λ c. search needs) (λ c. search needs) (λ c κs. search needs) (λ c. search needs) (λ c. search needs) returns-3 mul-value add-value
     (λ c. search needs) (λ c. search needs) loop-again returns-4)

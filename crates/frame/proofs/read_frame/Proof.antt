@@ -29,9 +29,6 @@ line c = c .before .before .before .args .line .now
 spaced-out : (c : tie.Else1) → not (spaced endDigits (line c)) ≡ false
 spaced-out c = ap not (sym (c .before .is-spaced .ensures)) ∙ c .if1 .left
 
-enum-told : tie.Need-enum-told
-enum-told c = search needs
-
 returns-2 : tie.Need-returns-2
 unfolding frameOf
 returns-2 c =
@@ -108,5 +105,5 @@ returns-6 c =
 
 pub read-frame-spec : {M : Type 1} → statement M
 read-frame-spec =
-    tie.close (tie.spec (λ c κs. search needs) returns (λ c κs. search needs) (λ c. search needs) enum-told returns-2 (λ c κs. search needs) (λ c. search needs) (λ c. search needs) returns-3 (λ c κs. search needs)
-    (λ c. search needs) (λ c. search needs) returns-4 (λ c. search needs) (λ c κs. search needs) (λ c. search needs) (λ c. search needs) returns-5 cast-t13 signed-byte-requires returns-6)
+    tie.close (tie.spec (λ c κs. search needs) returns (λ c κs. search needs) (λ c. search needs) (λ c. search needs) returns-2 (λ c κs. search needs) (λ c. search needs) (λ c. search needs) returns-3
+    (λ c κs. search needs) (λ c. search needs) (λ c. search needs) returns-4 (λ c. search needs) (λ c κs. search needs) (λ c. search needs) (λ c. search needs) returns-5 cast-t13 signed-byte-requires returns-6)

@@ -1,24 +1,8 @@
 -- `stream::begin` meets its contract. Assumes nothing.
-use mathlib.Core.Path.{_≡_}
-use mathlib.Core.Bool.{true, false}
-use Rattle.factor.specs.declared.Factor.{Factor}
-use Rattle.factor.specs.Precision.{ValidPrecision}
-use Rattle.factor.specs.SetUp.{intact}
+use mathlib.Core.Bool.{false}
 use Rattle.factor.specs.SetUpLaws.{intact-sound}
 use Rattle.stream.proofs.begin.Statement.{statement}
 use Rattle.stream.proofs.begin.Tie as tie
-
-in-limits : (f : Factor) → intact f ≡ true → ValidPrecision (f .precision .bits)
-in-limits f e = intact-sound f e .precision
-
-least-requires : tie.Need-least-requires
-least-requires c κs = in-limits _ (c .before .pre)
-
-most-requires : tie.Need-most-requires
-most-requires c κs = in-limits _ (c .before .before .pre)
-
-least-requires-2 : tie.Need-least-requires-2
-least-requires-2 c κs = in-limits _ (c .before .before .before .pre)
 
 returns : tie.Need-returns
 returns c =
@@ -32,4 +16,6 @@ returns c =
     }
 
 pub begin-spec : {M : Type 1} → statement M
-begin-spec = tie.close (tie.spec least-requires most-requires least-requires-2 returns)
+begin-spec =
+    tie.close (tie.spec (λ c κs. intact-sound _ (c .before .pre) .precision) (λ c κs. intact-sound _ (c .before .before .pre) .precision)
+    (λ c κs. intact-sound _ (c .before .before .before .pre) .precision) returns)

@@ -4,9 +4,6 @@ use borrow.Author.Needs.{needs}
 use Rattle.stream.proofs.finish.Statement.{statement}
 use Rattle.stream.proofs.finish.Tie as tie
 
-enum-told : tie.Need-enum-told
-enum-told c = search needs
-
 returns : tie.Need-returns
 returns c =
     let told = c .before .before in
@@ -34,4 +31,4 @@ returns-4 c =
     end-room (start .args .p) _ _ _ _ (end-refused _ (start .pre .0) _ _ (told .enum-told2 .given .1) (some .if1 .left) (few .if2 .left) _ _ (refusal .put-refusal .ensures))
 
 pub finish-spec : {M : Type 1} → statement M
-finish-spec = tie.close (tie.spec enum-told (λ c. search needs) returns returns-2 (λ c κs. search needs) returns-3 (λ c. search needs) returns-4)
+finish-spec = tie.close (tie.spec (λ c. search needs) (λ c. search needs) returns returns-2 (λ c κs. search needs) returns-3 (λ c. search needs) returns-4)

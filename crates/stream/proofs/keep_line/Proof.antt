@@ -8,7 +8,7 @@ use lib.ListN.{length, take, drop, getD}
 use borrow.Author.Needs.{needs}
 use Rattle.frame.specs.Lines.{lineFeed}
 use Rattle.stream.specs.Keep.{keep, kept, upToFeed, mostKept}
-use Rattle.stream.specs.KeepLaws.{kept-end, end-up, kept-feed, feed-up, kept-byte, byte-up}
+use Rattle.stream.specs.KeepLaws.{at-end, at-feed, at-byte}
 use Rattle.stream.proofs.keep_line.Statement.{statement}
 use Rattle.stream.proofs.keep_line.Tie as tie
 
@@ -20,14 +20,6 @@ record Begun (h : List ℕ) (input : List ℕ) (at : ℕ) (held : List ℕ) (n p
   line : kept (take n held) (drop place input) ≡ kept h (drop at input)
   rest : upToFeed (drop place input) ≡ upToFeed (drop at input)
 
--- what is to be shown at the end
-record Ended (h : List ℕ) (input : List ℕ) (at : ℕ) (held : List ℕ) (n place : ℕ) : Type 0 where
-  size : length held ≡ mostKept
-  few : n ≤ mostKept
-  inside : place ≤ length input
-  line : take n held ≡ kept h (drop at input)
-  rest : drop place input ≡ upToFeed (drop at input)
-
 module _ (h : List ℕ) (input : List ℕ) (at : ℕ) (held : List ℕ) (n place : ℕ) (b : Begun h input at held n place) where
   one-more :
       (held′ : List ℕ) (n′ : ℕ)
@@ -38,42 +30,19 @@ module _ (h : List ℕ) (input : List ℕ) (at : ℕ) (held : List ℕ) (n place
       → take n′ held′ ≡ keep (take n held) (getD input place 0)
       → Begun h input at held′ n′ (place + 1)
   one-more held′ n′ i f size few e =
+      let next = at-byte (take n held) input place i f in
       record {
         size = size;
         few = few;
         inside = omega arith;
-        line = ap₂ (λ (l : List ℕ) (p : ℕ). kept l (drop p input)) e (add-one place) ∙ sym (kept-byte (take n held) input place i f) ∙ b .line;
-        rest = ap (λ (p : ℕ). upToFeed (drop p input)) (add-one place) ∙ sym (byte-up (take n held) input place i f) ∙ b .rest;
+        line = ap₂ (λ (l : List ℕ) (p : ℕ). kept l (drop p input)) e (add-one place) ∙ sym (next .0) ∙ b .line;
+        rest = ap (λ (p : ℕ). upToFeed (drop p input)) (add-one place) ∙ sym (next .1) ∙ b .rest;
       }
 
-  at-feed : place < length input → getD input place 0 ≡ lineFeed → Ended h input at held n place
-  at-feed i f =
-      record {
-        size = b .size;
-        few = b .few;
-        inside = b .inside;
-        line = sym (kept-feed (take n held) input place i f) ∙ b .line;
-        rest = sym (feed-up (take n held) input place i f) ∙ b .rest;
-      }
-
-  at-end : length input ≤ place → Ended h input at held n place
-  at-end i =
-      record {
-        size = b .size;
-        few = b .few;
-        inside = b .inside;
-        line = sym (kept-end (take n held) input place i) ∙ b .line;
-        rest = sym (end-up (take n held) input place i) ∙ b .rest;
-      }
-
-less : (n p : ℕ) → p < n → n - (p + 1) < n - p
-less n p h = omega arith
-
-told :
-    {h input : List ℕ} {at : ℕ} {held : List ℕ} {n place : ℕ}
-    → Ended h input at held n place
-    → (length held ≡ mostKept × n ≤ mostKept × take n held ≡ kept h (drop at input)) × (place ≤ length input × drop place input ≡ upToFeed (drop at input))
-told e = ((e .size, e .few, e .line), (e .inside, e .rest))
+  -- where the line stops, what the buffer holds is what was to be kept
+  told : (kept (take n held) (drop place input) ≡ take n held) × (upToFeed (drop place input) ≡ drop place input)
+      → (length held ≡ mostKept × n ≤ mostKept × take n held ≡ kept h (drop at input)) × (place ≤ length input × drop place input ≡ upToFeed (drop at input))
+  told s = ((b .size, b .few, sym (s .0) ∙ b .line), (b .inside, sym (s .1) ∙ b .rest))
 
 abbrev Inv-loop : tie.InvT-loop
 Inv-loop held₀ count input at length₀ place₀ held n place = Begun (take count held₀) input at held n place
@@ -92,15 +61,13 @@ same-length c = let at-loop = c .before .before .before in at-loop .loop .inv .s
 returns : tie.Need-returns Inv-loop μ-loop
 returns c =
     let at-loop = c .before .before .before in
-    told (at-feed _ _ _ _ _ _ (at-loop .loop .inv) (c .before .before .loop-test .taken) (c .if1 .taken))
+    told _ _ _ _ _ _ (at-loop .loop .inv) (at-feed _ _ _ (c .before .before .loop-test .taken) (c .if1 .taken))
 
 keep-byte-requires : tie.Need-keep-byte-requires Inv-loop μ-loop
 keep-byte-requires c κs = let at-loop = c .before .before .before .before in (at-loop .loop .inv .size, at-loop .loop .inv .few)
 
 loop-less : tie.Need-loop-less Inv-loop μ-loop
-loop-less c =
-    let in-loop = c .before .before .before .before .before .before in
-    less _ _ (in-loop .loop-test .taken)
+loop-less c = omega (arith, c .before .before .before .before .before .before .loop-test .taken)
 
 loop-again : tie.Need-loop-again Inv-loop μ-loop
 loop-again c =
@@ -113,7 +80,7 @@ same-length-2 : tie.Need-same-length-2 Inv-loop μ-loop
 same-length-2 c = let at-loop = c .before in at-loop .loop .inv .size ∙ sym (at-loop .before .before .before .pre .0)
 
 returns-2 : tie.Need-returns-2 Inv-loop μ-loop
-returns-2 c = told (at-end _ _ _ _ _ _ (c .before .loop .inv) (c .loop-test .left))
+returns-2 c = told _ _ _ _ _ _ (c .before .loop .inv) (at-end _ _ _ (c .loop-test .left))
 
 pub keep-line-spec : {M : Type 1} → statement M
 keep-line-spec = tie.close (tie.spec Inv-loop μ-loop loop-holds (λ c. search needs) same-length returns keep-byte-requires (λ c. search needs) loop-less loop-again same-length-2 returns-2)

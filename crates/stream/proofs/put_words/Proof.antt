@@ -2,13 +2,11 @@
 use mathlib.Core.Path.{_≡_, refl, sym, ap, subst, _∙_}
 use mathlib.Core.List.{List, [], _∷_, _++_}
 use Prim.Native.Nat.{ℕ, _+_, _-_, _*_, _%_, _≤_, _<_}
-use native.Mathlib.Nat.{mod-lt}
+use native.Mathlib.Nat.{le-antisymm}
 use native.Mathlib.Numerals.{add-one}
 use native.Mathlib.Omega.{arith}
 use lib.ListN.{length, take, getD}
 use lib.Seq.{take-suc, length-take-le}
-use mir.Syntax.{w64}
-use mir.Val.{Fits}
 use borrow.Author.Needs.{needs}
 use Rattle.frame.specs.Report.{wordLine}
 use Rattle.frame.specs.Written.{Written}
@@ -42,23 +40,11 @@ module _ (list : List ℕ) (count : ℕ) (out₀ : List ℕ) (at : ℕ) (some : 
           odd = ap (λ (n : ℕ). n + word % 2) (b .odd) ∙ sym (ap odds e ∙ odds-last (take i list) word);
         }
 
-    all-done : count ≤ i → Begun list count out₀ at out place opens count
-    all-done h = subst (λ (k : ℕ). Begun list count out₀ at out place opens k) (omega (arith, b .within)) b
-
     more-room : i < count → place + 9 ≤ length out
     more-room h = omega (arith, b .written .place, written-length (b .written), length-lines (take i list), first-i)
 
     few-opens : opens ≤ i
     few-opens = omega (arith, b .odd, odds-few (take i list), first-i)
-
-one-fits : (opens i count word : ℕ) → opens ≤ i → i < count → Fits w64 count → Fits w64 (opens + word % 2)
-one-fits opens i count word h k f = record { fits = omega (arith, f .fits, mod-lt word two) }
-  where
-    two : 0 < 2
-    two = omega arith
-
-less : (n i : ℕ) → i < n → n - (i + 1) < n - i
-less n i h = omega arith
 
 abbrev Inv-loop : tie.InvT-loop
 Inv-loop list count out₀ at place₀ opens₀ i₀ out place opens i = Begun list count out₀ at out place opens i
@@ -81,12 +67,10 @@ add-opens c =
     let word = call .before .before in
     let in-loop = word .before .before in
     let start = in-loop .before .before .before .before in
-    one-fits _ _ _ _ (few-opens _ _ _ _ (start .pre .0) (start .pre .1) _ _ _ _ (in-loop .before .loop .inv)) (in-loop .loop-test .taken) (start .fits .count)
+    record { fits = omega (arith, few-opens _ _ _ _ (start .pre .0) (start .pre .1) _ _ _ _ (in-loop .before .loop .inv), in-loop .loop-test .taken, start .fits .count .fits) }
 
 loop-less : tie.Need-loop-less Inv-loop μ-loop
-loop-less c =
-    let in-loop = c .before .before .before .before .before .before in
-    less _ _ (in-loop .loop-test .taken)
+loop-less c = omega (arith, c .before .before .before .before .before .before .loop-test .taken)
 
 loop-again : tie.Need-loop-again Inv-loop μ-loop
 loop-again c =
@@ -101,9 +85,8 @@ same-length c = written-length (c .before .loop .inv .written)
 
 returns : tie.Need-returns Inv-loop μ-loop
 returns c =
-    let start = c .before .before .before .before in
-    let b = all-done _ _ _ _ (start .pre .0) (start .pre .1) _ _ _ _ (c .before .loop .inv) (c .loop-test .left) in
-    (b .written, b .odd)
+    let b = c .before .loop .inv in
+    rw (le-antisymm (c .loop-test .left) (b .within)) (b .written, b .odd)
 
 pub put-words-spec : {M : Type 1} → statement M
 put-words-spec =

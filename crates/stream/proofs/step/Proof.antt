@@ -13,9 +13,6 @@ sweep-step-requires c κs =
     let start = known .before .before .before .before in
     (start .pre .0, subst (GoodTask (start .args .p .number)) (known .task .given .1) (start .pre .0 .good .task), start .pre .2)
 
-enum-told : tie.Need-enum-told
-enum-told c = search needs
-
 returns : tie.Need-returns
 returns c =
     let told = c .before .before in
@@ -59,5 +56,5 @@ returns-4 c =
 
 pub step-spec : {M : Type 1} → statement M
 step-spec =
-    tie.close (tie.spec (λ c. search needs) sweep-step-requires enum-told returns (λ c. search needs) (λ c κs. search needs) returns-2 add-line-step (λ c κs. search needs) (λ c. search needs) returns-3 (λ c. search needs)
-    returns-4)
+    tie.close (tie.spec (λ c. search needs) sweep-step-requires (λ c. search needs) returns (λ c. search needs) (λ c κs. search needs) returns-2
+    add-line-step (λ c κs. search needs) (λ c. search needs) returns-3 (λ c. search needs) returns-4)

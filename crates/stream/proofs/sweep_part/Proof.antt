@@ -1,5 +1,5 @@
 -- `stream::sweep_part` meets its contract: the call is accepted, its words are printed, and the tally is that of the suspects tried. Assumes nothing.
-use mathlib.Core.Path.{_≡_, subst, _∙_}
+use mathlib.Core.Path.{subst, _∙_}
 use mathlib.Core.List.{List}
 use Prim.Native.Nat.{ℕ, _+_, _*_, _≤_}
 use native.Mathlib.Omega.{arith}
@@ -7,8 +7,6 @@ use lib.ListN.{length, length-replicate}
 use Rattle.sweep.specs.declared.SweepAnswer
 use Rattle.sweep.specs.declared.SweepAnswer.{SweepAnswer}
 use Rattle.sweep.specs.declared.SweepState.{SweepState}
-use Rattle.frame.specs.Written.{Written}
-use Rattle.stream.specs.Output.{wordLines}
 use Rattle.stream.specs.PartLaws.{Answered, AnsweredBy, answered, addable, added-is}
 use borrow.Author.Needs.{needs}
 use Rattle.stream.proofs.sweep_part.Statement.{statement}
@@ -30,9 +28,6 @@ accepted-call c =
     let call = c .before .before .before in
     subst (λ (a : SweepAnswer). AnsweredBy (call .before .before .before .before .args .t .state) a (call .sweep-call .last .1 .1 .0)) (c .answer .given .1) (call-answers call)
 
-printed : (l₁ l₂ v w : List ℕ) (i j : ℕ) → v ≡ w → Written l₁ i (wordLines v) l₂ j → Written l₁ i (wordLines w) l₂ j
-printed l₁ l₂ v w i j e h = subst (λ (l : List ℕ). Written l₁ i (wordLines l) l₂ j) e h
-
 room : (s after : SweepState) (t p : ℕ) (list : List ℕ) → Answered s after t p list → (used size : ℕ) → used + 576 ≤ size → (p ≤ length list) × (used + 9 * p ≤ size)
 room s after t p list a used size h = (omega (arith, a .place, a .fits, a .long), omega (arith, a .place, a .fits))
 
@@ -47,16 +42,13 @@ added-requires c κs =
     let known = words .before .before .before .before in
     addable _ (known .before .before .before .before .before .before .before .pre .1) _ _ _ _ (accepted-call known) _ (words .put-words .ensures .1)
 
-enum-told : tie.Need-enum-told
-enum-told c = search needs
-
 returns : tie.Need-returns
 returns c =
     let words = c .before .before .before in
     let known = words .before .before .before .before in
     let a = accepted-call known in (
       c .added .ensures ∙ added-is _ (known .before .before .before .before .before .before .before .pre .1) _ _ _ _ a _ (words .put-words .ensures .1),
-      printed _ _ _ _ _ _ (a .words) (words .put-words .ensures .0),
+      rw (a .words) at (words .put-words .ensures .0),
     )
 
 returns-2 : tie.Need-returns-2
@@ -66,4 +58,4 @@ returns-2 c =
 
 pub sweep-part-spec : {M : Type 1} → statement M
 sweep-part-spec =
-    tie.close (tie.spec (λ c. search needs) (λ c κs. search needs) (λ c. search needs) (λ c. search needs) put-words-requires added-requires enum-told (λ c. search needs) returns returns-2)
+    tie.close (tie.spec (λ c. search needs) (λ c κs. search needs) (λ c. search needs) (λ c. search needs) put-words-requires added-requires (λ c. search needs) (λ c. search needs) returns returns-2)
