@@ -1,16 +1,18 @@
-/* The engine's exported functions, for C and C++: link target/staticlib/libexports.a, which `rt staticlib exports` makes (x86-64 Linux). examples/calls.c calls each of them.
+/* The engine's exported functions, for C and C++: link target/staticlib/libexports.a, which `rt staticlib exports` makes (x86-64 Linux).
+ * examples/calls.c calls each of them.
  *
- * A list is a pointer and the number of its words. Lists given to one call must not overlap. A list that is too short is answered
- * with GUSNALIP_TOO_SHORT (the list of a sweep may have any length, 0 too: it is refused with 19). Every other answer and every word written is fixed by the function's contract
- * (crates/exports), for any input. Every refusal writes nothing, GUSNALIP_TOO_SHORT included.
+ * A list is a pointer and the number of its words. Lists given to one call must not overlap. A list that is too short is answered with
+ * GUSNALIP_TOO_SHORT (the list of a sweep may have any length, 0 too: it is refused with 19). Every other answer and every word written
+ * is fixed by the function's contract (crates/exports), for any input. Every refusal writes nothing, GUSNALIP_TOO_SHORT included.
  *
- * A factor is GUSNALIP_FACTOR_WORDS words: precision, lower end, upper end, high significand, low significand (two's complement),
- * its places, high and low part as bits of binary32 numbers, scale (two's complement of 32 bits). The words for precision, places,
- * floats and scale are written with an upper half of 0; one with another upper half is damage, and refused with 31. A sweep's state is GUSNALIP_STATE_WORDS words: a factor, then the first, last and next
- * significand, and 0 or any other word for not finished or finished. Further words of either are not looked at.
+ * A factor is GUSNALIP_FACTOR_WORDS words: precision, lower end, upper end, high significand, low significand (two's complement), its
+ * places, high and low part as bits of binary32 numbers, scale (two's complement of 32 bits). The words for precision, places, floats
+ * and scale are written with an upper half of 0; one with another upper half is damage, and refused with 31. A sweep's state is
+ * GUSNALIP_STATE_WORDS words: a factor, then the first, last and next significand, and 0 or any other word for not finished or finished.
+ * Further words of either are not looked at.
  *
- * gusnalip_read asks for the machine's default rounding mode, round to nearest (FE_TONEAREST): with another one that the caller has set, readings
- * whose products lie near a midpoint can come out differently. Nothing else depends on it. */
+ * gusnalip_read asks for the machine's default rounding mode, round to nearest (FE_TONEAREST): with another one that the caller has set,
+ * readings whose products lie near a midpoint can come out differently. Nothing else depends on it. */
 #ifndef GUSNALIP_H
 #define GUSNALIP_H
 
