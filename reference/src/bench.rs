@@ -93,9 +93,11 @@ fn single(output: &mut dyn Write) -> io::Result<()> {
     let mut random = Random::new(1);
     let count = 200_000;
     let all: Vec<Given> = (0..count).map(|i| given(&mut random, 4 + (i % 21) as u32, i % (KINDS - 1))).collect();
+    // The call alone: what `engine::set_up` does with the words is the reference's own work.
+    let mut out = [0; engine::FACTOR_WORDS];
     let ours = seconds(5, || {
         for g in &all {
-            black_box(engine::set_up(g.bits, g.scale, g.lower, g.upper).is_ok());
+            black_box(engine::set_up_to(g.bits, g.scale, g.lower, g.upper, &mut out));
         }
     });
     let theirs = seconds(5, || {
