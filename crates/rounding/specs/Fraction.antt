@@ -1,4 +1,4 @@
--- Signed fractions, their exact sums and products, and RN of them: what document 01 says of factors and products is said with these. Definitions only. Assumes nothing.
+-- Signed fractions, their exact sums, products and quotients, and RN of them: what document 01 says of factors and products is said with these. Definitions only. Assumes nothing.
 use mathlib.Core.Path.{_≡_}
 use mathlib.Core.Bool.{Bool, true, false, not}
 use Prim.Native.Nat.{ℕ, _+_, _*_, _^_, _≤_, _<_}
@@ -29,6 +29,10 @@ negated x = record { minus = not (x .minus); num = x .num; den = x .den }
 
 abbrev pub times : Fraction → Fraction → Fraction
 times x y = record { minus = unlike (x .minus) (y .minus); num = x .num * y .num; den = x .den * y .den }
+
+-- x / y, for a y that is not zero
+abbrev pub divided : Fraction → Fraction → Fraction
+divided x y = record { minus = unlike (x .minus) (y .minus); num = x .num * y .den; den = x .den * y .num }
 
 -- ± a ± b; a sum of zero from opposite signs is plus zero
 abbrev pub joined : Bool → Bool → (a b den : ℕ) → Fraction

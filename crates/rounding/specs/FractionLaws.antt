@@ -17,7 +17,7 @@ use Rattle.rounding.specs.Digits.{enough-digits}
 use Rattle.rounding.specs.Unit.{rn}
 use Rattle.rounding.specs.Round.{rounded}
 use Rattle.rounding.specs.RoundLaws.{rounded-whole, rounded-value}
-use Rattle.rounding.specs.Fraction.{Fraction, over, power, negated, times, joined, plus, less, distance, RN, Same, below, equal, Below, AtMost}
+use Rattle.rounding.specs.Fraction.{Fraction, over, power, negated, times, joined, plus, less, distance, RN, Same, below, equal, Below, AtMost, divided, Positive}
 
 -- x is a / T in size, and negative where m
 pub record InUnits (T : ℕ) (m : Bool) (a : ℕ) (x : Fraction) : Type 0 where
@@ -111,6 +111,13 @@ times-in-units T S a b m x y c d =
 
     regroup : (p q u v : ℕ) → p * q * (u * v) ≡ p * u * (q * v)
     regroup p q u v = omega arith
+
+-- ---- products and quotients of positive fractions
+pub times-positive : (x y : Fraction) → Positive x → Positive y → Positive (times x y)
+times-positive x y p q = record { sign = ap₂ unlike (p .sign) (q .sign); above = mul-pos (p .above) (q .above); some = mul-pos (p .some) (q .some) }
+
+pub divided-positive : (x y : Fraction) → Positive x → Positive y → Positive (divided x y)
+divided-positive x y p q = record { sign = ap₂ unlike (p .sign) (q .sign); above = mul-pos (p .above) (q .some); some = mul-pos (p .some) (q .above) }
 
 -- ---- sums
 -- the sign and the size of ± a ± b
@@ -212,6 +219,9 @@ module _ (T S a b : ℕ) (x y : Fraction) (c : InUnits T false a x) (d : InUnits
 
   pub units-at-most : a * S ≤ b * T → AtMost x y
   units-at-most h = le-of-mul-le-mul-right {k = T * S} (omega (arith, across, mul-le-mul-right (x .den * y .den) h)) (mul-pos (c .unit) (d .unit))
+
+  pub at-most-units : AtMost x y → a * S ≤ b * T
+  at-most-units h = le-of-mul-le-mul-right {k = x .den * y .den} (omega (arith, across, mul-le-mul-right (T * S) h)) (mul-pos (c .some) (d .some))
 
   pub units-below : a * S < b * T → Below x y
   units-below h = lt-of-mul-lt-mul-right (T * S) (omega (arith, across, mul-lt-mul-of-pos-right h (mul-pos (c .some) (d .some))))

@@ -14,6 +14,7 @@ pub mod Fraction
 pub mod FractionLaws
 pub mod Ulp
 pub mod UlpLaws
+pub mod OneRounding
 pub mod Examples
 pub mod Ieee
 pub mod ByDigits

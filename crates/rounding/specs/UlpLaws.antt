@@ -1,21 +1,22 @@
--- Laws of the unit in the last place: its value on a binade, scaled by powers of two, the step of RN in every unit that is fine enough, and half of it bounds the error of RN. Assumes nothing.
+-- Laws of the unit in the last place: its value on a binade, scaled by powers of two, the step of RN in every unit that is fine enough; half of it bounds the error of RN, and 3/2 of it where RN is of a fraction that is near. Assumes nothing.
 use mathlib.Core.Path.{_≡_, refl, sym, ap, ap₂, _∙_, subst}
 use mathlib.Core.Bool.{false}
 use Prim.Native.Nat.{ℕ, suc, _+_, _-_, _*_, _^_, _≤_, _<_}
-use native.Mathlib.Nat.{mul-le-mul-right, mul-le-mul-left, mul-lt-mul-of-pos-right, mul-pos, mul-assoc}
+use native.Mathlib.Nat.{mul-le-mul-right, mul-le-mul-left, mul-lt-mul-of-pos-right, mul-pos, mul-assoc, le-of-mul-le-mul-right, lt-of-mul-lt-mul-right, pow-succ'}
 use native.Mathlib.Omega.{arith}
 use lib.Pow.{pow-add, pow-pos}
 use lib.IntN.{ℤ, pos, negsuc, _+ℤ_, _-ℤ_, +ℤ-negℤ-cancel}
 use lib.Ieee.{size, minus, unlike}
 use lib.Ieee.Order.{drop}
 use Rattle.rounding.specs.Apart.{apart}
+use Rattle.rounding.specs.ApartLaws.{apart-mul}
 use Rattle.rounding.specs.Grid.{Rule}
 use Rattle.rounding.specs.Digits.{pow-half, enough-digits, drop-lower, drop-upper, drop-at, drop-finer}
 use Rattle.rounding.specs.Unit.{rn}
-use Rattle.rounding.specs.UnitLaws.{rn-half}
+use Rattle.rounding.specs.UnitLaws.{rn-half, rn-near}
 use Rattle.rounding.specs.RoundLaws.{minus-add, minus-shift, minus-zero, zero-minus}
-use Rattle.rounding.specs.Fraction.{Fraction, over, power, times, distance, RN, Same, AtMost, Positive}
-use Rattle.rounding.specs.FractionLaws.{InUnits, over-in-units, power-in-units, units-finer, RN-in-units-fraction, times-in-units, distance-in-units, units-same, units-at-most, units-below}
+use Rattle.rounding.specs.Fraction.{Fraction, over, power, times, distance, RN, Same, Below, AtMost, Positive}
+use Rattle.rounding.specs.FractionLaws.{InUnits, over-in-units, power-in-units, units-finer, RN-in-units-fraction, times-in-units, distance-in-units, units-same, units-at-most, at-most-units, units-below}
 use Rattle.rounding.specs.Ulp.{InBinade, binadeOf, ulp}
 
 minus-plus : (a b j : ℕ) → minus (a + j) b ≡ minus a b +ℤ pos j
@@ -120,3 +121,33 @@ module _ (rule : Rule) (n : ℕ) (P : 0 < n) (v : Fraction) (p : Positive v) whe
       (distance-in-units (2 ^ t * d) (r * d) N (RN rule n v) v R c)
       (times-in-units (2 ^ 1) (2 ^ t) 1 (2 ^ drop n N d) false (over 1 1) (ulp n v) (over-in-units 1 1) (ulp-in-units n P v p t d N (p .some) fine c))
       (omega (arith, mul-le-mul-right (2 ^ t) (rn-half rule n P N d (p .some))))
+
+  -- where |w - v| ≤ v / 2 ^ n, |RN(w) - v| < 3/2 ulp(v), also where w and v lie in two binades; in whole numbers of a unit it is `rn-near`
+  pub ulp-near : (w : Fraction) → Positive w → AtMost (distance w v) (times (over 1 n) v) → Below (distance (RN rule n w) v) (times (over 3 1) (ulp n v))
+  ulp-near w q h =
+      let e = v .den in
+      let d = e * w .den in
+      let t = suc n + size e in
+      let N = v .num * 2 ^ t in
+      let A = N * w .den in
+      let B = w .num * 2 ^ t * e in
+      let k = drop n N e in
+      let D : 0 < d = mul-pos (p .some) (q .some) in
+      let T : 0 < 2 ^ t * d = mul-pos (pow-pos t) D in
+      let a : InUnits (2 ^ t * d) false A v = record { unit = T; some = p .some; sign = p .sign; count = omega arith } in
+      let b : InUnits (2 ^ t * d) false B w = record { unit = T; some = q .some; sign = q .sign; count = omega arith } in
+      let near : apart B A * 2 ^ n ≤ A =
+      le-of-mul-le-mul-right {k = 2 ^ t * d} (omega (arith, at-most-units (2 ^ t * d) (2 ^ n * (2 ^ t * d)) (apart B A) (1 * A) (distance w v) (times (over 1 n) v) (distance-in-units (2 ^ t * d) B A w v b a) (times-in-units (2 ^ n) (2 ^ t * d) 1 A false (over 1 n) v (over-in-units 1 n) a) h)) T in
+      let from : 2 ^ n * e ≤ N = omega (arith, digits v p (suc n), ap (λ (z : ℕ). z * e) (pow-succ' 2 n)) in
+      let two : 2 ≤ 2 ^ n = omega (arith, pow-half n P, pow-pos (n - 1)) in
+      let half : A ≤ 2 * B = le-of-mul-le-mul-right {k = 2 ^ n} (omega (arith, near, apart-mul B A (2 ^ n), mul-le-mul-left A two)) (pow-pos n) in
+      let enough : 2 ^ n * d ≤ 2 * B = omega (arith, half, mul-le-mul-right (w .den) from) in
+      let r = rn rule n B d in
+      let c = v-in-units v p t in
+      let R = units-finer (2 ^ t) e (p .some) false r (RN rule n w) (RN-in-units-fraction rule n P t d false B w D enough b) in
+      let x = rn-near rule n P A B d k D (omega (arith, mul-lt-mul-of-pos-right (drop-upper n N e (p .some)) (q .some))) near in
+      let y : 2 * apart (r * e) N < 3 * 2 ^ k * e = lt-of-mul-lt-mul-right (w .den) (omega (arith, x, apart-mul (r * e) N (w .den))) in
+      units-below (2 ^ t * e) (2 ^ 1 * 2 ^ t) (apart (r * e) N) (3 * 2 ^ k) (distance (RN rule n w) v) (times (over 3 1) (ulp n v))
+      (distance-in-units (2 ^ t * e) (r * e) N (RN rule n w) v R c)
+      (times-in-units (2 ^ 1) (2 ^ t) 3 (2 ^ k) false (over 3 1) (ulp n v) (over-in-units 3 1) (ulp-in-units n P v p t e N (p .some) (omega (arith, from)) c))
+      (omega (arith, mul-lt-mul-of-pos-right y (pow-pos t)))

@@ -163,6 +163,26 @@ module _ (rule : Rule) (n : ℕ) (P : 0 < n) where
           let v = ap (λ (z : ℕ). z * 2 ^ k * d) (pow-half n P) in
           le-trans (rn-le N d (2 ^ (n - 1)) k D (omega (arith, pow-half n P)) (omega (arith, lt-of-not-le l))) (mul-le-mul-right (2 ^ k) lo)
 
+  -- ---- of a fraction near another: where M / d is within N / d / 2 ^ n of N / d, which is below 2 ^ (n + k), RN(M / d) is less than 3/2 of 2 ^ k from N / d.
+  -- Past 2 ^ (n + k) M / d lies below the next binade's first midpoint.
+  pub rn-near : (N M d k : ℕ) → 0 < d → N < 2 ^ (n + k) * d → apart M N * 2 ^ n ≤ N → 2 * apart (rn rule n M d * d) N < 3 * 2 ^ k * d
+  rn-near N M d k D hi h = go (decLe M (2 ^ (n + k) * d))
+    where
+      w : 2 ^ (n + k) * d ≡ 2 ^ k * d * 2 ^ n
+      w = omega (arith, ap (λ (z : ℕ). z * d) (pow-add 2 n k))
+
+      away : apart M N < 2 ^ k * d
+      away = lt-of-mul-lt-mul-right (2 ^ n) (omega (arith, w))
+
+      go : Dec (M ≤ 2 ^ (n + k) * d) → 2 * apart (rn rule n M d * d) N < 3 * 2 ^ k * d
+      go (yes l) = omega (arith, rn-error M d k D l, away)
+      go (no l) =
+          let g : 2 ^ (n + k) * d < M = lt-of-not-le l in
+          let v : 2 ^ (n - 1) * 2 ^ suc k * d ≡ 2 ^ (n + k) * d = omega (arith, w, ap (λ (z : ℕ). 2 ^ (n - 1) * z * d) (pow-succ' 2 k), ap (λ (z : ℕ). z * 2 ^ k * d) (pow-half n P)) in
+          let x = rn-below M d (2 ^ (n - 1)) (suc k) D (omega arith) (omega (arith, pow-half n P, pow-pos (n - 1))) (omega (arith, away, v, ap (λ (z : ℕ). z * d) (pow-succ' 2 k))) in
+          let y = rn-ge M d (2 ^ n) k D (omega arith) (omega (arith, w)) in
+          omega (arith, mul-le-mul-right d x, mul-le-mul-right d y, v, w, away, mul-pos (pow-pos k) D)
+
   pub normal : (N d : ℕ) → 0 < d → 2 ^ n * d ≤ 2 * N → Normal rule n N d
   unfolding rn kept
   normal N d D fine =
