@@ -1,7 +1,7 @@
 -- Small laws that the proofs of several functions cite. Assumes nothing.
-use mathlib.Core.Path.{_≡_, refl, sym, ap, _∙_}
+use mathlib.Core.Path.{_≡_, refl, sym, ap, _∙_, subst}
 use mathlib.Core.Bool.{Bool, true, false, cond, true≢false}
-use Prim.Native.Nat.{ℕ, zero, suc, _+_, _-_, _*_, _/_, _^_, _≤_, _<_, zero-le}
+use Prim.Native.Nat.{ℕ, zero, suc, _+_, _-_, _*_, _/_, _%_, _^_, _≤_, _<_, zero-le}
 use native.Mathlib.Nat.{pos-of-ne-zero, not-suc-le-zero, lt-of-not-le, lt-of-lt-of-le, le-of-eq, mul-le-mul-right, div-lt-iff-lt-mul, mul-comm, le-trans, mul-le-mul-left, div-mul-le-self}
 use native.Mathlib.Omega.{arith}
 use lib.IntN.{ℤ, pos, negsuc, negℤ, natAbs, _+ℤ_, _-ℤ_, +ℤ-idl}
@@ -13,17 +13,16 @@ use lib.Pow.{pow-mono, pow-add, pow-pos}
 use borrow.Author.Tests.{ltb-true, lt-ltb, le-ltb}
 use Rattle.rounding.specs.declared.Location.{Location}
 use Rattle.rounding.specs.declared.Location.the-variants.{Exact, BelowHalf, Half, AboveHalf}
-use Rattle.rounding.specs.Grid.{Rule, location, choose}
+use Rattle.rounding.specs.Grid.{Rule, location, choose, nearest}
 use Rattle.rounding.specs.GridLaws.{Lies, location-lies}
 use Rattle.rounding.specs.Signed.{negative}
 use mir.Syntax.{Width, w64}
 use mir.Val.{SFits, Fits, hbits, boolByte}
 use Rattle.rounding.specs.Digits.{pow-half}
+use Rattle.wide.specs.declared.Wide.{Wide}
+use Rattle.wide.specs.Value.{wordBits, valueOf}
 use Rattle.wide.specs.OrderLaws.{high-lt}
-
--- a number that is not zero has a digit
-pub some-digit : (r k : ℕ) → ¬ (r ≡ 0) → r < 2 ^ k → 1 ≤ k
-some-digit r k z l = pos-of-ne-zero (λ (e : k ≡ 0). z (omega (arith, ap (λ (j : ℕ). 2 ^ j) e)))
+use Rattle.round.specs.Neighbour.{neighbourAt, neighbour}
 
 -- the half of 2 ^ k
 pub half-of : (k h : ℕ) → 1 ≤ k → h ≡ 2 ^ (k - 1) → h * 2 ≡ 2 ^ k
@@ -32,6 +31,21 @@ half-of k h p e = ap (λ (z : ℕ). z * 2) e ∙ mul-comm (2 ^ (k - 1)) 2 ∙ sy
 -- a quotient by 2 ^ k leaves room for one more
 pub quotient-room : (x u k : ℕ) → u ≡ 2 ^ k → 1 ≤ k → x / u * 2 ≤ x
 quotient-room x u k e h = let t : 2 ≤ u = rw e (pow-mono {i = 1} {j = k} h) in le-trans (mul-le-mul-left (x / u) t) (div-mul-le-self x u)
+
+-- the high word of a number of one word, or of twice one, leaves room
+pub one-word : (w : Wide) (x : ℕ) → valueOf w ≡ x → x < 2 ^ wordBits → w .hi ≡ 0
+one-word w x e l = omega arith
+
+pub high-few : (w : Wide) (x : ℕ) → valueOf w ≡ x → x < 2 * 2 ^ wordBits → w .hi + 1 < 2 ^ wordBits
+high-few w x e l = let h = high-lt (2 ^ wordBits) (w .hi) (w .lo) 2 (subst (λ (z : ℕ). z < 2 * 2 ^ wordBits) (sym e) l) in few (w .hi) h
+  where
+    few : (h : ℕ) → h < 2 → h + 1 < 2 ^ wordBits
+    few h l = omega arith
+
+-- quotient and remainder of one division tell the neighbour
+pub by-division : (rule : Rule) (N d : ℕ) → neighbourAt rule (N / d) (N % d) d ≡ neighbour rule N d
+unfolding nearest
+by-division rule N d = refl
 
 -- a test as a number, 1 or 0
 pub test-most : (b : Bool) → boolByte b ≤ 1

@@ -7,40 +7,21 @@ use rounding::TieRule;
 use wide::Wide;
 ghost use mathlib.Core.Path.{_≡_};
 ghost use Prim.Native.Nat.{_+_, _-_, _*_, _/_, _%_, _<_, _≤_, _^_};
-ghost use Rattle.rounding.specs.Grid.{ruleOf, location, choose, nearest};
+ghost use Rattle.rounding.specs.Grid.{ruleOf, location, choose};
 ghost use Rattle.rounding.specs.Round.{normalised, rounded};
 ghost use lib.IntN.{natAbs};
 ghost use Rattle.rounding.specs.Signed.{signedOf, roundedSigned};
 ghost use Rattle.rounding.specs.ByDigits.{padded};
 ghost use Rattle.wide.specs.Value.{wordBits, halfWord, valueOf};
+ghost use Rattle.round.specs.Neighbour.{neighbourAt, neighbour};
 
-// Where r / 2 ^ k lies between 0 and 1.
-pub fn locate(r: u64, k: u32) -> Location
-    requires { ⌜ (k < wordBits) × (r < 2 ^ k) ⌝ }
-    ensures { λ l. ⌜ l ≡ location r (2 ^ k) ⌝ }
-{
-    if r == 0 {
-        return Location::Exact;
-    }
-    let half = wide::power(k - 1);
-    if r < half {
-        return Location::BelowHalf;
-    }
-    if r == half {
-        return Location::Half;
-    }
-    Location::AboveHalf
-}
-
-// The same for a remainder of two words.
-pub fn locate_wide(r: Wide, k: u32) -> Location
-    requires { ⌜ (k < 2 * wordBits) × (valueOf r < 2 ^ k) ⌝ }
-    ensures { λ l. ⌜ l ≡ location (valueOf r) (2 ^ k) ⌝ }
+// Where r / (2 * half) lies between 0 and 1.
+pub fn locate(r: Wide, half: Wide) -> Location
+    ensures { λ l. ⌜ l ≡ location (valueOf r) (valueOf half * 2) ⌝ }
 {
     if wide::same(r, wide::from_word(0)) {
         return Location::Exact;
     }
-    let half = wide::wide_power(k - 1);
     if wide::below(r, half) {
         return Location::BelowHalf;
     }
@@ -60,13 +41,13 @@ pub fn tie_up(q: u64, rule: TieRule) -> bool
     }
 }
 
-// The neighbour of q + r / 2 ^ k that is taken, q or q + 1: the upper one past half, and at half where the rule says so. By a comparison and no branch, since which one it is cannot be foreseen.
-pub fn choose_neighbour(q: u64, r: Wide, k: u32, rule: TieRule) -> u64
-    requires { ⌜ (q + 1 < 2 ^ wordBits) × (1 ≤ k) × (k < 2 * wordBits) × (valueOf r < 2 ^ k) ⌝ }
-    ensures { λ v. ⌜ v ≡ choose (ruleOf rule) q (location (valueOf r) (2 ^ k)) ⌝ }
+// The neighbour of q + r / (2 * half) that is taken, q or q + 1: the upper one past half, and at half where the rule says so. By a comparison and no branch, since which one it is cannot be foreseen.
+pub fn choose_neighbour(q: u64, r: Wide, half: Wide, rule: TieRule) -> u64
+    requires { ⌜ (q + 1 < 2 ^ wordBits) × (r .hi + 1 < 2 ^ wordBits) × (0 < valueOf half) ⌝ }
+    ensures { λ v. ⌜ v ≡ choose (ruleOf rule) q (location (valueOf r) (valueOf half * 2)) ⌝ }
 {
     let past = wide::sum(r, wide::from_word(tie_up(q, rule) as u64));
-    q + wide::below(wide::wide_power(k - 1), past) as u64
+    q + wide::below(half, past) as u64
 }
 
 // A whole number that a fraction was rounded to, and where the fraction lay.
@@ -75,17 +56,34 @@ pub struct Neighbour {
     pub location: Location,
 }
 
+// q + r / (2 * half) to the nearest whole number: what every rounding here comes down to.
+fn nearest_of(q: u64, r: Wide, half: Wide, rule: TieRule) -> Neighbour
+    requires { ⌜ (q + 1 < 2 ^ wordBits) × (r .hi + 1 < 2 ^ wordBits) × (0 < valueOf half) ⌝ }
+    ensures { λ v. ⌜ v ≡ neighbourAt (ruleOf rule) q (valueOf r) (valueOf half * 2) ⌝ }
+{
+    Neighbour {
+        taken: choose_neighbour(q, r, half, rule),
+        location: locate(r, half),
+    }
+}
+
 // x / 2 ^ k to the nearest whole number.
 pub fn nearest_word(x: u64, k: u32, rule: TieRule) -> Neighbour
     requires { ⌜ (1 ≤ k) × (k < wordBits) ⌝ }
-    ensures { λ r. ⌜ r ≡ record { taken = nearest (ruleOf rule) x (2 ^ k); location = location (x % 2 ^ k) (2 ^ k) } ⌝ }
+    ensures { λ r. ⌜ r ≡ neighbour (ruleOf rule) x (2 ^ k) ⌝ }
 {
     let u = wide::power(k);
-    let r = x % u;
-    Neighbour {
-        taken: choose_neighbour(x / u, wide::from_word(r), k, rule),
-        location: locate(r, k),
-    }
+    let half = wide::power(k - 1);
+    nearest_of(x / u, wide::from_word(x % u), wide::from_word(half), rule)
+}
+
+// x / d to the nearest whole number, for any d, by one division: twice the remainder is compared with the divisor.
+pub fn nearest_quotient(x: u64, d: u64, rule: TieRule) -> Neighbour
+    requires { ⌜ (0 < d) × (x / d + 1 < 2 ^ wordBits) ⌝ }
+    ensures { λ r. ⌜ r ≡ neighbour (ruleOf rule) x d ⌝ }
+{
+    let rest = wide::from_word(x % d);
+    nearest_of(x / d, wide::sum(rest, rest), wide::from_word(d), rule)
 }
 
 // The kept digits as a significand and an exponent: the carry 2 ^ n is the next binade's first.
@@ -154,8 +152,9 @@ pub fn round_wide(u: Wide, n: u32, rule: TieRule) -> Rounded
     let k = wide::digits(u) - n;
     let kept = wide::shifted_right(u, k);
     let rest = wide::low_digits(u, k);
-    let l = locate_wide(rest, k);
-    normalise(choose_neighbour(kept.lo, rest, k, rule), n, k, l)
+    let near = nearest_of(kept.lo, rest, wide::wide_power(k - 1), rule);
+    let l = near.location;
+    normalise(near.taken, n, k, l)
 }
 
 // The size of a signed number, also of the least.

@@ -31,8 +31,8 @@ abbrev pub times : Fraction → Fraction → Fraction
 times x y = record { minus = unlike (x .minus) (y .minus); num = x .num * y .num; den = x .den * y .den }
 
 -- x / y, for a y that is not zero
-abbrev pub divided : Fraction → Fraction → Fraction
-divided x y = record { minus = unlike (x .minus) (y .minus); num = x .num * y .den; den = x .den * y .num }
+abbrev pub ratio : Fraction → Fraction → Fraction
+ratio x y = record { minus = unlike (x .minus) (y .minus); num = x .num * y .den; den = x .den * y .num }
 
 -- ± a ± b; a sum of zero from opposite signs is plus zero
 abbrev pub joined : Bool → Bool → (a b den : ℕ) → Fraction

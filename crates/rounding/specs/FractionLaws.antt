@@ -17,7 +17,7 @@ use Rattle.rounding.specs.Digits.{enough-digits}
 use Rattle.rounding.specs.Unit.{rn}
 use Rattle.rounding.specs.Round.{rounded}
 use Rattle.rounding.specs.RoundLaws.{rounded-whole, rounded-value}
-use Rattle.rounding.specs.Fraction.{Fraction, over, power, negated, times, joined, plus, less, distance, RN, Same, below, equal, Below, AtMost, divided, Positive}
+use Rattle.rounding.specs.Fraction.{Fraction, over, power, negated, times, joined, plus, less, distance, RN, Same, below, equal, Below, AtMost, ratio, Positive}
 
 -- x is a / T in size, and negative where m
 pub record InUnits (T : ℕ) (m : Bool) (a : ℕ) (x : Fraction) : Type 0 where
@@ -116,8 +116,8 @@ times-in-units T S a b m x y c d =
 pub times-positive : (x y : Fraction) → Positive x → Positive y → Positive (times x y)
 times-positive x y p q = record { sign = ap₂ unlike (p .sign) (q .sign); above = mul-pos (p .above) (q .above); some = mul-pos (p .some) (q .some) }
 
-pub divided-positive : (x y : Fraction) → Positive x → Positive y → Positive (divided x y)
-divided-positive x y p q = record { sign = ap₂ unlike (p .sign) (q .sign); above = mul-pos (p .above) (q .some); some = mul-pos (p .some) (q .above) }
+pub ratio-positive : (x y : Fraction) → Positive x → Positive y → Positive (ratio x y)
+ratio-positive x y p q = record { sign = ap₂ unlike (p .sign) (q .sign); above = mul-pos (p .above) (q .some); some = mul-pos (p .some) (q .above) }
 
 -- ---- sums
 -- the sign and the size of ± a ± b

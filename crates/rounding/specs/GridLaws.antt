@@ -114,11 +114,8 @@ cross : (N d M e : ℕ) → 0 < d → 0 < e → N * e ≡ M * d → N % d * e �
 cross N d M e D P h =
     omega (arith, ap (λ (z : ℕ). z * e) (div-add-mod' N d), ap (λ (z : ℕ). z * d) (div-add-mod' M e), ap (λ (z : ℕ). z * (d * e)) (div-same N d M e D P h))
 
-pub location-same : (N d M e : ℕ) → 0 < d → 0 < e → N * e ≡ M * d → location (N % d) d ≡ location (M % e) e
-location-same N d M e D P h =
-    let r = N % d in
-    let s = M % e in
-    let c : r * e ≡ s * d = cross N d M e D P h in
+pub location-alike : (r d s e : ℕ) → 0 < d → 0 < e → r * e ≡ s * d → location r d ≡ location s e
+location-alike r d s e D P c =
     let twice : r * 2 * e ≡ s * 2 * d = omega arith in
     let none : 0 * e ≡ 0 * d = omega arith in
     rw (
@@ -126,6 +123,9 @@ location-same N d M e D P h =
       sym (ltb-scale (r * 2) d e P) ∙ ap₂ ltb twice (mul-comm d e) ∙ ltb-scale (s * 2) e d D,
       sym (eqb-scale (r * 2) d e P) ∙ ap₂ eqb twice (mul-comm d e) ∙ eqb-scale (s * 2) e d D,
     )
+
+pub location-same : (N d M e : ℕ) → 0 < d → 0 < e → N * e ≡ M * d → location (N % d) d ≡ location (M % e) e
+location-same N d M e D P h = location-alike (N % d) d (M % e) e D P (cross N d M e D P h)
 
 pub location-exact : (k d : ℕ) → 0 < d → location (k * d % d) d ≡ Exact
 location-exact k d D = rw (mul-mod-left k d)

@@ -1,5 +1,5 @@
 -- One rounding of an operation with a fraction C of which only a number h near it is at hand: the error, in units in the last place of what is exact. Assumes nothing.
-use mathlib.Core.Path.{_≡_, ap}
+use mathlib.Core.Path.{ap}
 use mathlib.Core.Bool.{false}
 use Prim.Native.Nat.{ℕ, _*_, _^_, _≤_, _<_}
 use native.Mathlib.Nat.{mul-le-mul-right, mul-pos}
@@ -7,8 +7,8 @@ use native.Mathlib.Omega.{arith}
 use Rattle.rounding.specs.Apart.{apart}
 use Rattle.rounding.specs.ApartLaws.{apart-mul}
 use Rattle.rounding.specs.Grid.{Rule}
-use Rattle.rounding.specs.Fraction.{Fraction, over, times, divided, distance, RN, Below, AtMost, Positive}
-use Rattle.rounding.specs.FractionLaws.{InUnits, over-in-units, divided-positive, distance-in-units, times-in-units, units-at-most, at-most-units}
+use Rattle.rounding.specs.Fraction.{Fraction, over, times, ratio, distance, RN, Below, AtMost, Positive}
+use Rattle.rounding.specs.FractionLaws.{InUnits, over-in-units, ratio-positive, distance-in-units, times-in-units, units-at-most, at-most-units}
 use Rattle.rounding.specs.Ulp.{ulp}
 use Rattle.rounding.specs.UlpLaws.{ulp-near}
 
@@ -26,19 +26,19 @@ module _ (n : ℕ) (C h : Fraction) (c : Positive C) (k : Positive h) (close : A
 
   module _ (x : Fraction) (p : Positive x) (one : AtMost (over 1 0) h) where
     -- x / h is off by at most x / C / 2 ^ n: |x / h - x / C| = x / C * |h - C| / h
-    divided-near : AtMost (distance (divided x h) (divided x C)) (times (over 1 n) (divided x C))
-    divided-near =
+    ratio-near : AtMost (distance (ratio x h) (ratio x C)) (times (over 1 n) (ratio x C))
+    ratio-near =
         let S = x .den * (h .num * C .num) in
         let some : 0 < S = mul-pos (p .some) (mul-pos (k .above) (c .above)) in
         let A = C .num * h .den * x .num in
         let B = h .num * C .den * x .num in
-        let a : InUnits S false A (divided x h) = record { unit = some; some = mul-pos (p .some) (k .above); sign = divided-positive x h p k .sign; count = omega arith } in
-        let b : InUnits S false B (divided x C) = record { unit = some; some = mul-pos (p .some) (c .above); sign = divided-positive x C p c .sign; count = omega arith } in
+        let a : InUnits S false A (ratio x h) = record { unit = some; some = mul-pos (p .some) (k .above); sign = ratio-positive x h p k .sign; count = omega arith } in
+        let b : InUnits S false B (ratio x C) = record { unit = some; some = mul-pos (p .some) (c .above); sign = ratio-positive x C p c .sign; count = omega arith } in
         let far : apart A B * 2 ^ n ≤ T * x .num = omega (arith, mul-le-mul-right (x .num) apart-most, apart-mul (h .num * C .den) (C .num * h .den) (x .num), ap (λ (z : ℕ). z * 2 ^ n) (apart-mul (h .num * C .den) (C .num * h .den) (x .num))) in
-        units-at-most S (2 ^ n * S) (apart A B) (1 * B) (distance (divided x h) (divided x C)) (times (over 1 n) (divided x C))
-        (distance-in-units S A B (divided x h) (divided x C) a b) (times-in-units (2 ^ n) S 1 B false (over 1 n) (divided x C) (over-in-units 1 n) b)
+        units-at-most S (2 ^ n * S) (apart A B) (1 * B) (distance (ratio x h) (ratio x C)) (times (over 1 n) (ratio x C))
+        (distance-in-units S A B (ratio x h) (ratio x C) a b) (times-in-units (2 ^ n) S 1 B false (over 1 n) (ratio x C) (over-in-units 1 n) b)
         (omega (arith, mul-le-mul-right S far, mul-le-mul-right (C .den * x .num * S) one))
 
     -- |RN(x / h) - x / C| < 3/2 ulp(x / C) (source document 003, Property 3.1)
-    pub divided-error : (rule : Rule) → 0 < n → Below (distance (RN rule n (divided x h)) (divided x C)) (times (over 3 1) (ulp n (divided x C)))
-    divided-error rule P = ulp-near rule n P (divided x C) (divided-positive x C p c) (divided x h) (divided-positive x h p k) divided-near
+    pub ratio-error : (rule : Rule) → 0 < n → Below (distance (RN rule n (ratio x h)) (ratio x C)) (times (over 3 1) (ulp n (ratio x C)))
+    ratio-error rule P = ulp-near rule n P (ratio x C) (ratio-positive x C p c) (ratio x h) (ratio-positive x h p k) ratio-near

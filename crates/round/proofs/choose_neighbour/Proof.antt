@@ -1,16 +1,15 @@
 -- `round::choose_neighbour` meets its contract: the rule's bit on the remainder, then one comparison with the half. Assumes nothing.
-use mathlib.Core.Path.{_≡_, refl, ap, ap₂, _∙_}
+use mathlib.Core.Path.{_≡_, ap, _∙_}
 use mathlib.Core.Bool.{Bool}
-use Prim.Native.Nat.{ℕ, _+_, _-_, _^_}
+use Prim.Native.Nat.{ℕ, _+_}
 use native.Mathlib.Omega.{arith}
 use lib.Dec.{ltb}
-use lib.Pow.{pow-pos}
 use mir.Val.{boolByte}
 use borrow.Author.Needs.{needs}
-use Rattle.rounding.specs.Grid.{ruleOf, location, choose}
+use Rattle.rounding.specs.Grid.{ruleOf}
 use Rattle.wide.specs.declared.Wide.{Wide}
-use Rattle.wide.specs.Value.{wordBits, valueOf}
-use Rattle.round.proofs.Laws.{test-most, chosen-by-half, half-of, high-room}
+use Rattle.wide.specs.Value.{valueOf}
+use Rattle.round.proofs.Laws.{test-most, chosen-by-half}
 use Rattle.round.proofs.choose_neighbour.Statement.{statement}
 use Rattle.round.proofs.choose_neighbour.Tie as tie
 
@@ -19,30 +18,24 @@ small : (w : Wide) (b : Bool) → valueOf w ≡ boolByte b → w .hi ≡ 0
 small w b e = omega (arith, test-most b)
 
 sum-requires : tie.Need-sum-requires
-sum-requires c κs =
-    let a = c .before .before in
-    let r = a .args .r in
-    omega (arith, small (c .from-word .result) (c .before .tie-up .result) (c .from-word .ensures), high-room (r .hi) (r .lo) wordBits (a .args .k) (a .pre .3) (a .pre .2))
+sum-requires c κs = omega (arith, small (c .from-word .result) (c .before .tie-up .result) (c .from-word .ensures), c .before .before .pre .1)
 
 add-result : tie.Need-add-result
-add-result c = record { fits = omega (arith, test-most (c .below .result), c .before .before .before .before .before .pre .0) }
+add-result c = record { fits = omega (arith, test-most (c .below .result), c .before .before .before .before .pre .0) }
 
 returns : tie.Need-returns
 returns c =
-    let halved = c .before in
-    let summed = halved .before in
+    let summed = c .before in
     let bit = summed .before in
     let told = bit .before in
     let a = told .before in
     let rule = ruleOf (a .args .rule) in
     let q = a .args .q in
     let r = valueOf (a .args .r) in
-    let h = 2 ^ (a .args .k - 1) in
+    let h = valueOf (a .args .half) in
     let past : valueOf (summed .sum .result) ≡ r + boolByte (rule q) = summed .sum .ensures ∙ ap (λ (z : ℕ). r + z) (bit .from-word .ensures ∙ ap boolByte (told .tie-up .ensures)) in
-    ap (λ (b : Bool). q + boolByte b) (c .below .ensures ∙ ap₂ ltb (halved .wide-power .ensures) past)
-    ∙ chosen-by-half rule q r h (pow-pos (a .args .k - 1))
-    ∙ ap (λ (z : ℕ). choose rule q (location r z)) (half-of (a .args .k) h (a .pre .1) refl)
+    ap (λ (b : Bool). q + boolByte b) (c .below .ensures ∙ ap (ltb h) past) ∙ chosen-by-half rule q r h (a .pre .2)
 
 pub choose-neighbour-spec : {M : Type 1} → statement M
 choose-neighbour-spec =
-    tie.close (tie.spec (λ c κs. search needs) (λ c. search needs) (λ c κs. search needs) sum-requires (λ c. search needs) (λ c κs. search needs) (λ c κs. search needs) (λ c. search needs) add-result returns)
+    tie.close (tie.spec (λ c κs. search needs) (λ c. search needs) (λ c κs. search needs) sum-requires (λ c κs. search needs) (λ c. search needs) add-result returns)
