@@ -15,13 +15,13 @@ use Rattle.rounding.specs.Digits.{enough-digits}
 use Rattle.rounding.specs.GridLaws.{nearest-mono}
 use Rattle.rounding.specs.Unit.{rn}
 use Rattle.rounding.specs.UnitLaws.{rn-mono, rn-scale-whole, rn-whole-small, rn-fixed}
-use Rattle.rounding.specs.Fraction.{Fraction, less, RN, Same}
-use Rattle.rounding.specs.FractionLaws.{InUnits, RN-in-units, RN-in-units-fraction, less-in-units, units-finer, units-same}
+use Rattle.rounding.specs.Fraction.{Fraction, over, less, distance, RN, Same, AtMost}
+use Rattle.rounding.specs.FractionLaws.{InUnits, RN-in-units, RN-in-units-fraction, over-in-units, less-in-units, distance-in-units, units-finer, units-same, units-at-most}
 use Rattle.factor.specs.Context.{Context, Fine}
 use Rattle.factor.specs.Parts.{highPart, lowPart, partsAt}
 use Rattle.factor.specs.UnitParts.{UnitParts, step, plusOrMinus, unitParts, worth, unitPartsOf}
 use Rattle.factor.specs.Ends.{End, Between}
-use Rattle.factor.specs.PartsLaws.{width-is, worth-near, high-in-units, low-in-units, rn-high, units-of-parts}
+use Rattle.factor.specs.PartsLaws.{top-is, width-is, high-near, worth-near, high-in-units, high-kept, low-in-units, rn-high, units-of-parts}
 
 -- it is above zero, as L is
 pub between-positive : (K : Context) (L U : ℕ) → 0 < L → (C : Fraction) → Between K L U C → 0 < C .num
@@ -125,6 +125,18 @@ module _ (K : Context) (ok : Fine K) (L U : ℕ) (le : End K L) (ue : End K U) (
 
     abbrev T : ℕ
     T = unitParts K L .high * step K
+
+    -- Ch, as it is kept, is at most 2 ^ - n away
+    pub high-close : AtMost (distance (over (partsAt K L .high) (n - 1)) C) (over 1 n)
+    high-close =
+        let below-upper : U ≤ T + 2 ^ (E - n) = subst (λ (w : UnitParts). U ≤ w .high * step K + 2 ^ (E - n)) (sym unit-parts-same) (high-near K ok U ue .0) in
+        let H = over (partsAt K L .high) (n - 1) in
+        units-at-most (2 ^ E * D) (2 ^ n) (apart (T * D) N) 1 (distance H C) (over 1 n)
+        (distance-in-units (2 ^ E * D) (T * D) N H C (units-finer (2 ^ E) D (k .some) false T H (high-kept K ok L le)) C-in-units) (over-in-units 1 n)
+        (far (apart (T * D) N) (omega (arith, k .least, k .most, mul-le-mul-right D below-upper, mul-le-mul-right D (high-near K ok L le .1))))
+      where
+        far : (a : ℕ) → a ≤ 2 ^ (E - n) * D → a * 2 ^ n ≤ 1 * (2 ^ E * D)
+        far a h = omega (arith, mul-le-mul-right (2 ^ n) h, ap (λ (z : ℕ). z * D) (top-is K ok))
 
     abbrev A : ℕ
     A = apart N (T * D)

@@ -18,7 +18,7 @@ use Rattle.rounding.specs.declared.Rounded.{Rounded}
 use Rattle.rounding.specs.Round.{rounded}
 use Rattle.rounding.specs.RoundLaws.{rounded-same}
 use Rattle.rounding.specs.Fraction.{over}
-use Rattle.rounding.specs.FractionLaws.{InUnits, over-in-units, RN-in-units, less-in-units}
+use Rattle.rounding.specs.FractionLaws.{InUnits, over-in-units, units-finer, RN-in-units, less-in-units}
 use Rattle.rounding.specs.Signed.{negative, signedOf}
 use Rattle.factor.specs.declared.Parts.{Parts}
 pub use Rattle.factor.specs.LowForm.{top-is, width-is}
@@ -133,6 +133,13 @@ module _ (K : Context) (ok : Fine K) (c : ℕ) (ce : End K c) where
   pub high-is : partsAt K c .high ≡ p .high
   unfolding partsAt
   high-is = ap (λ (z : ℕ). z / highPart K c .den) high-count ∙ mul-div-cancel (p .high) (high-in-units .some)
+
+  -- as it is kept
+  pub high-kept : InUnits (2 ^ E) false (p .high * G) (over (partsAt K c .high) (n - 1))
+  high-kept =
+      let H = partsAt K c .high in
+      subst (λ (z : ℕ). InUnits (2 ^ E) false (z * G) (over H (n - 1))) high-is
+      (subst (λ (z : ℕ). InUnits z false (H * G) (over H (n - 1))) (sym (bottom-is K ok)) (units-finer (2 ^ (n - 1)) G (pow-pos (E + 1 - n)) false H (over H (n - 1)) (over-in-units H (n - 1))))
 
   -- ---- the low significand. R is |C - Ch|
   abbrev R : ℕ

@@ -4,6 +4,7 @@ use mathlib.Core.Bool.{Bool, false, cond}
 use mathlib.Core.List.{List, [], _∷_}
 use Prim.Native.Nat.{ℕ}
 use Rattle.marks.specs.declared.Mark.{Mark}
+use Rattle.marks.specs.declared.Verdict.{Verdict}
 
 -- ---- refusals
 -- the number of a refusal, or none
@@ -15,6 +16,11 @@ pub data Refusal : Type 0 where
 unfoldable pub judged : List (ℕ × Bool) → Refusal
 judged [] = none
 judged (t ∷ l) = cond (t .1) (number (t .0)) (judged l)
+
+-- what a verdict says
+abbrev pub refusalOf : Verdict → Refusal
+refusalOf (Verdict.Refused n) = number n
+refusalOf Verdict.Taken = none
 
 -- v is what the first condition that holds says
 pub record First (l : List (ℕ × Bool)) (v : Refusal) : Type 0 where

@@ -7,3 +7,9 @@ pub enum Mark {
     // for none
     Wrong,
 }
+
+// Whether what a call asks is refused, and with which number: what code judges before its work.
+pub enum Verdict {
+    Refused(u32),
+    Taken,
+}

@@ -23,7 +23,7 @@ use Rattle.factor.specs.Parts.{partsAt}
 use Rattle.factor.specs.UnitParts.{UnitParts, step, plusOrMinus, unitParts}
 use Rattle.factor.specs.Ends.{End}
 use Rattle.rounding.specs.Signed.{negative}
-use Rattle.factor.specs.PartsLaws.{width-is, step-is, bottom-is, high-from, high-is, low-most, width-le, worth-near, units-of-parts, low-kept}
+use Rattle.factor.specs.PartsLaws.{width-is, step-is, bottom-is, high-from, high-is, low-most, width-le, worth-near, units-of-parts, high-kept, low-kept}
 use Rattle.product.specs.declared.Product.{Product}
 use Rattle.product.specs.Product.{argument, high, low, first, fused, second, product, valueOf}
 use Rattle.product.specs.Units.{firstUnits, fusedUnits, secondUnits, units}
@@ -163,12 +163,6 @@ module _ (K : Context) (ok : Fine K) (c : ℕ) (ce : End K c) where
     low-in-units : InUnits (2 ^ E) (w .minus) (w .low) (low p)
     low-in-units = record { unit = pow-pos E; some = pow-pos (p .places); sign = minus-is; count = low-kept K ok c ce }
 
-    high-in-units : InUnits (2 ^ E) false (w .high * G) (high n p)
-    high-in-units =
-        let e = bottom-is K ok in
-        subst (λ (z : ℕ). InUnits (2 ^ E) false (z * G) (high n p)) (high-is K ok c ce)
-        (subst (λ (z : ℕ). InUnits z false (p .high * G) (high n p)) (sym e) (units-finer (2 ^ (n - 1)) G (pow-pos (E + 1 - n)) false (p .high) (high n p) (over-in-units (p .high) (n - 1))))
-
     at-unit : (m : Bool) (a : ℕ) (x : Fraction) → InUnits (2 ^ E) m a x → InUnits (2 ^ t) m (a * X) (times x (argument n X))
     at-unit m a x k = subst (λ (z : ℕ). InUnits z m (a * X) (times x (argument n X))) unit (times-in-units (2 ^ E) (2 ^ (n - 1)) a X m x (argument n X) k (over-in-units X (n - 1)))
 
@@ -178,7 +172,7 @@ module _ (K : Context) (ok : Fine K) (c : ℕ) (ce : End K c) where
 
     pub fused-in-units : InUnits (2 ^ t) false (fusedUnits K w X) (fused K p X)
     unfolding fusedUnits
-    fused-in-units = go (w .minus) (plus-in-units (2 ^ t) (w .high * G * X) (firstUnits K w X) false (w .minus) (times (high n p) (argument n X)) (first K p X) (at-unit false (w .high * G) (high n p) high-in-units) first-in-units)
+    fused-in-units = go (w .minus) (plus-in-units (2 ^ t) (w .high * G * X) (firstUnits K w X) false (w .minus) (times (high n p) (argument n X)) (first K p X) (at-unit false (w .high * G) (high n p) (high-kept K ok c ce)) first-in-units)
       where
         go : (b : Bool) → InUnits (2 ^ t) (sumSign false b (w .high * G * X) (firstUnits K w X)) (sumSize false b (w .high * G * X) (firstUnits K w X)) (fused K p X)
             → InUnits (2 ^ t) false (plusOrMinus b (w .high * G * X) (firstUnits K w X)) (fused K p X)

@@ -3,11 +3,12 @@ use factor::Factor;
 use factor::Parts;
 use factor::Precision;
 use marks::Mark;
+use marks::Verdict;
 use rounding::TieRule;
 use wide::Wide;
 ghost use mathlib.Core.Path.{_≡_};
 ghost use Prim.Native.Nat.{_+_, _-_, _*_, _<_, _≤_, _^_};
-ghost use Rattle.marks.specs.Answers.{accepted};
+ghost use Rattle.marks.specs.Answers.{refusalOf, First, accepted};
 ghost use Rattle.rounding.specs.Unit.{rn};
 ghost use Rattle.rounding.specs.Round.{HasBits};
 ghost use Rattle.wide.specs.Value.{wordBits, valueOf};
@@ -18,7 +19,7 @@ ghost use Rattle.factor.specs.SetUp.{Sound};
 ghost use Rattle.product.specs.Product.{productBy};
 ghost use Rattle.product.specs.Marks.{markBy};
 ghost use Rattle.product.specs.Units.{firstUnits, fusedUnits, roundedUnits, markUnits, Within, PartsAtEnd};
-ghost use Rattle.product.specs.Answer.{multiplied, outcomeOf};
+ghost use Rattle.product.specs.Answer.{conditions, multiplied, outcomeOf};
 
 // A product from 1 to below 4: a significand of n bits, and its binade, 0 for [1, 2) and 1 for [2, 4).
 pub struct Product {
@@ -169,17 +170,29 @@ fn answer(m: Mark, v: Product) -> ProductAnswer
     }
 }
 
+// The first refusal of a significand whose condition holds: 31 by the factor, then 17, whatever is then made of it.
+pub fn refusal_of(f: Factor, x: u64) -> Verdict
+    ensures { λ r. ⌜ First (conditions f x) (refusalOf r) ⌝ }
+{
+    if !factor::is_intact(f) {
+        return Verdict::Refused(31);
+    }
+    let p = f.precision;
+    if significand_out(p, x) {
+        return Verdict::Refused(17);
+    }
+    Verdict::Taken
+}
+
 // Multiplies a significand: the product with its mark, or refusal 31 for the factor, or 17 for the significand.
 pub fn multiply(f: Factor, x: u64) -> ProductAnswer
     ensures { λ r. ⌜ outcomeOf r ≡ multiplied f x ⌝ }
 {
-    if !factor::is_intact(f) {
-        return ProductAnswer::Refused(31);
+    match refusal_of(f, x) {
+        Verdict::Refused(number) => ProductAnswer::Refused(number),
+        Verdict::Taken => {
+            let v = product_of(f, x);
+            answer(mark_of(f, x, v), v)
+        }
     }
-    let p = f.precision;
-    if significand_out(p, x) {
-        return ProductAnswer::Refused(17);
-    }
-    let v = product_of(f, x);
-    answer(mark_of(f, x, v), v)
 }

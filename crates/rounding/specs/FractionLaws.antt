@@ -199,6 +199,12 @@ plus-same x y a b X Y A B p q =
     (record { unit = U; some = A; sign = sym (p .0); count = omega (arith, ap (λ (z : ℕ). z * y .den) (p .1)) })
     (record { unit = U; some = B; sign = sym (q .0); count = omega (arith, ap (λ (z : ℕ). z * x .den) (q .1)) }))
 
+-- and so are distances, so that one that is below u is so whatever the fraction is written as
+pub distance-same : (x y v u : Fraction) → 0 < x .den → 0 < y .den → 0 < v .den → Same x y → Below (distance x v) u → Below (distance y v) u
+distance-same x y v u X Y D s h =
+    let e = plus-same x (negated v) y (negated v) X D Y D s (refl, refl) .1 in
+    lt-of-mul-lt-mul-right (distance x v .den) (omega (arith, ap (λ (z : ℕ). z * u .den) e, mul-lt-mul-of-pos-right h (plus-some y (negated v) Y D)))
+
 module _ (T a b : ℕ) (x y : Fraction) (c : InUnits T false a x) (d : InUnits T false b y) where
   left : x .num * y .den * T ≡ a * (x .den * y .den)
   left = omega (arith, ap (λ (z : ℕ). z * y .den) (c .count))

@@ -1,7 +1,7 @@
 -- Definitions: what the code's states and answers say, in document 01's numbers and values. Assumes nothing.
 use mathlib.Core.List.{List}
 use Prim.Native.Nat.{ℕ}
-use Rattle.marks.specs.Answers.{Refusal, number, none, Outcome, refused, accepted}
+use Rattle.marks.specs.Answers.{number, Outcome, refused, accepted}
 use Rattle.factor.specs.declared.Factor.{Factor}
 use Rattle.calls.specs.State.{State, Call, Terms}
 use Rattle.calls.specs.Call.{Result, Reply}
@@ -9,7 +9,6 @@ use Rattle.sweep.specs.declared.SweepState.{SweepState}
 use Rattle.sweep.specs.declared.NewSweep.{NewSweep}
 use Rattle.sweep.specs.declared.Swept.{Swept}
 use Rattle.sweep.specs.declared.SweepAnswer.{SweepAnswer}
-use Rattle.sweep.specs.declared.Verdict.{Verdict}
 
 -- a state: factor, first, last and next significand, finished mark
 abbrev pub viewOf : SweepState → State Factor
@@ -40,8 +39,3 @@ resultOf r = record { trials = r .trials; rounds = r .rounds; place = r .place }
 abbrev pub replyOf : SweepAnswer → List ℕ → Reply Factor
 replyOf (SweepAnswer.Accepted r) list = record { answer = accepted (resultOf r); state = viewOf (r .state); list = list }
 replyOf (SweepAnswer.Refused r) list = record { answer = refused (r .number); state = viewOf (r .state); list = list }
-
--- whether a call is refused
-abbrev pub refusalOf : Verdict → Refusal
-refusalOf (Verdict.Refused n) = number n
-refusalOf Verdict.Taken = none

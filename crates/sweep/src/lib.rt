@@ -2,6 +2,7 @@
 use factor::Factor;
 use factor::Precision;
 use marks::Mark;
+use marks::Verdict;
 use search::Found;
 use search::Place;
 use suspects::Window;
@@ -13,11 +14,11 @@ ghost use Rattle.search.specs.declared.Place.the-variants.{Nowhere};
 ghost use Rattle.factor.specs.Precision.{ValidPrecision};
 ghost use Rattle.wide.specs.Value.{wordBits, halfWord};
 ghost use Rattle.suspects.specs.Next.{Askable};
-ghost use Rattle.marks.specs.Answers.{First};
+ghost use Rattle.marks.specs.Answers.{refusalOf, First};
 ghost use Rattle.calls.specs.Call.{newState, conditions, sweepCall};
 ghost use Rattle.calls.specs.Call;
 ghost use Rattle.sweep.specs.Engine.{rangeOut, stateOut, engine};
-ghost use Rattle.sweep.specs.Answers.{viewOf, newOf, callOf, termsBy, resultOf, replyOf, refusalOf};
+ghost use Rattle.sweep.specs.Answers.{viewOf, newOf, callOf, termsBy, resultOf, replyOf};
 ghost use Rattle.sweep.specs.Steps.{cutAt, soughtBefore, aheadIn, Searchable, mustStop, begunAt, haltedAt, withWord, triedAt, stepOf, resultIn, Room, Stepping, Taken};
 
 // A sweep's state: the factor, the first, last and next significand, and whether the sweep is finished.
@@ -65,12 +66,6 @@ struct Work {
     going: bool,
     word: u64,
     left: Place,
-}
-
-// Whether a call is refused.
-enum Verdict {
-    Refused(u32),
-    Taken,
 }
 
 // Refusal 17 of a range: a significand outside 2 ^ (n - 1) to 2 ^ n - 1, or the first above the last.

@@ -1,67 +1,58 @@
--- `product::multiply` meets its contract: what 31 lets through is sound, and what 17 lets through is in range. Assumes nothing.
-use mathlib.Core.Path.{_≡_, sym, ap, _∙_}
-use mathlib.Core.Bool.{false, not}
+-- `product::multiply` meets its contract: refused, or the product of what 31 and 17 let through. Assumes nothing.
+use mathlib.Core.Path.{sym, ap, _∙_}
+use Prim.Native.Nat.{ℕ}
 use borrow.Author.Needs.{needs}
-use borrow.Author.Tests.{not-false}
-use Rattle.marks.specs.Answers.{accepted}
-use Rattle.marks.specs.AnswerLaws.{pass, stop, end, refuses, accepts}
+use Rattle.marks.specs.Answers.{NoneHolds, accepted}
+use Rattle.marks.specs.AnswerLaws.{verdict-taken, verdict-refuses, none-refuses}
 use Rattle.rounding.specs.Round.{HasBits}
-use Rattle.factor.specs.Precision.{significandOut}
-use Rattle.factor.specs.SetUp.{intact, Sound}
-use Rattle.factor.specs.SetUpLaws.{intact-sound}
+use Rattle.factor.specs.declared.Factor.{Factor}
+use Rattle.factor.specs.SetUp.{Sound}
 use Rattle.product.specs.declared.Product.{Product}
 use Rattle.product.specs.SoundLaws.{sound-product}
-use Rattle.product.specs.Answer.{marked, multiplied}
-use Rattle.product.specs.AnswerLaws.{significand-in}
+use Rattle.product.specs.Answer.{conditions, marked, multiplied}
+use Rattle.product.specs.AnswerLaws.{let-through}
 use Rattle.product.proofs.multiply.Statement.{statement}
 use Rattle.product.proofs.multiply.Tie as tie
 
-returns : tie.Need-returns
-unfolding multiplied
-returns c = refuses (stop (ap not (sym (c .before .is-intact .ensures)) ∙ c .if1 .taken)) _
+-- ---- nothing refuses it
+module _ (c : tie.After-enum-told) where
+  abbrev f : Factor
+  f = c .before .before .before .args .f
 
--- 31 lets the factor through
-through : (c : tie.Else1) → not (intact (c .before .before .args .f)) ≡ false
-through c = ap not (sym (c .before .is-intact .ensures)) ∙ c .if1 .left
+  abbrev x : ℕ
+  x = c .before .before .before .args .x
 
-sound : (c : tie.Else1) → Sound (c .before .before .args .f)
-sound c = intact-sound (c .before .before .args .f) (not-false _ (through c))
+  none : NoneHolds (conditions f x)
+  none = verdict-taken (conditions f x) (c .before .before .refusal-of .result) (c .before .before .refusal-of .ensures) (c .enum-told .given .1)
 
-significand-out-requires : tie.Need-significand-out-requires
-significand-out-requires c κs = sound (c .before) .precision
-
-returns-2 : tie.Need-returns-2
-unfolding multiplied
-returns-2 c = refuses (pass (through (c .before .before .before)) (stop (sym (c .before .significand-out .ensures) ∙ c .if2 .taken))) _
-
--- 17 lets the significand through
-in-range : (c : tie.Else2) → let a = c .before .before .before .before .before .args in significandOut (a .f .precision .bits) (a .x) ≡ false
-in-range c = sym (c .before .significand-out .ensures) ∙ c .if2 .left
-
-bits : (c : tie.Else2) → let a = c .before .before .before .before .before .args in HasBits (a .f .precision .bits) (a .x)
-bits c = let a = c .before .before .before .before .before .args in significand-in (a .f .precision .bits) (a .x) (in-range c)
+  through : Sound f × HasBits (f .precision .bits) x
+  through = let-through f x none
 
 product-of-requires : tie.Need-product-of-requires
-product-of-requires c κs = (sound (c .before .before .before), bits c)
+product-of-requires c κs = through c
 
 mark-of-requires : tie.Need-mark-of-requires
 mark-of-requires c κs =
-    let range = c .before in
-    let s = sound (range .before .before .before) in
-    let a = range .before .before .before .before .before .args in
-    let is = sound-product (a .f) s (a .x) (bits range) in
-    (s, bits range, rw (c .product-of .ensures) (is .bits), rw (c .product-of .ensures) (is .binade))
+    let k = c .before in
+    let t = through k in
+    let is = sound-product (f k) (t .0) (x k) (t .1) in
+    (t .0, t .1, rw (c .product-of .ensures) (is .bits), rw (c .product-of .ensures) (is .binade))
 
-returns-3 : tie.Need-returns-3
+returns : tie.Need-returns
 unfolding multiplied
-returns-3 c =
+returns c =
+    let t = c .before .before .before in
+    let a = t .before .args in
+    verdict-refuses (conditions (a .f) (a .x)) (t .refusal-of .result) (t .refusal-of .ensures) (c .before .number .given .0 .0) (c .before .number .given .1) _
+
+returns-2 : tie.Need-returns-2
+unfolding multiplied
+returns-2 c =
     let product = c .before .before in
-    let range = product .before in
-    let past = range .before .before .before in
-    let a = past .before .before .args in
+    let k = product .before in
     c .answer .ensures
-    ∙ rw (c .before .mark-of .ensures) (ap (λ (v : Product). accepted (marked (a .f) (a .x) v)) (product .product-of .ensures))
-    ∙ accepts (pass (through past) (pass (in-range range) end)) _
+    ∙ rw (c .before .mark-of .ensures) (ap (λ (v : Product). accepted (marked (f k) (x k) v)) (product .product-of .ensures))
+    ∙ sym (none-refuses (conditions (f k) (x k)) _ (none k))
 
 pub multiply-spec : {M : Type 1} → statement M
-multiply-spec = tie.close (tie.spec (λ c κs. search needs) returns significand-out-requires returns-2 product-of-requires mark-of-requires (λ c κs. search needs) returns-3)
+multiply-spec = tie.close (tie.spec (λ c κs. search needs) (λ c. search needs) (λ c. search needs) product-of-requires mark-of-requires (λ c κs. search needs) returns returns-2)

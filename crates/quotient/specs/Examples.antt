@@ -1,0 +1,58 @@
+-- Figures: request W1's quotients, both borders of a binade, every refusal, and how near the bound of 3/2 ulp is met. All by computation. Assumes nothing.
+use mathlib.Core.Path.{_≡_, refl}
+use Prim.Native.Nat.{ℕ, _+_, _-_, _*_, _^_, _<_}
+use lib.Dec.{lit<}
+use lib.IntN.{ℤ, pos, negsuc}
+use lib.Ieee
+use lib.Ieee.{size}
+use Rattle.marks.specs.Answers.{judged, Outcome, refused, accepted, answer}
+use Rattle.rounding.specs.Fraction.{over, times, distance, Below}
+use Rattle.rounding.specs.Ulp.{ulp}
+use Rattle.factor.specs.declared.Description.{Description}
+use Rattle.factor.specs.declared.Factor.{Factor}
+use Rattle.factor.specs.Precision.{scaleOf}
+use Rattle.factor.specs.Context.{tieRule}
+use Rattle.factor.specs.Parts.{partsAt}
+use Rattle.factor.specs.SetUp.{appliedOf, factorOf}
+use Rattle.quotient.specs.declared.Quotient.{Quotient}
+use Rattle.quotient.specs.Quotient.{quotientBy, valueOf}
+use Rattle.quotient.specs.Answer.{divided}
+use Rattle.quotient.specs.Tells.{exactBy}
+
+-- both ends at c / 2 ^ 62, n bits
+factorAt : (n c : ℕ) → Factor
+unfolding scaleOf tieRule partsAt appliedOf
+factorAt n c = factorOf (record { precision = n; scale = pos 0; lower = c; upper = c })
+
+abbrev quotientOf : ℕ → ℤ → Outcome Quotient
+quotientOf s b = accepted (record { significand = s; binade = b })
+
+-- C = 3/2, n = 4: 2/3, 1 and 5/4
+three-halves :
+    (divided (factorAt 4 (3 * 2 ^ 61)) 8 ≡ quotientOf 11 (negsuc 0))
+    × (divided (factorAt 4 (3 * 2 ^ 61)) 12 ≡ quotientOf 8 (pos 0))
+    × (divided (factorAt 4 (3 * 2 ^ 61)) 15 ≡ quotientOf 10 (pos 0))
+unfolding factorAt divided answer judged Ieee.toBits size
+three-halves = (refl, refl, refl)
+
+-- C just below 2, whose high part is 2: 1 gives exactly 1/2; C = 1: every x itself
+ends-of-the-high-part :
+    (divided (factorAt 4 (2 ^ 63 - 1)) 8 ≡ quotientOf 8 (negsuc 0))
+    × (divided (factorAt 4 (2 ^ 63 - 1)) 15 ≡ quotientOf 15 (negsuc 0))
+    × (divided (factorAt 4 (2 ^ 62)) 8 ≡ quotientOf 8 (pos 0))
+    × (divided (factorAt 4 (2 ^ 62)) 15 ≡ quotientOf 15 (pos 0))
+unfolding factorAt divided answer judged Ieee.toBits size
+ends-of-the-high-part = (refl, refl, refl, refl)
+
+-- 17 on both sides, and 31 before it
+refusals :
+    (divided (factorAt 4 (3 * 2 ^ 61)) 7 ≡ refused 17)
+    × (divided (factorAt 4 (3 * 2 ^ 61)) 16 ≡ refused 17)
+    × (divided (factorAt 3 (3 * 2 ^ 61)) 16 ≡ refused 31)
+unfolding factorAt divided answer judged Ieee.toBits size
+refusals = (refl, refl, refl)
+
+-- C = 1 + 2 ^ -13 - 2 ^ -24 and x = 2 - 2 ^ -12 at 24 bits (source document 003, Example 2): more than 191/128 ulp
+nearly-met : let y = exactBy 24 16775168 (over (2 ^ 62 + 2 ^ 49 - 2 ^ 38) 62) in Below (times (over 191 7) (ulp 24 y)) (distance (valueOf 24 (quotientBy (factorAt 24 (2 ^ 62 + 2 ^ 49 - 2 ^ 38)) 16775168)) y)
+unfolding factorAt divided ulp size
+nearly-met = lit< tt

@@ -1,0 +1,37 @@
+-- The quotient of a significand by the high part (request W1; source document 003, section III), over a context. Definitions only. Assumes nothing.
+use Prim.Native.Nat.{ℕ, _-_}
+use lib.IntN.{pos, _+ℤ_}
+use Rattle.rounding.specs.Round.{rounded}
+use Rattle.rounding.specs.Fraction.{Fraction, over, power, times, ratio, RN}
+use Rattle.factor.specs.declared.Parts.{Parts}
+use Rattle.factor.specs.declared.Factor.{Factor}
+use Rattle.factor.specs.Context.{Context, contextOf}
+use Rattle.product.specs.Product.{argument, high}
+use Rattle.quotient.specs.declared.Quotient.{Quotient}
+
+-- x / Ch
+abbrev pub exact : (n : ℕ) → Parts → ℕ → Fraction
+exact n p X = ratio (argument n X) (high n p)
+
+module _ (K : Context) where
+  open Context K using (rule, n)
+
+  -- RN(x / Ch)
+  abbrev pub once : Parts → ℕ → Fraction
+  once p X = RN rule n (exact n p X)
+
+  -- it as a significand of n bits and a binade: significand * 2 ^ binade / 2 ^ (n - 1)
+  unfoldable pub quotient : Parts → ℕ → Quotient
+  unfolding rounded
+  quotient p X =
+      let y = exact n p X in
+      let r = rounded rule n (y .num) (y .den) in
+      record { significand = r .significand; binade = r .exponent +ℤ pos (n - 1) }
+
+-- the quotient by a factor, by its own precision and parts
+abbrev pub quotientBy : Factor → ℕ → Quotient
+quotientBy f X = quotient (contextOf f) (f .parts) X
+
+-- a quotient as a number
+abbrev pub valueOf : (n : ℕ) → Quotient → Fraction
+valueOf n v = times (power (v .binade)) (over (v .significand) (n - 1))

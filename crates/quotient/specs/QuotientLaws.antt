@@ -1,0 +1,173 @@
+-- Laws of the quotient: its binade is -1 or 0, its significand has n bits and is the nearest of one division, its value is RN(x / Ch), and it is never half way between two numbers, so that every tie rule gives the same. Assumes nothing.
+use mathlib.Core.Path.{_≡_, refl, sym, ap, _∙_, subst}
+use mathlib.Core.Bool.{Bool, true, false, cond}
+use Prim.Native.Nat.{ℕ, zero, suc, _+_, _-_, _*_, _/_, _%_, _^_, _≤_, _<_}
+use native.Mathlib.Nat.{div-add-mod', mul-le-mul-right, mul-le-mul-left, mul-pos, le-trans, mul-one, pow-succ', add-zero}
+use native.Mathlib.Omega.{arith}
+use lib.IntN.{ℤ, pos, _+ℤ_}
+use lib.Dec.{ltb}
+use lib.Pow.{pow-add, pow-pos, le-ones}
+use lib.Ieee.{minus, up, down}
+use lib.Ieee.Digits.{minus-val}
+use lib.Ieee.Order.{drop}
+use borrow.Author.Tests.{ne-eqb, ltb-true, ltb-false, lt-ltb, le-ltb}
+use Rattle.rounding.specs.declared.Location.{Location}
+use Rattle.rounding.specs.declared.Location.the-variants.{Half}
+use Rattle.rounding.specs.declared.Rounded.{Rounded}
+use Rattle.rounding.specs.Grid.{Rule, location, nearest}
+use Rattle.rounding.specs.GridLaws.{Lies, location-lies, nearest-is, nearest-only, nearest-le, nearest-ge}
+use Rattle.rounding.specs.Digits.{pow-half, drop-le}
+use Rattle.rounding.specs.Round.{normalised, stepped, roundedIn, rounded, HasBits}
+use Rattle.rounding.specs.RoundLaws.{rounded-at, minus-shift}
+use Rattle.rounding.specs.Fraction.{Same}
+use Rattle.factor.specs.declared.Parts.{Parts}
+use Rattle.factor.specs.Context.{Context}
+use Rattle.quotient.specs.declared.Quotient.{Quotient}
+use Rattle.quotient.specs.Quotient.{exact, once, quotient, valueOf}
+
+-- a high significand: Ch is from 1 to 2, both included
+pub record HighBits (n H : ℕ) : Type 0 where
+  pub least : 2 ^ (n - 1) ≤ H
+  pub most : H ≤ 2 ^ n
+
+-- where an odd multiple of H is a multiple of 2 ^ m, H is one: so it is not below 2 ^ m
+odd-multiple : (m Y q H : ℕ) → 0 < H → 2 ^ m * Y ≡ (2 * q + 1) * H → 2 ^ m ≤ H
+odd-multiple zero Y q H h e = h
+odd-multiple (suc m) Y q H h e =
+    let w = ap (λ (z : ℕ). z * Y) (pow-succ' 2 m) in
+    let even : H ≡ 2 * (H / 2) = omega arith in
+    let f : 2 ^ m * Y ≡ (2 * q + 1) * (H / 2) = omega (arith, ap (λ (z : ℕ). (2 * q + 1) * z) even) in
+    omega (arith, odd-multiple m Y q (H / 2) (omega arith) f, pow-succ' 2 m)
+
+-- X * 2 ^ t / H has n digits before the point
+pub record Scaled (n H X t : ℕ) : Type 0 where
+  pub least : 2 ^ (n - 1) * H ≤ X * 2 ^ t
+  pub most : X * 2 ^ t ≤ (2 ^ n - 1) * H
+  -- and is half way between no two whole numbers
+  pub untied : (q : ℕ) → 2 * (X * 2 ^ t) ≡ 2 * (q * H) + H → ⊥
+
+-- how far below 1 the binade of X / H is: 1, or 0
+abbrev pub lowered : (H X : ℕ) → ℕ
+lowered H X = cond (ltb X H) 1 0
+
+module _ (n : ℕ) (P : 0 < n) (H X : ℕ) (h : HighBits n H) (x : HasBits n X) where
+  pub high-some : 0 < H
+  high-some = le-trans (pow-pos (n - 1)) (h .least)
+
+  -- below 1: in the unit 2 ^ - n
+  scaled-low : X < H → Scaled n H X n
+  scaled-low l =
+      let e = pow-half n P in
+      record {
+        least = omega (arith, ap (λ (z : ℕ). X * z) e, mul-le-mul-left (2 ^ (n - 1)) (h .most), mul-le-mul-right (2 ^ n) (x .least));
+        most = go (2 ^ n) (2 ^ n - 1) (omega (arith, pow-pos n)) (h .most) l;
+        untied = λ q t. let w = pow-succ' 2 n in omega (arith, odd-multiple (suc n) X q H high-some (omega (arith, ap (λ (z : ℕ). z * X) w)), pow-pos n);
+      }
+    where
+      go : (b c : ℕ) → b ≡ c + 1 → H ≤ b → X < H → X * b ≤ c * H
+      go b c e p q = omega (arith, mul-le-mul-right b q, ap (λ (z : ℕ). H * z) e)
+
+  -- at least 1: in the unit 2 ^ - (n - 1)
+  scaled-high : H ≤ X → Scaled n H X (n - 1)
+  scaled-high l =
+      let e = pow-half n P in
+      record {
+        least = omega (arith, mul-le-mul-left (2 ^ (n - 1)) l);
+        most = le-trans (mul-le-mul-right (2 ^ (n - 1)) (le-ones n (x .most))) (mul-le-mul-left (2 ^ n - 1) (h .least));
+        untied = λ q t. omega (arith, odd-multiple n X q H high-some (omega (arith, ap (λ (z : ℕ). z * X) e)), x .most);
+      }
+
+  -- by one test
+  pub scaled : Scaled n H X (n - 1 + lowered H X)
+  scaled = go (ltb X H) refl
+    where
+      go : (b : Bool) → ltb X H ≡ b → Scaled n H X (n - 1 + cond b 1 0)
+      go true e = subst (Scaled n H X) (omega arith) (scaled-low (ltb-true X H e))
+      go false e = subst (Scaled n H X) (omega arith) (scaled-high (ltb-false X H e))
+
+module _ (K : Context) (P : 0 < K .n) (p : Parts) (X : ℕ) (h : HighBits (K .n) (p .high)) (x : HasBits (K .n) X) where
+  open Context K using (rule, n)
+
+  abbrev H : ℕ
+  H = p .high
+
+  abbrev b : ℕ
+  b = lowered H X
+
+  -- in the unit 2 ^ - t, x / Ch is N / H, with n digits
+  abbrev t : ℕ
+  t = n - 1 + b
+
+  abbrev N : ℕ
+  N = X * 2 ^ t
+
+  some : 0 < H
+  some = high-some n P H X h x
+
+  s : Scaled n H X t
+  s = scaled n P H X h x
+
+  module _ (rule : Rule) where
+    pub nearest-bits : HasBits n (nearest rule N H)
+    nearest-bits = record { least = nearest-ge rule N H (2 ^ (n - 1)) some (s .least); most = omega (arith, nearest-le rule N H (2 ^ n - 1) some (s .most), pow-pos n) }
+
+    rounded-exact : rounded rule n (exact n p X .num) (exact n p X .den) ≡ record { significand = nearest rule N H; exponent = minus 0 t; location = location (N % H) H }
+    unfolding roundedIn stepped normalised
+    rounded-exact =
+        let e : 2 ^ n ≡ (2 ^ n - 1) + 1 = omega (arith, pow-pos n) in
+        let l : N < 2 ^ n * H = omega (arith, s .most, some, ap (λ (z : ℕ). z * H) e) in
+        let all-kept : drop n N H ≡ 0 = omega (arith, drop-le n N H some 0 (rw add-zero l)) in
+        rounded-at rule n P (X * 2 ^ (n - 1)) (2 ^ (n - 1) * H) t N H (mul-pos (pow-pos (n - 1)) some) some (omega arith) (omega (arith, s .least, ap (λ (z : ℕ). z * H) (pow-half n P)))
+        ∙ ap (λ (k : ℕ). stepped rule n t k N (H * 2 ^ k)) all-kept
+        ∙ ap (λ (u : ℕ). stepped rule n t 0 N u) (mul-one H)
+        ∙ rw (ne-eqb (nearest rule N H) (2 ^ n) (λ e. omega (arith, nearest-bits .most)))
+
+    -- never half way between two numbers of n bits
+    pub never-tied : rounded rule n (exact n p X .num) (exact n p X .den) .location ≡ Half → ⊥
+    never-tied e =
+        let l : location (N % H) H ≡ Half = sym (ap (λ (r : Rounded). r .location) rounded-exact) ∙ e in
+        s .untied (N / H) (omega (arith, subst (λ (l : Location). Lies l (N % H) H) l (location-lies (N % H) H), div-add-mod' N H))
+
+  -- so that every tie rule takes the same neighbour
+  same-taken : (a b : Rule) → nearest a N H ≡ nearest b N H
+  same-taken a b =
+      let m = nearest-is b N H some in
+      nearest-only a N H (nearest b N H) some (record { low = m .low; high = m .high; tie = λ q e. absurd (s .untied q e) })
+
+  -- one division, rounded to nearest
+  pub quotient-is : quotient K p X ≡ record { significand = nearest rule N H; binade = minus 0 b }
+  unfolding quotient
+  quotient-is =
+      let e : t ≡ b + (n - 1) = omega arith in
+      let f : minus 0 t +ℤ pos (n - 1) ≡ minus 0 b = ap (λ (z : ℕ). minus 0 z +ℤ pos (n - 1)) e ∙ minus-shift 0 b (n - 1) in
+      ap (λ (y : Rounded). record { significand = y .significand; binade = y .exponent +ℤ pos (n - 1) }) (rounded-exact rule) ∙ ap (λ (z : ℤ). record { significand = nearest rule N H; binade = z }) f
+
+  -- by whatever rule
+  pub quotient-any-rule : (other : Rule) → quotient (record { rule = other; n = n; E = K .E }) p X ≡ quotient K p X
+  unfolding quotient
+  quotient-any-rule other =
+      ap (λ (y : Rounded). record { significand = y .significand; binade = y .exponent +ℤ pos (n - 1) })
+      (rounded-exact other ∙ ap (λ (z : ℕ). record { significand = z; exponent = minus 0 t; location = location (N % H) H }) (same-taken other rule) ∙ sym (rounded-exact rule))
+
+  pub quotient-bits : HasBits n (quotient K p X .significand)
+  quotient-bits = rw quotient-is (nearest-bits rule)
+
+  -- as a number it is RN(x / Ch)
+  pub quotient-value : Same (once K p X) (valueOf n (quotient K p X))
+  quotient-value =
+      rw quotient-is (
+        refl,
+        let S = nearest rule N H in
+            let w : 2 ^ t ≡ 2 ^ (n - 1) * 2 ^ b = pow-add 2 (n - 1) b in
+            let u = up (minus 0 t) in
+            let v = up (minus 0 b) in
+            subst (λ (r : Rounded). r .significand * up (r .exponent) * (down (minus 0 b) * 2 ^ (n - 1)) ≡ v * S * down (r .exponent)) (sym (rounded-exact rule))
+            (omega (arith, ap (λ (z : ℕ). z * (S * v)) (minus-val 1 0 t), ap (λ (z : ℕ). z * (S * u * 2 ^ (n - 1))) (minus-val 1 0 b), ap (λ (z : ℕ). S * u * v * z) w)),
+      )
+
+  -- its binade is -1 below 1, and 0 from there on
+  pub quotient-low : X < H → quotient K p X .binade ≡ minus 0 1
+  quotient-low l = ap (λ (v : Quotient). v .binade) quotient-is ∙ ap (λ (z : Bool). minus 0 (cond z 1 0)) (lt-ltb X H l)
+
+  pub quotient-high : H ≤ X → quotient K p X .binade ≡ minus 0 0
+  quotient-high l = ap (λ (v : Quotient). v .binade) quotient-is ∙ ap (λ (z : Bool). minus 0 (cond z 1 0)) (le-ltb X H l)

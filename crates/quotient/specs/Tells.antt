@@ -1,0 +1,114 @@
+-- What an answer to a division tells, for every factor and every number as X (`quotient-tells`): its form, that it is RN(x / Ch) by every tie rule, and that it is less than 3/2 units in the last place from x / C for
+-- every fraction C between the ends (source document 003, Property 3.1). Assumes nothing.
+use mathlib.Core.Path.{_≡_, refl, sym, ap, _∙_, subst}
+use Prim.Native.Nat.{ℕ, _-_, _≤_, _<_}
+use native.Mathlib.Nat.{le-trans}
+use native.Mathlib.Omega.{arith}
+use lib.IntN.{pos, negsuc}
+use lib.Pow.{pow-pos}
+use lib.Ieee.Fits.{down-pos}
+use native.Mathlib.Nat.{mul-pos}
+use Rattle.marks.specs.Answers.{Outcome, refused, accepted}
+use Rattle.marks.specs.AnswerLaws.{of-answer}
+use Rattle.rounding.specs.declared.Location.the-variants.{Half}
+use Rattle.rounding.specs.Grid.{Rule}
+use Rattle.rounding.specs.Round.{rounded, HasBits}
+use Rattle.rounding.specs.Fraction.{Fraction, over, times, ratio, distance, RN, Same, Below, AtMost, Positive}
+use Rattle.rounding.specs.FractionLaws.{RN-some, ratio-positive, distance-same}
+use Rattle.rounding.specs.Ulp.{ulp}
+use Rattle.rounding.specs.OneRounding.{ratio-error}
+use Rattle.factor.specs.declared.Parts.{Parts}
+use Rattle.factor.specs.declared.Factor.{Factor}
+use Rattle.factor.specs.Context.{Context, Fine, contextOf, lowerOf, upperOf}
+use Rattle.factor.specs.Ends.{Between}
+use Rattle.factor.specs.PartsLaws.{high-is, high-least, high-most}
+use Rattle.factor.specs.Accepted.{between-positive, high-close}
+use Rattle.factor.specs.SetUp.{Sound}
+use Rattle.product.specs.Product.{argument, high}
+use Rattle.product.specs.Answer.{conditions}
+use Rattle.product.specs.AnswerLaws.{let-through}
+use Rattle.product.specs.SoundLaws.{sound-fine}
+use Rattle.quotient.specs.declared.Quotient.{Quotient}
+use Rattle.quotient.specs.Quotient.{exact, once, quotientBy, valueOf}
+use Rattle.quotient.specs.Answer.{divided}
+use Rattle.quotient.specs.QuotientLaws.{HighBits, never-tied, quotient-any-rule, quotient-bits, quotient-value, quotient-low, quotient-high}
+
+-- ---- what is said
+-- x / C, for a significand X
+abbrev pub exactBy : (n X : ℕ) → Fraction → Fraction
+exactBy n X C = ratio (argument n X) C
+
+pub record Tells (f : Factor) (X : ℕ) (v : Quotient) : Type 0 where
+  -- a significand of n bits, in binade -1 below 1, where X is below the high significand, and in binade 0 from there on
+  pub bits : HasBits (f .precision .bits) (v .significand)
+  pub low : X < f .parts .high → v .binade ≡ negsuc 0
+  pub from-one : f .parts .high ≤ X → v .binade ≡ pos 0
+  -- it is RN(x / Ch), by whatever tie rule, since x / Ch is never half way between two numbers of n bits
+  pub value : (rule : Rule) → Same (RN rule (f .precision .bits) (exact (f .precision .bits) (f .parts) X)) (valueOf (f .precision .bits) v)
+  pub untied : (rule : Rule) → let y = exact (f .precision .bits) (f .parts) X in rounded rule (f .precision .bits) (y .num) (y .den) .location ≡ Half → ⊥
+  -- |RN(x / Ch) - x / C| < 3/2 ulp(x / C) for every C between the ends, in whole numbers, cross-multiplied
+  pub near : (C : Fraction) → Between (contextOf f) (lowerOf f) (upperOf f) C → let y = exactBy (f .precision .bits) X C in Below (distance (valueOf (f .precision .bits) v) y) (times (over 3 1) (ulp (f .precision .bits) y))
+
+-- of every answer: a refusal tells nothing
+abbrev pub AnswerTells : Factor → ℕ → Outcome Quotient → Type 0
+AnswerTells f X (refused k) = Unit {0}
+AnswerTells f X (accepted v) = Tells f X v
+
+-- ---- of a sound factor and a significand in range
+module _ (f : Factor) (s : Sound f) where
+  abbrev K : Context
+  K = contextOf f
+
+  abbrev n : ℕ
+  n = f .precision .bits
+
+  abbrev L : ℕ
+  L = lowerOf f
+
+  abbrev U : ℕ
+  U = upperOf f
+
+  ok : Fine K
+  ok = sound-fine f s
+
+  pub sound-high : HighBits n (f .parts .high)
+  sound-high =
+      let e : f .parts .high ≡ _ = ap (λ (p : Parts). p .high) (s .parts) ∙ high-is K ok L (s .lower-end) in
+      rw e (record { least = high-least K ok L (s .lower-end); most = high-most K ok L (s .lower-end) })
+
+  module _ (X : ℕ) (x : HasBits n X) where
+    x-positive : Positive (argument n X)
+    x-positive = record { sign = refl; above = le-trans (pow-pos (n - 1)) (x .least); some = pow-pos (n - 1) }
+
+    h-positive : Positive (high n (f .parts))
+    h-positive = record { sign = refl; above = le-trans (pow-pos (n - 1)) (sound-high .least); some = pow-pos (n - 1) }
+
+    value : (rule : Rule) → Same (RN rule n (exact n (f .parts) X)) (valueOf n (quotientBy f X))
+    value rule =
+        let other : Context = record { rule = rule; n = n; E = K .E } in
+        subst (λ (v : Quotient). Same (once other (f .parts) X) (valueOf n v)) (quotient-any-rule K (ok .some) (f .parts) X sound-high x rule) (quotient-value other (ok .some) (f .parts) X sound-high x)
+
+    near : (C : Fraction) → Between K L U C → Below (distance (valueOf n (quotientBy f X)) (exactBy n X C)) (times (over 3 1) (ulp n (exactBy n X C)))
+    near C k =
+        let c : Positive C = record { sign = k .sign; above = between-positive K L U (le-trans (pow-pos (K .E)) (s .lower-end .from)) C k; some = k .some } in
+        let v = quotientBy f X in
+        let close = subst (λ (p : Parts). AtMost (distance (high n p) C) (over 1 n)) (sym (s .parts)) (high-close K ok L U (s .lower-end) (s .upper-end) (s .same) C k) in
+        distance-same (once K (f .parts) X) (valueOf n v) (exactBy n X C) (times (over 3 1) (ulp n (exactBy n X C)))
+        (RN-some (K .rule) n (exact n (f .parts) X)) (mul-pos (down-pos (v .binade)) (pow-pos (n - 1))) (ratio-positive (argument n X) C x-positive c .some) (value (K .rule))
+        (ratio-error n C (high n (f .parts)) c h-positive close (argument n X) x-positive (omega (arith, sound-high .least)) (K .rule) (ok .some))
+
+    pub sound-quotient : Tells f X (quotientBy f X)
+    sound-quotient =
+        record {
+          bits = quotient-bits K (ok .some) (f .parts) X sound-high x;
+          low = quotient-low K (ok .some) (f .parts) X sound-high x;
+          from-one = quotient-high K (ok .some) (f .parts) X sound-high x;
+          value = value;
+          untied = never-tied K (ok .some) (f .parts) X sound-high x;
+          near = near;
+        }
+
+-- every answer tells the truth, whatever the factor and the number
+pub quotient-tells : (f : Factor) (X : ℕ) → AnswerTells f X (divided f X)
+unfolding divided
+quotient-tells f X = of-answer (AnswerTells f X) (conditions f X) (quotientBy f X) (λ k. tt) (λ h. let t = let-through f X h in sound-quotient f (t .0) X (t .1))

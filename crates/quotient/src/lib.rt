@@ -1,0 +1,45 @@
+// The quotient of a significand by a factor's high part, rounded once (request W1): what a tape that is graduated in diameter gives back as a girth.
+use factor::Factor;
+use marks::Verdict;
+use rounding::TieRule;
+ghost use mathlib.Core.Path.{_≡_};
+ghost use Rattle.rounding.specs.Round.{HasBits};
+ghost use Rattle.factor.specs.SetUp.{Sound};
+ghost use Rattle.quotient.specs.Quotient.{quotientBy};
+ghost use Rattle.quotient.specs.Answer.{divided, outcomeOf};
+
+// A quotient from 1/2 to below 2: a significand of n bits, and its binade, -1 for [1/2, 1) and 0 for [1, 2).
+pub struct Quotient {
+    pub significand: u64,
+    pub binade: i32,
+}
+
+// The answer to a division: the quotient, which has no mark, or the refusal 31 or 17.
+pub enum QuotientAnswer {
+    Accepted(Quotient),
+    Refused(u32),
+}
+
+// RN(x / Ch) of a factor that was accepted and a significand in range. Below 1 it has one digit more behind the point, so that n digits come out of the one division.
+pub fn quotient_of(f: Factor, x: u64) -> Quotient
+    requires { ⌜ Sound f × HasBits (f .precision .bits) x ⌝ }
+    ensures { λ r. ⌜ r ≡ quotientBy f x ⌝ }
+{
+    let high = f.parts.high;
+    let below = (x < high) as u32;
+    let near = round::nearest_quotient(x << (f.precision.bits - 1 + below), high, TieRule::ToEven);
+    Quotient {
+        significand: near.taken,
+        binade: -(below as i32),
+    }
+}
+
+// Divides a significand: the quotient, or refusal 31 for the factor, or 17 for the significand.
+pub fn divide(f: Factor, x: u64) -> QuotientAnswer
+    ensures { λ r. ⌜ outcomeOf r ≡ divided f x ⌝ }
+{
+    match product::refusal_of(f, x) {
+        Verdict::Refused(number) => QuotientAnswer::Refused(number),
+        Verdict::Taken => QuotientAnswer::Accepted(quotient_of(f, x)),
+    }
+}
