@@ -3,7 +3,7 @@ use mathlib.Core.Path.{_≡_, refl, sym, ap, ap₂, _∙_, subst}
 use mathlib.Core.Bool.{Bool, true, false, not, _&&_, cond, true≢false}
 use mathlib.Core.Logic.{_⊎_, inl, inr}
 use Prim.Native.Nat.{ℕ, suc, _+_, _-_, _*_, _^_, _≤_, _<_}
-use native.Mathlib.Nat.{mul-one, zero-add, mod-lt}
+use native.Mathlib.Nat.{mul-one, mod-lt}
 use native.Mathlib.Omega.{arith}
 use lib.Dec.{T, eqb}
 use lib.IntN.{ℤ, pos, _+ℤ_}
@@ -86,8 +86,7 @@ module _ (f : Format) (x : Float) (h : T (fits f x)) where
       let field : biasedExponent f b ≡ k + 1 = omega (arith, n .from) in
       let bias : emax f ≡ E + 1 = omega (arith, reach f, two f) in
       let at : exponentOf f b +ℤ pos E ≡ pos k = ap₂ (λ (y z : ℕ). minus y z +ℤ pos E) field bias ∙ ap (λ (z : ℤ). z +ℤ pos E) (minus-add k E 1) ∙ minus-back k E in
-      let same : significandOf f b * up (exponentOf f b) * 2 ^ low f ≡ significandOf f b * 2 ^ k * (hid f * down (exponentOf f b)) =
-      ap (λ (z : ℕ). z * up (exponentOf f b) * 2 ^ low f) (sym (mul-one (significandOf f b))) ∙ in-smallest f (significandOf f b) 0 (exponentOf f b) k (ap (λ (z : ℕ). exponentOf f b +ℤ pos z) (zero-add E) ∙ at) in
+      let same = in-smallest f (significandOf f b) (exponentOf f b) k at in
       revalue x (signOf f b) (significandOf f b * 2 ^ k) (2 ^ low f) (significandOf f b * up (exponentOf f b)) (hid f * down (exponentOf f b)) (pow-pos (low f)) (sym same) v
 
 -- every pattern is of one of the classes

@@ -51,16 +51,11 @@ powers-add e k =
         eq-of-mul-eq-mul-right MN some (u * v * c) (w * (a * b))
         (omega (arith, ap (λ (z : ℕ). u * v * c * z) m, ap (λ (z : ℕ). z * (v * N * c)) e, ap (λ (z : ℕ). z * (P * a * c)) f, ap (λ (z : ℕ). z * (a * b)) g, ap (λ (z : ℕ). z * (c * a * b)) j))
 
--- ---- S / hid * 2 ^ B * 2 ^ z is S * 2 ^ j times the smallest positive value
-pub in-smallest : (f : Format) (S B : ℕ) (z : ℤ) (j : ℕ) → z +ℤ pos (B + (emax f - 1)) ≡ pos j → S * 2 ^ B * up z * 2 ^ low f ≡ S * 2 ^ j * (hid f * down z)
-in-smallest f S B z j e =
+-- ---- S / hid * 2 ^ z is S * 2 ^ j times the smallest positive value
+pub in-smallest : (f : Format) (S : ℕ) (z : ℤ) (j : ℕ) → z +ℤ pos (emax f - 1) ≡ pos j → S * up z * 2 ^ low f ≡ S * 2 ^ j * (hid f * down z)
+in-smallest f S z j e =
     let one : 2 ^ low f ≡ 2 ^ (emax f - 1) * hid f = ap (λ (y : ℕ). 2 ^ y) (omega (arith, two f, reach f)) ∙ pow-add 2 (emax f - 1) (prec f - 1) in
-    omega (
-      arith,
-      ap (λ (y : ℕ). S * 2 ^ B * up z * y) one,
-      ap (λ (y : ℕ). up z * y * (S * hid f)) (pow-add 2 B (emax f - 1)),
-      ap (λ (y : ℕ). y * (S * hid f)) (up-down z (B + (emax f - 1)) j e),
-    )
+    omega (arith, ap (λ (y : ℕ). S * up z * y) one, ap (λ (y : ℕ). y * (S * hid f)) (up-down z (emax f - 1) j e))
 
 -- a format has exponents below zero
 pub emax-two : (f : Format) → 2 ≤ emax f

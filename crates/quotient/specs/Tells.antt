@@ -3,8 +3,9 @@
 use mathlib.Core.Path.{_≡_, refl, sym, ap, _∙_, subst}
 use Prim.Native.Nat.{ℕ, _-_, _≤_, _<_}
 use native.Mathlib.Nat.{le-trans}
+use native.Mathlib.Decide.{decLt}
 use native.Mathlib.Omega.{arith}
-use lib.IntN.{pos, negsuc}
+use lib.IntN.{pos, negsuc, natAbs}
 use lib.Pow.{pow-pos}
 use lib.Ieee.Fits.{down-pos}
 use native.Mathlib.Nat.{mul-pos}
@@ -107,6 +108,14 @@ module _ (f : Factor) (s : Sound f) where
           untied = never-tied K (ok .some) (f .parts) X sound-high x;
           near = near;
         }
+
+    -- one or no binade below that of x
+    pub sound-binade : natAbs (quotientBy f X .binade) ≤ 1
+    sound-binade = go (decLt X (f .parts .high))
+      where
+        go : Dec (X < f .parts .high) → natAbs (quotientBy f X .binade) ≤ 1
+        go (yes l) = rw (sound-quotient .low l) (omega arith)
+        go (no l) = rw (sound-quotient .from-one (omega arith)) (omega arith)
 
 -- every answer tells the truth, whatever the factor and the number
 pub quotient-tells : (f : Factor) (X : ℕ) → AnswerTells f X (divided f X)

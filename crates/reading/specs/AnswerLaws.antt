@@ -1,20 +1,18 @@
 -- Readings that are let through to their product, and what they are answered with. Assumes nothing.
 use mathlib.Core.Path.{_≡_, refl, sym, ap, _∙_, subst}
 use mathlib.Core.Bool.{Bool, true, false, cond}
+use mathlib.Core.List.{[], _∷_}
 use Prim.Native.Nat.{ℕ}
 use lib.Ieee.{Float, binary32, prec, toBits}
 use borrow.Author.Tests.{eqb-true, not-false}
-use Rattle.marks.specs.declared.Mark.{Mark}
 use Rattle.marks.specs.Answers.{NoneHolds, refused, accepted, answer}
 use Rattle.marks.specs.AnswerLaws.{pass, end, accepts, rest-answers, only-accepted, refused-first}
-use Rattle.floats.specs.Fields.{plusZero, zeroBits, Normal, significandOf}
+use Rattle.floats.specs.Fields.{zeroBits, Normal}
 use Rattle.floats.specs.Classes.{normal-others}
 use Rattle.factor.specs.declared.Factor.{Factor}
 use Rattle.factor.specs.SetUp.{intact}
-use Rattle.product.specs.declared.Product.{Product}
-use Rattle.product.specs.Product.{productBy}
 use Rattle.reading.specs.declared.Taken.{Taken}
-use Rattle.reading.specs.Reading.{unreadable, Kind, zero, normal, kindOf, finished, answered, applied, takenOf}
+use Rattle.reading.specs.Reading.{unreadable, Kind, zero, normal, kindOf, exponentOut, Made, answerTo, takenOf}
 
 -- ---- readings that are let through to their product
 module _ (f : Factor) (b : ℕ) (h : NoneHolds (unreadable f b)) where
@@ -24,16 +22,6 @@ module _ (f : Factor) (b : ℕ) (h : NoneHolds (unreadable f b)) where
 
   pub precision-is : f .precision .bits ≡ prec binary32
   precision-is = eqb-true (f .precision .bits) (prec binary32) (not-false _ (h .1 .0))
-
-  -- a zero is answered with plus zero
-  pub zero-answered : (v : Product) → zeroBits binary32 b ≡ true → accepted (record { mark = Mark.Right; value = plusZero }) ≡ answered f b v
-  unfolding answered
-  zero-answered v z = rw z (accepts (pass refl end) _ ∙ sym (rest-answers (unreadable f b) _ h _))
-
-  -- and any other with what becomes of its value
-  pub normal-answered : (v : Product) → zeroBits binary32 b ≡ false → finished f b v ≡ answered f b v
-  unfolding answered finished
-  normal-answered v z = rw z (sym (rest-answers (unreadable f b) _ h _))
 
   -- it is a normal number, unless it is a zero
   pub is-normal : zeroBits binary32 b ≡ false → Normal binary32 b
@@ -56,24 +44,28 @@ module _ (f : Factor) (x : Float) (t : Taken) (is : takenOf t ≡ answer (unread
   abbrev c : ℕ
   c = toBits binary32 x
 
-  -- a normal reading is let through, and answered with what becomes of its value
-  pub taken-normal : (b : ℕ) → t ≡ Taken.Normal b → NoneHolds (unreadable f b) × (zeroBits binary32 b ≡ false) × (finished f b (productBy f (significandOf binary32 b)) ≡ applied f x)
-  unfolding applied
+  -- a normal reading is let through
+  pub taken-normal : (b : ℕ) → t ≡ Taken.Normal b → NoneHolds (unreadable f b) × (zeroBits binary32 b ≡ false) × (b ≡ c)
   taken-normal b e =
       let r = only-accepted (unreadable f c) (kindOf c) (normal b) (sym is ∙ ap takenOf e) in
       let k = subst (KindTells c) (r .1) (kind-tells c) in
-      let h = subst (λ (b : ℕ). NoneHolds (unreadable f b)) (k .1) (r .0) in
-      let z = subst (λ (b : ℕ). zeroBits binary32 b ≡ false) (k .1) (k .0) in
-      (h, z, normal-answered f b h (productBy f (significandOf binary32 b)) z ∙ ap (λ (b : ℕ). answered f b (productBy f (significandOf binary32 b))) (sym (k .1)))
+      (subst (λ (b : ℕ). NoneHolds (unreadable f b)) (k .1) (r .0), subst (λ (b : ℕ). zeroBits binary32 b ≡ false) (k .1) (k .0), sym (k .1))
 
-  -- a zero is answered with plus zero
-  pub taken-zero : t ≡ Taken.Zero → accepted (record { mark = Mark.Right; value = plusZero }) ≡ applied f x
-  unfolding applied
-  taken-zero e =
-      let r = only-accepted (unreadable f c) (kindOf c) zero (sym is ∙ ap takenOf e) in
-      zero-answered f c (r .0) (productBy f (significandOf binary32 c)) (subst (KindTells c) (r .1) (kind-tells c))
+  -- ---- and answered, g being what is made of a reading by its bits
+  module _ {A : Type 0} (g : ℕ → Made A) where
+    -- unless 23 refuses it
+    pub normal-answered : (b : ℕ) → t ≡ Taken.Normal b → answer ((23, exponentOut binary32 (g b .exponent)) ∷ []) (g b .value) ≡ answerTo f c (g c)
+    normal-answered b e =
+        let k = taken-normal b e in
+        let here : answer ((23, exponentOut binary32 (g b .exponent)) ∷ []) (g b .value) ≡ answerTo f b (g b) = rw (k .1) (sym (rest-answers (unreadable f b) _ (k .0) _)) in
+        here ∙ ap (λ (b : ℕ). answerTo f b (g b)) (k .2)
 
-  -- and a refusal is the answer's
-  pub taken-refused : (k : ℕ) → t ≡ Taken.Refused k → refused k ≡ applied f x
-  unfolding applied answered
-  taken-refused k e = refused-first (unreadable f c) _ _ _ k (sym (ap takenOf e) ∙ is)
+    -- so is a zero
+    pub zero-answered : t ≡ Taken.Zero → accepted (g c .of-zero) ≡ answerTo f c (g c)
+    zero-answered e =
+        let r = only-accepted (unreadable f c) (kindOf c) zero (sym is ∙ ap takenOf e) in
+        rw (subst (KindTells c) (r .1) (kind-tells c)) (accepts (pass refl end) _ ∙ sym (rest-answers (unreadable f c) _ (r .0) _))
+
+    -- and a refusal is the answer's
+    pub refused-answered : (k : ℕ) → t ≡ Taken.Refused k → refused k ≡ answerTo f c (g c)
+    refused-answered k e = refused-first (unreadable f c) _ _ _ k (sym (ap takenOf e) ∙ is)

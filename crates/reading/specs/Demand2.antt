@@ -1,14 +1,14 @@
 -- Demand 2 of readings (`reading-answered`, `reading-tells`), for every factor and every reading: the answer is the two steps' product with sign and exponent put on, exactly, and its
 -- mark tells of every fraction C between the ends whether C * 2 ^ k times the reading rounds to it. Assumes nothing.
 use mathlib.Core.Path.{_≡_, refl, sym, ap, _∙_, subst}
-use mathlib.Core.Bool.{Bool, true, false, not, _&&_}
+use mathlib.Core.Bool.{Bool, true, false, not, _&&_, cond}
 use mathlib.Core.Logic.{_⊎_, inl, inr}
 use mathlib.Core.List.{[], _∷_}
 use Prim.Native.Nat.{ℕ, _-_, _*_, _^_, _<_}
 use native.Mathlib.Nat.{mul-pos, le-trans, eq-of-mul-eq-mul-right}
 use native.Mathlib.Omega.{arith}
 use lib.Dec.{T}
-use lib.IntN.{ℤ, pos, _+ℤ_}
+use lib.IntN.{ℤ, pos, _+ℤ_, +ℤ-assoc}
 use lib.Pow.{pow-pos}
 use lib.Ieee.{Float, binary32, prec, hid, toBits, up, down, unlike, fits}
 use lib.Ieee.Exact.{HasValue}
@@ -37,7 +37,7 @@ use Rattle.product.specs.Product.{argument, productBy, valueOf}
 use Rattle.product.specs.Marks.{Gives, markBy}
 use Rattle.product.specs.SoundLaws.{sound-product}
 use Rattle.product.specs.Demand2.{mark-tells, mark-alone}
-use Rattle.reading.specs.Reading.{unreadable, numberOf, raised, outside, conditions, numbered, answered, applied}
+use Rattle.reading.specs.Reading.{unreadable, exponentOut, numberOf, conditions, raised, twoSteps, applied}
 use Rattle.reading.specs.Exponents.{let-through}
 use Rattle.reading.specs.ReadingLaws.{number-value, number-normal}
 use Rattle.reading.specs.AnswerLaws.{is-intact, precision-is, is-normal}
@@ -47,6 +47,10 @@ use Rattle.reading.specs.Standard.{Is, StoredSteps, stored-steps}
 -- a normal reading as a number, by its bits b
 abbrev pub readingAt : ℕ → Fraction
 readingAt b = record { minus = signOf binary32 b; num = significandOf binary32 b * up (exponentOf binary32 b); den = hid binary32 * down (exponentOf binary32 b) }
+
+-- its exponent plus k
+abbrev pub scaled : Factor → ℕ → ℤ
+scaled f b = exponentOf binary32 b +ℤ f .applied .scale
 
 -- C * 2 ^ k times the reading
 abbrev pub exact : Factor → ℕ → Fraction → Fraction
@@ -64,6 +68,10 @@ SaysOf f b y m = Says (Between (contextOf f) (lowerOf f) (upperOf f)) (GivesNumb
 abbrev pub secondOf : Factor → ℕ → Product
 secondOf f b = productBy f (significandOf binary32 b)
 
+-- the number with its mark, or plus zero, right
+abbrev pub numbered : Factor → ℕ → Marked Float
+numbered f b = cond (zeroBits binary32 b) (twoSteps f b .of-zero) (twoSteps f b .value)
+
 -- what the answer a to a reading with the bits b tells, unless it is a zero
 pub record Tells (f : Factor) (b : ℕ) (a : Marked Float) : Type 0 where
   -- the reading is a normal number
@@ -71,7 +79,7 @@ pub record Tells (f : Factor) (b : ℕ) (a : Marked Float) : Type 0 where
   -- both steps are those of its significand and of the stored parts' own values
   pub steps : T (fits binary32 (f .applied .high)) → T (fits binary32 (f .applied .low)) → (y : Float) → HasValue y false (significandOf binary32 b) (hid binary32) → StoredSteps f (significandOf binary32 b) y
   -- the answer is sign * u2 * 2 ^ (e + k), exactly, and a normal number
-  pub value : let v = secondOf f b in HasValue (a .value) (signOf binary32 b) (v .significand * 2 ^ v .binade * up (raised f b)) (hid binary32 * down (raised f b))
+  pub value : let v = secondOf f b in HasValue (a .value) (signOf binary32 b) (v .significand * 2 ^ v .binade * up (scaled f b)) (hid binary32 * down (scaled f b))
   pub normal : Normal binary32 (toBits binary32 (a .value))
   -- its mark says what is true of every fraction between the ends, sign and scale on, and no other mark does
   pub says : SaysOf f b (a .value) (a .mark)
@@ -83,9 +91,9 @@ AnswerTells f b (refused k) = Unit {0}
 AnswerTells f b (accepted a) = ((zeroBits binary32 b ≡ true) × (a .mark ≡ Mark.Right) × (a .value ≡ plusZero)) ⊎ ((zeroBits binary32 b ≡ false) × Tells f b a)
 
 -- ---- sign and scale change nothing of what a mark says
-module _ (f : Factor) (b : ℕ) (v : Product) (y : Float) (is : HasValue y (signOf binary32 b) (v .significand * 2 ^ v .binade * up (raised f b)) (hid binary32 * down (raised f b))) (C : Fraction) (positive : 0 < C .num) (some : 0 < C .den) (sign : C .minus ≡ false) where
+module _ (f : Factor) (b : ℕ) (v : Product) (y : Float) (is : HasValue y (signOf binary32 b) (v .significand * 2 ^ v .binade * up (scaled f b)) (hid binary32 * down (scaled f b))) (C : Fraction) (positive : 0 < C .num) (some : 0 < C .den) (sign : C .minus ≡ false) where
   abbrev z : ℤ
-  z = raised f b
+  z = scaled f b
 
   -- C * x rounded, and C * 2 ^ k times the reading rounded
   abbrev r : Fraction
@@ -94,8 +102,8 @@ module _ (f : Factor) (b : ℕ) (v : Product) (y : Float) (is : HasValue y (sign
   abbrev q : Fraction
   q = RN (contextOf f .rule) (prec binary32) (exact f b C)
 
-  scaled : Scaled z r q
-  scaled =
+  along : Scaled z r q
+  along =
       let e = exponentOf binary32 b in
       let k = f .applied .scale in
       RN-scaled (contextOf f .rule) (prec binary32) (two-le-pos (prec binary32) (two binary32)) (times C (argument (prec binary32) (significandOf binary32 b))) (exact f b C)
@@ -119,7 +127,7 @@ module _ (f : Factor) (b : ℕ) (v : Product) (y : Float) (is : HasValue y (sign
   to-reading e =
       subst (λ (s : Bool). HasValue y s (q .num) (q .den)) q-sign
       (revalue y (signOf binary32 b) _ _ (q .num) (q .den) (mul-pos (pow-pos (prec binary32 - 1)) (down-pos z))
-      (meet (v .significand * 2 ^ v .binade) (hid binary32) (up z) (down z) (q .num) (q .den) (r .num) (r .den) (RN-some (contextOf f .rule) (prec binary32) (times C (argument (prec binary32) (significandOf binary32 b)))) (e .1) scaled) is)
+      (meet (v .significand * 2 ^ v .binade) (hid binary32) (up z) (down z) (q .num) (q .den) (r .num) (r .den) (RN-some (contextOf f .rule) (prec binary32) (times C (argument (prec binary32) (significandOf binary32 b)))) (e .1) along) is)
     where
       meet : (N H u c Q d R g : ℕ) → 0 < g → R * H ≡ N * g → Q * (g * c) ≡ R * u * d → N * u * d ≡ Q * (H * c)
       meet N H u c Q d R g G e w = eq-of-mul-eq-mul-right g G (N * u * d) (Q * (H * c)) (omega (arith, ap (λ (t : ℕ). t * (u * d)) e, ap (λ (t : ℕ). t * H) w))
@@ -127,14 +135,22 @@ module _ (f : Factor) (b : ℕ) (v : Product) (y : Float) (is : HasValue y (sign
   pub from-reading : GivesNumber f b y C → Same r (valueOf (prec binary32) v)
   from-reading g = (
     ap (λ (m : Bool). unlike m false) sign,
-    meet (v .significand * 2 ^ v .binade) (hid binary32) (up z) (down z) (q .num) (q .den) (r .num) (r .den) (mul-pos (up-pos z) (RN-some (contextOf f .rule) (prec binary32) (exact f b C))) (one-value y _ _ _ _ (q .num) (q .den) is g .1) scaled,
+    meet (v .significand * 2 ^ v .binade) (hid binary32) (up z) (down z) (q .num) (q .den) (r .num) (r .den) (mul-pos (up-pos z) (RN-some (contextOf f .rule) (prec binary32) (exact f b C))) (one-value y _ _ _ _ (q .num) (q .den) is g .1) along,
   )
     where
       meet : (N H u c Q d R g : ℕ) → 0 < u * d → N * u * d ≡ Q * (H * c) → Q * (g * c) ≡ R * u * d → R * H ≡ N * g
       meet N H u c Q d R g G e w = eq-of-mul-eq-mul-right (u * d) G (R * H) (N * g) (omega (arith, ap (λ (t : ℕ). t * g) e, ap (λ (t : ℕ). t * H) w))
 
+-- the binade as a power of its own
+binade-apart : (y : Float) (s : Bool) (S B H : ℕ) → 0 < H → (e k : ℤ) → HasValue y s (S * up (e +ℤ (k +ℤ pos B))) (H * down (e +ℤ (k +ℤ pos B))) → HasValue y s (S * 2 ^ B * up (e +ℤ k)) (H * down (e +ℤ k))
+binade-apart y s S B H some e k is =
+    let z = e +ℤ k in
+    revalue y s (S * up (z +ℤ pos B)) (H * down (z +ℤ pos B)) (S * 2 ^ B * up z) (H * down z) (mul-pos some (down-pos (z +ℤ pos B)))
+    (omega (arith, ap (λ (t : ℕ). t * (S * H)) (powers-add z (pos B))))
+    (subst (λ (w : ℤ). HasValue y s (S * up w) (H * down w)) (sym (+ℤ-assoc e k (pos B))) is)
+
 -- ---- a reading that is let through, and not a zero
-module _ (f : Factor) (b : ℕ) (h : NoneHolds (unreadable f b)) (nonzero : zeroBits binary32 b ≡ false) (o : outside f b (secondOf f b) ≡ false) where
+module _ (f : Factor) (b : ℕ) (h : NoneHolds (unreadable f b)) (nonzero : zeroBits binary32 b ≡ false) (o : exponentOut binary32 (raised f b (secondOf f b)) ≡ false) where
   abbrev X : ℕ
   X = significandOf binary32 b
 
@@ -142,7 +158,7 @@ module _ (f : Factor) (b : ℕ) (h : NoneHolds (unreadable f b)) (nonzero : zero
   v = secondOf f b
 
   abbrev y : Float
-  y = numberOf binary32 (signOf binary32 b) v (raised f b)
+  y = numberOf binary32 (signOf binary32 b) (v .significand) (raised f b v)
 
   sound : Sound f
   sound = intact-sound f (is-intact f b h)
@@ -156,11 +172,13 @@ module _ (f : Factor) (b : ℕ) (h : NoneHolds (unreadable f b)) (nonzero : zero
   v-bits : HasBits (prec binary32) (v .significand)
   v-bits = subst (λ (k : ℕ). HasBits k (v .significand)) n (sound-product f sound X x-bits .bits)
 
-  y-value : HasValue y (signOf binary32 b) (v .significand * 2 ^ v .binade * up (raised f b)) (hid binary32 * down (raised f b))
-  y-value = let t = let-through binary32 (raised f b +ℤ pos (v .binade)) o in number-value binary32 (signOf binary32 b) v (raised f b) v-bits (t .0) (t .1) (t .2) (t .3)
+  y-value : HasValue y (signOf binary32 b) (v .significand * 2 ^ v .binade * up (scaled f b)) (hid binary32 * down (scaled f b))
+  y-value =
+      let t = let-through binary32 (raised f b v) o in
+      binade-apart y (signOf binary32 b) (v .significand) (v .binade) (hid binary32) (pow-pos (prec binary32 - 1)) (exponentOf binary32 b) (f .applied .scale) (number-value binary32 (signOf binary32 b) (v .significand) (raised f b v) v-bits (t .0) (t .1) (t .2) (t .3))
 
   y-normal : Normal binary32 (toBits binary32 y)
-  y-normal = let t = let-through binary32 (raised f b +ℤ pos (v .binade)) o in number-normal binary32 (signOf binary32 b) v (raised f b) v-bits (t .0) (t .1) (t .2) (t .3)
+  y-normal = let t = let-through binary32 (raised f b v) o in number-normal binary32 (signOf binary32 b) (v .significand) (raised f b v) v-bits (t .0) (t .1) (t .2) (t .3)
 
   abbrev Ends : Fraction → Type 0
   Ends C = Between (contextOf f) (lowerOf f) (upperOf f) C
@@ -187,23 +205,20 @@ module _ (f : Factor) (b : ℕ) (h : NoneHolds (unreadable f b)) (nonzero : zero
 
 -- every answer to a reading tells the truth, whatever the factor and the reading
 pub reading-tells : (f : Factor) (x : Float) → AnswerTells f (toBits binary32 x) (applied f x)
-unfolding applied answered
-reading-tells f x = of-answer (AnswerTells f b) (conditions f b v) (numbered f b v) (λ k. tt) (λ h. go (zeroBits binary32 b) refl h)
+unfolding applied
+reading-tells f x = of-answer (AnswerTells f b) (conditions f b (raised f b (secondOf f b))) (numbered f b) (λ k. tt) (λ h. go (zeroBits binary32 b) refl h)
   where
     b : ℕ
     b = toBits binary32 x
 
-    v : Product
-    v = secondOf f b
-
-    go : (z : Bool) → zeroBits binary32 b ≡ z → NoneHolds (conditions f b v) → AnswerTells f b (accepted (numbered f b v))
+    go : (z : Bool) → zeroBits binary32 b ≡ z → NoneHolds (conditions f b (raised f b (secondOf f b))) → AnswerTells f b (accepted (numbered f b))
     go true z h = rw z (inl (refl, refl, refl))
     go false z h =
-        let t = none-apart (unreadable f b) ((23, not (zeroBits binary32 b) && outside f b v) ∷ []) h in
-        let o : outside f b v ≡ false = rw z at (t .1 .0) in
+        let t = none-apart (unreadable f b) ((23, not (zeroBits binary32 b) && exponentOut binary32 (raised f b (secondOf f b))) ∷ []) h in
+        let o : exponentOut binary32 (raised f b (secondOf f b)) ≡ false = rw z at (t .1 .0) in
         rw z (inr (refl, tells f b (t .0) z o))
 
 -- and a reading that none of 31 and 20 to 23 refuses is answered, with plus zero or the number with its mark
-pub reading-answered : (f : Factor) (x : Float) → let b = toBits binary32 x in NoneHolds (conditions f b (secondOf f b)) → applied f x ≡ accepted (numbered f b (secondOf f b))
-unfolding applied answered
-reading-answered f x h = none-refuses (conditions f (toBits binary32 x) (secondOf f (toBits binary32 x))) _ h
+pub reading-answered : (f : Factor) (x : Float) → let b = toBits binary32 x in NoneHolds (conditions f b (raised f b (secondOf f b))) → applied f x ≡ accepted (numbered f b)
+unfolding applied
+reading-answered f x h = let b = toBits binary32 x in none-refuses (conditions f b (raised f b (secondOf f b))) (numbered f b) h

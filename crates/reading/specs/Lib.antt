@@ -1,5 +1,6 @@
--- A reading times a factor, with its laws and examples.
+-- A reading times a factor, and divided by it, with laws and examples.
 pub mod Reading
+pub mod Divided
 pub mod Exponents
 pub mod FirstLaws
 pub mod ReadingLaws

@@ -1,7 +1,7 @@
--- A binary32 reading times a factor (document 01, "Binary32" and the refusals 31, 20, 21, 22, 23). Definitions only. Assumes nothing.
+-- Readings: what refuses one, and a binary32 reading times a factor (document 01, "Binary32" and the refusals 31, 20, 21, 22, 23). Definitions only. Assumes nothing.
 use mathlib.Core.Bool.{Bool, not, _&&_, _||_, cond}
 use mathlib.Core.List.{List, [], _∷_, _++_}
-use Prim.Native.Nat.{ℕ, _-_, _*_, _^_}
+use Prim.Native.Nat.{ℕ, _-_, _*_}
 use lib.Dec.{eqb}
 use lib.IntN.{ℤ, pos, negsuc, _+ℤ_}
 use lib.Signed.{ltZ}
@@ -17,10 +17,11 @@ use Rattle.product.specs.Product.{product, productBy}
 use Rattle.product.specs.Marks.{mark}
 use Rattle.product.specs.Answer.{marked}
 use Rattle.reading.specs.declared.ReadingAnswer.{ReadingAnswer}
+use Rattle.reading.specs.declared.NumberAnswer.{NumberAnswer}
 use Rattle.reading.specs.declared.Taken.{Taken}
 
 -- ---- a reading by its bit pattern b
--- the conditions that refuse it before its product: state comes before input
+-- the conditions that refuse it before any work: state comes before input
 abbrev pub unreadable : Factor → ℕ → List (ℕ × Bool)
 unreadable f b = (31, not (intact f)) ∷ (20, not (eqb (f .precision .bits) (prec binary32))) ∷ (21, infiniteOrNaN binary32 b) ∷ (22, subnormal binary32 b) ∷ []
 
@@ -32,55 +33,64 @@ pub data Kind : Type 0 where
 abbrev pub kindOf : ℕ → Kind
 kindOf b = cond (zeroBits binary32 b) zero (normal b)
 
--- ---- a value of its significand, whoever made it, as a binary32 number
+-- ---- a significand at an exponent, as a number of the format
 -- 23: an exponent outside those of the format's normal numbers, 1 - emax to emax
 abbrev pub exponentOut : Format → ℤ → Bool
 exponentOut f e = ltZ e (negsuc (emax f - 2)) || ltZ (pos (emax f)) e
 
--- v * 2 ^ e with a sign, as a number of the format
-unfoldable pub numberOf : Format → Bool → Product → ℤ → Float
+-- S / 2 ^ (prec - 1) * 2 ^ e with a sign
+unfoldable pub numberOf : Format → Bool → (S : ℕ) → ℤ → Float
 unfolding Ieee.round
-numberOf f s v e = Ieee.round f s (v .significand * 2 ^ v .binade * up e) (hid f * down e)
+numberOf f s S e = Ieee.round f s (S * up e) (hid f * down e)
 
--- the reading's exponent plus k; the binade comes on top
-abbrev pub raised : Factor → ℕ → ℤ
-raised f b = exponentOf binary32 b +ℤ f .applied .scale
+-- with the reading's sign, unless 23 refuses the exponent
+abbrev pub placed : ℕ → (S : ℕ) → ℤ → Outcome Float
+placed b S e = answer ((23, exponentOut binary32 e) ∷ []) (numberOf binary32 (signOf binary32 b) S e)
 
--- 23 of a value
-abbrev pub outside : Factor → ℕ → Product → Bool
-outside f b v = exponentOut binary32 (raised f b +ℤ pos (v .binade))
+-- ---- an answer to a reading, whatever is made of it
+-- what is made of a zero, and of any other reading, with the exponent that this gets
+pub record Made (A : Type 0) : Type 0 where
+  pub of-zero : A
+  pub exponent : ℤ
+  pub value : A
+
+-- all conditions that refuse a reading, e being the exponent that it would get; a zero has none
+abbrev pub conditions : Factor → ℕ → ℤ → List (ℕ × Bool)
+conditions f b e = unreadable f b ++ (23, not (zeroBits binary32 b) && exponentOut binary32 e) ∷ []
+
+abbrev pub answerTo : {A : Type 0} → Factor → ℕ → Made A → Outcome A
+answerTo f b m = answer (conditions f b (m .exponent)) (cond (zeroBits binary32 b) (m .of-zero) (m .value))
+
+-- ---- a product, of the reading's significand, whoever made it
+-- its exponent: the reading's, plus k and the binade
+abbrev pub raised : Factor → ℕ → Product → ℤ
+raised f b v = exponentOf binary32 b +ℤ (f .applied .scale +ℤ pos (v .binade))
 
 -- sign and exponent put on a value with its mark
 abbrev pub putOn : Factor → ℕ → Marked Product → Marked Float
-putOn f b a = record { mark = a .mark; value = numberOf binary32 (signOf binary32 b) (a .value) (raised f b) }
+putOn f b a = record { mark = a .mark; value = numberOf binary32 (signOf binary32 b) (a .value .significand) (raised f b (a .value)) }
 
--- sign and exponent put on a value with its mark, unless 23 refuses it
+-- unless 23 refuses it
 abbrev pub ranged : Factor → ℕ → Marked Product → Outcome (Marked Float)
-ranged f b a = answer ((23, outside f b (a .value)) ∷ []) (putOn f b a)
+ranged f b a = answer ((23, exponentOut binary32 (raised f b (a .value))) ∷ []) (putOn f b a)
 
 -- what becomes of a normal reading's value: 23, or the number with its mark
 unfoldable pub finished : Factor → ℕ → Product → Outcome (Marked Float)
 unfolding mark numberOf
 finished f b v = ranged f b (marked f (significandOf binary32 b) v)
 
--- ---- the answer
--- all conditions that refuse it; a zero has no exponent
-abbrev pub conditions : Factor → ℕ → Product → List (ℕ × Bool)
-conditions f b v = unreadable f b ++ (23, not (zeroBits binary32 b) && outside f b v) ∷ []
-
 -- a zero gives plus zero, right; any other reading the number with its mark
-abbrev pub numbered : Factor → ℕ → Product → Marked Float
-numbered f b v = cond (zeroBits binary32 b) (record { mark = Mark.Right; value = plusZero }) (putOn f b (marked f (significandOf binary32 b) v))
+abbrev pub productOf : Factor → ℕ → Product → Made (Marked Float)
+productOf f b v = record { of-zero = record { mark = Mark.Right; value = plusZero }; exponent = raised f b v; value = putOn f b (marked f (significandOf binary32 b) v) }
 
--- the answer to a reading b of whose significand a device makes v
-unfoldable pub answered : Factor → ℕ → Product → Outcome (Marked Float)
-unfolding intact mark numberOf
-answered f b v = answer (conditions f b v) (numbered f b v)
+-- that of the two-step device
+abbrev pub twoSteps : Factor → ℕ → Made (Marked Float)
+twoSteps f b = productOf f b (productBy f (significandOf binary32 b))
 
--- the answer of the two-step device
+-- the answer to a reading x
 unfoldable pub applied : Factor → Float → Outcome (Marked Float)
-unfolding product answered
-applied f x = let b = toBits binary32 x in answered f b (productBy f (significandOf binary32 b))
+unfolding intact product mark numberOf
+applied f x = let b = toBits binary32 x in answerTo f b (twoSteps f b)
 
 -- what each case of the answer says: a refusal its number; any other its mark and the product as a binary32 number
 abbrev pub outcomeOf : ReadingAnswer → Outcome (Marked Float)
@@ -89,7 +99,12 @@ outcomeOf (ReadingAnswer.Open y) = accepted (record { mark = Mark.Open; value = 
 outcomeOf (ReadingAnswer.Wrong y) = accepted (record { mark = Mark.Wrong; value = y })
 outcomeOf (ReadingAnswer.Refused k) = refused k
 
--- and of a reading that is judged before its product: a refusal its number, or its kind
+-- of a number alone: a refusal its number, or the number
+abbrev pub numberSays : NumberAnswer → Outcome Float
+numberSays (NumberAnswer.Number y) = accepted y
+numberSays (NumberAnswer.Refused k) = refused k
+
+-- and of a reading that is judged before any work: a refusal its number, or its kind
 abbrev pub takenOf : Taken → Outcome Kind
 takenOf Taken.Zero = accepted zero
 takenOf (Taken.Normal b) = accepted (normal b)

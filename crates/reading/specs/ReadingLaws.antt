@@ -1,10 +1,10 @@
--- A value with a sign and an exponent put on, as a float: exact, and a normal number. Of a reading's product it is said in `Demand2.antt`. Assumes nothing.
-use mathlib.Core.Path.{_≡_, sym, _∙_, subst}
+-- A significand with a sign and an exponent put on, as a float: exact, and a normal number. Of a reading's product it is said in `Demand2.antt`, of its quotient in `QuotientTells.antt`. Assumes nothing.
+use mathlib.Core.Path.{_≡_, sym, subst}
 use mathlib.Core.Bool.{Bool}
 use Prim.Native.Nat.{ℕ, suc, _+_, _-_, _*_, _^_, _≤_, _<_}
 use native.Mathlib.Nat.{mul-pos}
 use native.Mathlib.Omega.{arith}
-use lib.IntN.{ℤ, pos, _+ℤ_, +ℤ-assoc}
+use lib.IntN.{ℤ, pos, _+ℤ_}
 use lib.Pow.{pow-pos}
 use lib.Ieee.{Float, Format, prec, emax, low, hid, ones, up, down, toBits}
 use lib.Ieee.Exact.{HasValue}
@@ -15,39 +15,35 @@ use Rattle.rounding.specs.Ieee.{revalue}
 use Rattle.floats.specs.Fields.{Normal, floatOf, Normalized}
 use Rattle.floats.specs.Powers.{in-smallest}
 use Rattle.floats.specs.Pattern.{float-value, float-normal, normalized}
-use Rattle.product.specs.declared.Product.{Product}
 use Rattle.reading.specs.Reading.{numberOf}
 use Rattle.reading.specs.Exponents.{from-least}
 
--- ---- a value v with a sign and an exponent of the format's normal numbers, its own binade included
-module _ (f : Format) (s : Bool) (v : Product) (e : ℤ) (bits : HasBits (prec f) (v .significand)) (p : ℕ) (at : e +ℤ pos (v .binade) +ℤ pos (emax f + 100) ≡ pos p) (lo : 101 ≤ p) (hi : p ≤ 2 * emax f + 100) where
-  abbrev S : ℕ
-  S = v .significand
-
+-- ---- a significand S with a sign and an exponent of the format's normal numbers, p being the biased exponent
+module _ (f : Format) (s : Bool) (S : ℕ) (e : ℤ) (bits : HasBits (prec f) S) (p : ℕ) (at : e +ℤ pos (emax f) ≡ pos p) (lo : 1 ≤ p) (hi : p ≤ 2 * emax f) where
   abbrev a : ℕ
-  a = S * 2 ^ v .binade * up e
+  a = S * up e
 
   abbrev c : ℕ
   c = hid f * down e
 
   abbrev j : ℕ
-  j = p - 101
+  j = p - 1
 
   in-units : a * 2 ^ low f ≡ S * 2 ^ j * c
-  in-units = in-smallest f S (v .binade) e j (sym (+ℤ-assoc e (pos (v .binade)) (pos (emax f - 1))) ∙ from-least f (e +ℤ pos (v .binade)) p at lo)
+  in-units = in-smallest f S e j (from-least f e p at lo)
 
   pub number-normalized : Normalized f j S
   number-normalized = let free : suc j < ones f = omega arith in normalized f j S bits free
 
   -- what the code puts together
-  pub number-is : floatOf f s j S ≡ numberOf f s v e
+  pub number-is : floatOf f s j S ≡ numberOf f s S e
   unfolding numberOf
   number-is = round-same f s (S * 2 ^ j) (2 ^ low f) a c (pow-pos (low f)) (mul-pos (pow-pos (prec f - 1)) (down-pos e)) (sym in-units)
 
   -- its value is exact
-  pub number-value : HasValue (numberOf f s v e) s a c
+  pub number-value : HasValue (numberOf f s S e) s a c
   number-value = subst (λ (y : Float). HasValue y s a c) number-is (revalue (floatOf f s j S) s (S * 2 ^ j) (2 ^ low f) a c (pow-pos (low f)) (sym in-units) (float-value f s j S number-normalized))
 
   -- and it is a normal number
-  pub number-normal : Normal f (toBits f (numberOf f s v e))
+  pub number-normal : Normal f (toBits f (numberOf f s S e))
   number-normal = subst (λ (y : Float). Normal f (toBits f y)) number-is (float-normal f s j S number-normalized)

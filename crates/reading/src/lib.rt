@@ -1,26 +1,26 @@
-// A binary32 reading times a factor (document 01, "Binary32"): the product with its mark, or a refusal.
+// A binary32 reading times a factor (document 01, "Binary32"): the product with its mark, or a refusal; and divided by it (request W1): the quotient, or a refusal.
 use factor::Factor;
 use marks::Mark;
 use product::Product;
 ghost use mathlib.Core.Path.{_≡_};
-ghost use mathlib.Core.Bool.{false};
 ghost use Prim.Native.Nat.{_≤_};
-ghost use lib.IntN.{pos, _+ℤ_};
+ghost use lib.IntN.{natAbs, _+ℤ_};
 ghost use lib.Ieee.{binary32, prec, toBits};
 ghost use Rattle.marks.specs.Answers.{accepted, answer};
 ghost use Rattle.rounding.specs.Round.{HasBits};
-ghost use Rattle.floats.specs.Fields.{Normal, significandOf};
+ghost use Rattle.floats.specs.Fields.{significandOf, exponentOf};
 ghost use Rattle.factor.specs.Context.{contextOf};
 ghost use Rattle.factor.specs.UnitParts.{unitPartsOf};
-ghost use Rattle.factor.specs.SetUp.{scaleOut, Sound};
+ghost use Rattle.factor.specs.SetUp.{Sound};
 ghost use Rattle.product.specs.Product.{productBy};
 ghost use Rattle.product.specs.Units.{firstUnits};
-ghost use Rattle.reading.specs.Reading.{unreadable, kindOf, finished, applied, outcomeOf, takenOf};
+ghost use Rattle.reading.specs.Reading.{unreadable, kindOf, placed, finished, applied, outcomeOf, numberSays, takenOf};
+ghost use Rattle.reading.specs.Divided.{divided};
 
-// The product's biased exponent plus 100, as the scale is counted from -100: those of normal numbers are these places.
-const LEAST_PLACE: u32 = 101;
+// The biased exponents of normal numbers.
+const LEAST_EXPONENT: i32 = 1;
 
-const MOST_PLACE: u32 = floats::INFINITE_OR_NAN + 99;
+const MOST_EXPONENT: i32 = 254;
 
 // The answer to a reading: the product as a binary32 number in the case of its mark, or a refusal: 31, 20, 21, 22 or 23.
 pub enum ReadingAnswer {
@@ -30,7 +30,13 @@ pub enum ReadingAnswer {
     Refused(u32),
 }
 
-// A reading before its product: a zero, a normal number by its bits, or a refusal: 31, 20, 21 or 22.
+// The answer to a division: the quotient, which has no mark, as a binary32 number, or a refusal: 31, 20, 21, 22 or 23.
+pub enum NumberAnswer {
+    Number(f32),
+    Refused(u32),
+}
+
+// A reading before any work: a zero, a normal number by its bits, or a refusal: 31, 20, 21 or 22.
 enum Taken {
     Zero,
     Normal(u32),
@@ -49,14 +55,6 @@ fn first_step(f: Factor, x: u32) -> u64
     floats::units_of(low * y, unit)
 }
 
-// A scale, counted from the least.
-fn lifted(scale: i32) -> u32
-    requires { ⌜ scaleOut scale ≡ false ⌝ }
-    ensures { λ r. ⌜ (pos r ≡ scale +ℤ pos 100) × (r ≤ 200) ⌝ }
-{
-    (scale + 100) as u32
-}
-
 // A product in the case of its mark.
 fn answer(m: Mark, y: f32) -> ReadingAnswer
     ensures { λ r. ⌜ outcomeOf r ≡ accepted (record { mark = m; value = y }) ⌝ }
@@ -68,28 +66,40 @@ fn answer(m: Mark, y: f32) -> ReadingAnswer
     }
 }
 
-// What becomes of a value of a normal reading's significand, whoever made it: sign and exponent are put on last, and 23 is judged whatever the mark.
-fn finish(f: Factor, bits: u32, v: Product) -> ReadingAnswer
-    requires { ⌜ Sound f × (f .precision .bits ≡ prec binary32) × Normal binary32 bits × HasBits (prec binary32) (v .significand) × (v .binade ≤ 1) ⌝ }
-    ensures { λ r. ⌜ outcomeOf r ≡ finished f bits v ⌝ }
+// A significand at a reading's exponent, raised, with the reading's sign put on last; 23 where no normal number has that exponent.
+fn place(bits: u32, raise: i32, significand: u64) -> NumberAnswer
+    requires { ⌜ (natAbs raise ≤ 101) × HasBits (prec binary32) significand ⌝ }
+    ensures { λ r. ⌜ numberSays r ≡ placed bits significand (exponentOf binary32 bits +ℤ raise) ⌝ }
 {
-    let place = floats::biased_exponent(bits) + lifted(f.applied.scale) + v.binade;
-    if place < LEAST_PLACE {
-        return ReadingAnswer::Refused(23);
+    let exponent = floats::biased_exponent(bits) as i32 + raise;
+    if exponent < LEAST_EXPONENT {
+        return NumberAnswer::Refused(23);
     }
-    if MOST_PLACE < place {
-        return ReadingAnswer::Refused(23);
+    if MOST_EXPONENT < exponent {
+        return NumberAnswer::Refused(23);
     }
-    let y = floats::float_of(
+    NumberAnswer::Number(floats::float_of(
         floats::is_minus(bits),
-        place - LEAST_PLACE,
-        v.significand as u32,
-    );
-    let x = floats::significand_of(bits);
-    answer(product::mark_of(f, x as u64, v), y)
+        (exponent - LEAST_EXPONENT) as u32,
+        significand as u32,
+    ))
 }
 
-// What a reading is judged to be before its product: the first of the refusals 31, 20, 21 and 22 whose condition holds, or a zero or a normal number by its bits.
+// What becomes of a product of a normal reading's significand, whoever made it: k plus the binade is put on the exponent, and 23 is judged whatever the mark.
+fn finish(f: Factor, bits: u32, v: Product) -> ReadingAnswer
+    requires { ⌜ Sound f × (f .precision .bits ≡ prec binary32) × HasBits (prec binary32) (v .significand) × (v .binade ≤ 1) ⌝ }
+    ensures { λ r. ⌜ outcomeOf r ≡ finished f bits v ⌝ }
+{
+    match place(bits, f.applied.scale + v.binade as i32, v.significand) {
+        NumberAnswer::Refused(number) => ReadingAnswer::Refused(number),
+        NumberAnswer::Number(y) => {
+            let x = floats::significand_of(bits);
+            answer(product::mark_of(f, x as u64, v), y)
+        }
+    }
+}
+
+// What a reading is judged to be before any work: the first of the refusals 31, 20, 21 and 22 whose condition holds, or a zero or a normal number by its bits.
 fn take(f: Factor, reading: f32) -> Taken
     ensures { λ r. ⌜ takenOf r ≡ answer (unreadable f (toBits binary32 reading)) (kindOf (toBits binary32 reading)) ⌝ }
 {
@@ -132,5 +142,20 @@ pub fn read(f: Factor, reading: f32) -> ReadingAnswer
         Taken::Refused(number) => ReadingAnswer::Refused(number),
         Taken::Zero => ReadingAnswer::Right(floats::plus_zero()),
         Taken::Normal(bits) => finish(f, bits, two_steps(f, bits)),
+    }
+}
+
+// Divides a reading: the quotient, or the first of the refusals 31, 20, 21, 22 and 23 whose condition holds. A zero of either sign gives plus zero.
+pub fn divide(f: Factor, reading: f32) -> NumberAnswer
+    ensures { λ r. ⌜ numberSays r ≡ divided f reading ⌝ }
+{
+    match take(f, reading) {
+        Taken::Refused(number) => NumberAnswer::Refused(number),
+        Taken::Zero => NumberAnswer::Number(floats::plus_zero()),
+        Taken::Normal(bits) => {
+            let x = floats::significand_of(bits);
+            let v = quotient::quotient_of(f, x as u64);
+            place(bits, v.binade - f.applied.scale, v.significand)
+        }
     }
 }

@@ -1,0 +1,26 @@
+-- A binary32 reading divided by a factor (request W1, with document 01's refusals 31, 20, 21, 22, 23). Definitions only. Assumes nothing.
+use Prim.Native.Nat.{ℕ}
+use lib.IntN.{ℤ, _+ℤ_, _-ℤ_}
+use lib.Ieee.{Float, binary32, toBits}
+use Rattle.marks.specs.Answers.{Outcome}
+use Rattle.floats.specs.Fields.{plusZero, signOf, significandOf, exponentOf}
+use Rattle.factor.specs.declared.Factor.{Factor}
+use Rattle.factor.specs.SetUp.{intact}
+use Rattle.quotient.specs.declared.Quotient.{Quotient}
+use Rattle.quotient.specs.Quotient.{quotient, quotientBy}
+use Rattle.reading.specs.Reading.{numberOf, Made, answerTo}
+
+-- the exponent of a quotient: the reading's, plus the binade less k
+abbrev pub lowered : Factor → ℕ → Quotient → ℤ
+lowered f b v = exponentOf binary32 b +ℤ (v .binade -ℤ f .applied .scale)
+
+-- a zero, of either sign, gives plus zero; any other reading the quotient with its sign, and no mark
+abbrev pub quotientOf : Factor → ℕ → Made Float
+quotientOf f b =
+    let v = quotientBy f (significandOf binary32 b) in
+    record { of-zero = plusZero; exponent = lowered f b v; value = numberOf binary32 (signOf binary32 b) (v .significand) (lowered f b v) }
+
+-- the answer to a reading x
+unfoldable pub divided : Factor → Float → Outcome Float
+unfolding intact quotient numberOf
+divided f x = let b = toBits binary32 x in answerTo f b (quotientOf f b)
