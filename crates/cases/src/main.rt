@@ -8,6 +8,8 @@
 //   06 A (16) B (16)                a new state over A to B; if accepted it is the state
 //   07 C (16) Z (2) P (16)          a sweep call: cap C, the list's first Z words, first free place P
 //   08 V (8)                        every word of the list becomes V
+//   09 X (16)                       divides the significand X
+//   0A R (8)                        divides the reading with these bits
 //
 // The factor and the state are the exported words, at first all 0. A refusal is two decimal digits, and so is a mark: 01 right, 02 open, 03 wrong. Any other line is answered with 24.
 use exports::TakenFactor;
@@ -132,8 +134,8 @@ fn arguments(line: &[u8], kind: u64) -> Numbers {
     match kind {
         1 => fields(line, 8, 8, 16, 16),
         2 | 5 => fields(line, 2, 16, 0, 0),
-        3 => fields(line, 16, 0, 0, 0),
-        4 | 8 => fields(line, 8, 0, 0, 0),
+        3 | 9 => fields(line, 16, 0, 0, 0),
+        4 | 8 | 10 => fields(line, 8, 0, 0, 0),
         6 => fields(line, 16, 16, 0, 0),
         7 => fields(line, 16, 2, 16, 0),
         _ => Numbers {
@@ -212,6 +214,29 @@ fn read(state: &[u64; 13], reading: u32) {
     let number = exports::gusnalip_read(state, reading, &mut out);
     put_outcome(number);
     if number <= 3 {
+        put_words(&out);
+    }
+}
+
+fn put_quotient(out: &[u64; 2]) {
+    put_field(16, out[0]);
+    put_field(16, out[1]);
+}
+
+fn divide(state: &[u64; 13], x: u64) {
+    let mut out = [0u64; 2];
+    let number = exports::gusnalip_divide(state, x, &mut out);
+    put_outcome(number);
+    if number == 0 {
+        put_quotient(&out);
+    }
+}
+
+fn divide_reading(state: &[u64; 13], reading: u32) {
+    let mut out = [0u32; 1];
+    let number = exports::gusnalip_divide_reading(state, reading, &mut out);
+    put_outcome(number);
+    if number == 0 {
         put_words(&out);
     }
 }
@@ -322,7 +347,9 @@ fn answer(state: &mut [u64; 13], list: &mut [u32; 64], kind: u64, n: Numbers) {
         5 => search_half(state, n.a, n.b),
         6 => new_sweep(*state, state, n.a, n.b),
         7 => call_on(state, n.a, list, n.b as usize, n.c as usize),
-        _ => fill(list, words::low_half(n.a)),
+        8 => fill(list, words::low_half(n.a)),
+        9 => divide(state, n.a),
+        _ => divide_reading(state, words::low_half(n.a)),
     }
 }
 

@@ -13,7 +13,11 @@ use Rattle.factor.specs.declared.Factor.{Factor}
 use Rattle.factor.specs.SetUp.{setUp}
 use Rattle.product.specs.declared.Product.{Product}
 use Rattle.product.specs.Answer.{multiplied}
+use Rattle.quotient.specs.declared.Quotient.{Quotient}
+use Rattle.quotient.specs.Answer.{divided}
 use Rattle.reading.specs.Reading.{applied}
+use Rattle.reading.specs.Divided as readings
+use Rattle.words.specs.Words.{unsigned}
 use Rattle.calls.specs.State.{State}
 use Rattle.calls.specs.Call.{newState, Result, Reply, sweepCall}
 use Rattle.sweep.specs.Engine.{engine}
@@ -64,9 +68,13 @@ markNumber Mark.Wrong = 3
 abbrev pub markedAnswer : {A : Type 0} → (A → List ℕ) → Outcome (Marked A) → Answer
 markedAnswer words o = toWords (λ a. markNumber (a .mark)) (λ a. words (a .value)) o
 
+-- 0 and the words of a value that has no mark, or the refusal
+abbrev pub plainAnswer : {A : Type 0} → (A → List ℕ) → Outcome A → Answer
+plainAnswer words o = toWords (λ a. 0) words o
+
 -- ---- set-up: 0 and the factor, or the refusal
 abbrev pub setUpAnswer : Outcome Factor → Answer
-setUpAnswer o = toWords (λ f. 0) factorWords o
+setUpAnswer o = plainAnswer factorWords o
 
 unfoldable pub setUpTo : Description → (out : List ℕ) → Answer
 unfolding setUp factorWords
@@ -88,9 +96,22 @@ unfoldable pub readTo : (factor : List ℕ) (reading : ℕ) (out : List ℕ) →
 unfolding applied taken toBits ofBits
 readTo factor reading out = markedAnswer readingWords (andThen (taken factor factorLength (length out) 1) (λ f. applied f (ofBits binary32 reading)))
 
+-- ---- a quotient: 0 with significand and binade, which is a word in two's complement, or the refusal
+abbrev pub quotientWords : Quotient → List ℕ
+quotientWords v = v .significand ∷ unsigned 64 (v .binade) ∷ []
+
+unfoldable pub divideTo : (factor : List ℕ) (X : ℕ) (out : List ℕ) → Answer
+unfolding divided taken
+divideTo factor X out = plainAnswer quotientWords (andThen (taken factor factorLength (length out) 2) (λ f. divided f X))
+
+-- ---- a reading's quotient: 0 with its bits, or the refusal
+unfoldable pub divideReadingTo : (factor : List ℕ) (reading : ℕ) (out : List ℕ) → Answer
+unfolding readings.divided taken toBits ofBits
+divideReadingTo factor reading out = plainAnswer readingWords (andThen (taken factor factorLength (length out) 1) (λ f. readings.divided f (ofBits binary32 reading)))
+
 -- ---- a new sweep: 0 and the state, or the refusal
 abbrev pub newSweepAnswer : Outcome (State Factor) → Answer
-newSweepAnswer o = toWords (λ s. 0) stateWords o
+newSweepAnswer o = plainAnswer stateWords o
 
 unfoldable pub newSweepTo : (factor : List ℕ) (first last : ℕ) (out : List ℕ) → Answer
 unfolding taken stateWords

@@ -7,6 +7,9 @@ use factor::Precision;
 use factor::SetUp;
 use product::Product;
 use product::ProductAnswer;
+use quotient::Quotient;
+use quotient::QuotientAnswer;
+use reading::NumberAnswer;
 use reading::ReadingAnswer;
 use sweep::NewSweep;
 use sweep::SweepAnswer;
@@ -17,14 +20,17 @@ ghost use Prim.Native.Nat.{_≤_};
 ghost use lib.ListN.{length};
 ghost use lib.Seq.{sets};
 ghost use lib.Ieee.{binary32, toBits};
+ghost use Rattle.words.specs.Words.{unsigned};
 ghost use Rattle.sweep.specs.Answers.{viewOf};
 ghost use Rattle.exports.specs.Words.{factorFrom, factorWords, damaged, stateOf, stateWords};
-ghost use Rattle.exports.specs.Answers.{taken, takenOf, leaves, setUpTo, multiplyTo, readTo, newSweepTo, sweepTo};
+ghost use Rattle.exports.specs.Answers.{taken, takenOf, leaves, setUpTo, multiplyTo, readTo, divideTo, divideReadingTo, newSweepTo, sweepTo};
 
-// So many words have a factor, a product, a reading's product, a sweep's state, and what a sweep call counts.
+// So many words have a factor, a product, a quotient, what a reading is answered with, a sweep's state, and what a sweep call counts.
 const FACTOR_WORDS: usize = 9;
 
 const PRODUCT_WORDS: usize = 2;
+
+const QUOTIENT_WORDS: usize = 2;
 
 const READING_WORDS: usize = 1;
 
@@ -126,14 +132,25 @@ fn put_product(mark: u32, v: Product, out: &mut [u64]) -> u32
     mark
 }
 
-// The bits of a reading's product, and its mark as the answer.
-fn put_reading(mark: u32, y: f32, out: &mut [u32]) -> u32
+// The words of a quotient, and 0 as the answer: it has no mark.
+fn put_quotient(v: Quotient, out: &mut [u64]) -> u32
+    requires { ⌜ 2 ≤ length (now out) ⌝ }
+    ensures { λ r. ⌜ r ≡ 0 ⌝ }
+    ensures { λ _. ⌜ now (out .exit) ≡ sets (now (out .entry)) 0 (v .significand ∷ unsigned 64 (v .binade) ∷ []) ⌝ }
+{
+    out[0] = v.significand;
+    out[1] = words::unsigned_word(v.binade as i64);
+    0
+}
+
+// The bits that a reading is answered with, and the answer's number: a mark, or 0.
+fn put_reading(number: u32, y: f32, out: &mut [u32]) -> u32
     requires { ⌜ 1 ≤ length (now out) ⌝ }
-    ensures { λ r. ⌜ r ≡ mark ⌝ }
+    ensures { λ r. ⌜ r ≡ number ⌝ }
     ensures { λ _. ⌜ now (out .exit) ≡ sets (now (out .entry)) 0 (toBits binary32 y ∷ []) ⌝ }
 {
     out[0] = floats::bits_of(y);
-    mark
+    number
 }
 
 // A sweep's state over a factor, from the words behind the factor's: the first, last and next significand, and whether it is finished.
@@ -222,6 +239,36 @@ pub extern "C" fn gusnalip_read(factor: &[u64], reading: u32, out: &mut [u32]) -
             ReadingAnswer::Open(y) => put_reading(2, y, out),
             ReadingAnswer::Wrong(y) => put_reading(3, y, out),
             ReadingAnswer::Refused(k) => k,
+        },
+        TakenFactor::Refused(k) => k,
+    }
+}
+
+// Divides a significand: 0 with the quotient's significand and binade, a word in two's complement, or the refusal; 255 where a list is too short, 31 where the factor's words are damaged.
+#[no_mangle]
+pub extern "C" fn gusnalip_divide(factor: &[u64], x: u64, out: &mut [u64]) -> u32
+    ensures { λ r. ⌜ r ≡ divideTo (now (factor .entry)) x (now (out .entry)) .number ⌝ }
+    ensures { λ _. ⌜ now (out .exit) ≡ leaves (divideTo (now (factor .entry)) x (now (out .entry))) (now (out .entry)) ⌝ }
+{
+    match take_factor(factor, FACTOR_WORDS, out.len(), QUOTIENT_WORDS) {
+        TakenFactor::Accepted(f) => match quotient::divide(f, x) {
+            QuotientAnswer::Accepted(v) => put_quotient(v, out),
+            QuotientAnswer::Refused(k) => k,
+        },
+        TakenFactor::Refused(k) => k,
+    }
+}
+
+// Divides a reading given by its bits: 0 with the quotient's bits, or the refusal; 255 where a list is too short, 31 where the factor's words are damaged.
+#[no_mangle]
+pub extern "C" fn gusnalip_divide_reading(factor: &[u64], reading: u32, out: &mut [u32]) -> u32
+    ensures { λ r. ⌜ r ≡ divideReadingTo (now (factor .entry)) reading (now (out .entry)) .number ⌝ }
+    ensures { λ _. ⌜ now (out .exit) ≡ leaves (divideReadingTo (now (factor .entry)) reading (now (out .entry))) (now (out .entry)) ⌝ }
+{
+    match take_factor(factor, FACTOR_WORDS, out.len(), READING_WORDS) {
+        TakenFactor::Accepted(f) => match reading::divide(f, floats::float_from(reading)) {
+            NumberAnswer::Number(y) => put_reading(0, y, out),
+            NumberAnswer::Refused(k) => k,
         },
         TakenFactor::Refused(k) => k,
     }
