@@ -75,6 +75,12 @@ pub fn set_up(bits: u32, scale: i32, lower: u64, upper: u64) -> Result<Factor, R
     })
 }
 
+/// A factor with this high part, which is the fraction itself; for 2, which is none, the last fraction.
+pub fn of_high(bits: u32, high: u64) -> Factor {
+    let end = (high << (63 - bits)).min((1 << 63) - 1);
+    set_up(bits, 0, end, end).expect("an accepted factor")
+}
+
 /// The number as binary32, by an exact conversion and a division by powers of two.
 fn float(number: Dyadic) -> u32 {
     if number.whole == 0 {

@@ -1,7 +1,9 @@
-//! Document 01's example and figures, and the reference's methods held against each other.
+//! Document 01's example and figures, those of quotients, and the reference's methods held against each other.
 
 use crate::factor::{greatest, least, set_up, Factor};
 use crate::product::{multiply, product, Mark};
+use crate::quotient::{divide, divide_reading, is_nearest, machine, near_midpoints, quotient, Quotient};
+use crate::random::{given, Random, KINDS};
 use crate::reading::read;
 use crate::sweep::{call, new_state, Plain};
 use crate::{frame, search, suspects};
@@ -24,8 +26,12 @@ pub fn selftest(output: &mut dyn Write) -> io::Result<()> {
     table();
     scale_100();
     square_root_of_2();
+    quotients();
+    quotients_of_readings();
+    farthest_quotients();
+    quotients_of_every_precision();
     methods();
-    writeln!(output, "selftest: document 01's example and figures stand, and the methods agree")
+    writeln!(output, "selftest: document 01's example and figures stand, those of quotients too, and the methods agree")
 }
 
 fn accepted(bits: u32, lower: u64, upper: u64) -> Factor {
@@ -94,8 +100,107 @@ fn square_root_of_2() {
     }
 }
 
+fn quotients() {
+    let answer = |factor: &Factor, x| divide(factor, x).map(|quotient| (quotient.significand, quotient.binade));
+    let f = accepted(4, 3 << 61, 3 << 61);
+    assert_eq!(answer(&f, 8), Ok((11, -1)));
+    assert_eq!(answer(&f, 12), Ok((8, 0)));
+    assert_eq!(answer(&f, 15), Ok((10, 0)));
+    assert_eq!(answer(&f, 7), Err(17));
+    assert_eq!(answer(&f, 16), Err(17));
+    assert_eq!(answer(&Factor { low: 8, ..f }, 16), Err(31));
+    // Ch = 2 and Ch = 1: the significand itself, in one binade or the other.
+    for bits in 4..=24 {
+        let (two, one) = (accepted(bits, (1 << 63) - 1, (1 << 63) - 1), accepted(bits, 1 << 62, 1 << 62));
+        for x in [least(bits), least(bits) + 1, greatest(bits)] {
+            assert_eq!(answer(&two, x), Ok((x, -1)));
+            assert_eq!(answer(&one, x), Ok((x, 0)));
+        }
+    }
+}
+
+fn quotients_of_readings() {
+    // A diameter of 1/2 by 1/pi: a girth of pi/2.
+    let f = set_up(24, -2, 0x517CC1B727220A94, 0x517CC1B727220A95).expect("an accepted factor");
+    assert_eq!(divide_reading(&f, 0x3F000000), Ok(0x3FC90FDB));
+    assert_eq!(divide_reading(&f, 0xBF000000), Ok(0xBFC90FDB));
+    assert_eq!(divide_reading(&f, 0x80000000), Ok(0));
+    assert_eq!(divide_reading(&f, 0x7F800000), Err(21));
+    assert_eq!(divide_reading(&f, 0x807FFFFF), Err(22));
+    assert_eq!(divide_reading(&Factor { scale: 101, ..f }, 0x7F800000), Err(31));
+    assert_eq!(divide_reading(&accepted(23, 3 << 61, 3 << 61), 0x7F800000), Err(20));
+    // 3/2: 1 is divided into the lower binade, 3/2 is not; so the exponents' limits are met one apart.
+    let reading = |x: f32, exponent: i32| x.to_bits().wrapping_add_signed(exponent << 23);
+    let f = set_up(24, 100, 3 << 61, 3 << 61).expect("an accepted factor");
+    assert_eq!(divide_reading(&f, reading(1.0, -25)), Ok(0x00AAAAAB));
+    assert_eq!(divide_reading(&f, reading(1.0, -26)), Err(23));
+    assert_eq!(divide_reading(&f, reading(1.5, -26)), Ok(0x00800000));
+    assert_eq!(divide_reading(&f, reading(1.5, -27)), Err(23));
+    let f = set_up(24, -100, 3 << 61, 3 << 61).expect("an accepted factor");
+    assert_eq!(divide_reading(&f, reading(1.0, 28)), Ok(0x7F2AAAAB));
+    assert_eq!(divide_reading(&f, reading(1.0, 29)), Err(23));
+    assert_eq!(divide_reading(&f, reading(1.5, 27)), Ok(0x7F000000));
+    assert_eq!(divide_reading(&f, reading(1.5, 28)), Err(23));
+    // Just below 2^-126: one division of the whole reading would round it up to that, by a tie of subnormal numbers.
+    let f = accepted(24, (1 << 63) - 1, (1 << 63) - 1);
+    assert_eq!((f32::from_bits(0x00FFFFFF) / 2.0).to_bits(), 0x00800000);
+    assert_eq!(divide_reading(&f, 0x00FFFFFF), Err(23));
+    assert_eq!(divide_reading(&f, 0x01000000), Ok(0x00800000));
+}
+
+/// Twice the distance from x / C to the quotient, C = end / 2^62, and the unit in the last place of x / C, both over the same.
+fn twice_off_and_unit(factor: &Factor, end: u64, x: u64) -> (u128, u128) {
+    let quotient = quotient(factor, x);
+    let ours = (quotient.significand as u128 * end as u128) << (quotient.binade + 1);
+    let below_one = (x as u128) << 62 < (end as u128) << (factor.bits - 1);
+    (2 * ours.abs_diff((x as u128) << 63), (end as u128) << (1 - below_one as u32))
+}
+
+/// Less than 3/2 units in the last place of x / C (003, Property 3.1), C being either end.
+fn near_enough(factor: &Factor, x: u64) -> bool {
+    [factor.lower, factor.upper].into_iter().all(|end| {
+        let (twice_off, unit) = twice_off_and_unit(factor, end, x);
+        twice_off < 3 * unit
+    })
+}
+
+/// 003's example 2, for even and for odd precisions: hardly better than the bound, at 24 bits 1.49957 units.
+fn farthest_quotients() {
+    for bits in 6..=24 {
+        let half = bits / 2;
+        let end = (1 << 62) + (1 << (61 - half)) - (1 << (62 - bits));
+        let (x, binade) = if bits % 2 == 0 { ((1 << bits) - (1 << (half - 1)), 0) } else { (least(bits), -1) };
+        let factor = accepted(bits, end, end);
+        assert_eq!(quotient(&factor, x), Quotient { significand: (1 << bits) - (1 << half), binade });
+        assert!(near_enough(&factor, x));
+        let (twice_off, unit) = twice_off_and_unit(&factor, end, x);
+        assert!(bits < 24 || 100_000 * twice_off / (2 * unit) == 149_957);
+    }
+}
+
+/// For factors of many kinds: quotients, those next to midpoints among them, are nearest and near enough; at 24 bits they are the
+/// machine's binary32 quotients too.
+fn quotients_of_every_precision() {
+    let mut random = Random::new(5);
+    for i in 0..200_000 {
+        let given = given(&mut random, 4 + (i / KINDS % 21) as u32, i % KINDS);
+        let Ok(factor) = set_up(given.bits, given.scale, given.lower, given.upper) else { continue };
+        let (first, last) = (least(factor.bits), greatest(factor.bits));
+        let mut significands = near_midpoints(&factor);
+        significands.extend([first, last, random.from_to(first, last), factor.high.min(last)]);
+        for x in significands {
+            assert!(is_nearest(&factor, x) && near_enough(&factor, x), "{factor:X?} {x:X}");
+            if factor.bits == 24 {
+                let Quotient { significand, binade } = quotient(&factor, x);
+                let value = significand as f32 * 2f32.powi(binade as i32 - 23);
+                assert_eq!(machine(&factor, x as u32 & 0x7F_FFFF), value, "{factor:X?} {x:X}");
+            }
+        }
+    }
+}
+
 /// For many factors of small precision: what is not right is a suspect, both rows are one, the search finds the row, the
-/// sweep by searches is the plain one.
+/// sweep by searches is the plain one, and quotients are near enough.
 fn methods() {
     let mut state = 1u64;
     let mut next = || {
@@ -132,6 +237,7 @@ fn check_methods(factor: &Factor, next: &mut dyn FnMut() -> u64) {
     for x in first..=last {
         let suspect = row.binary_search(&x).is_ok();
         assert!(suspect || product(factor, x).mark == Mark::Right);
+        assert!(is_nearest(factor, x) && near_enough(factor, x));
         // The half's search finds the least suspect of its own half at or after x.
         let low = factor.is_low(x);
         let there = search::next(factor, low, x).place;

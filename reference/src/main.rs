@@ -16,6 +16,7 @@ mod frame;
 mod lean;
 mod lines;
 mod product;
+mod quotient;
 mod random;
 mod reading;
 mod rounding;

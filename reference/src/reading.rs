@@ -4,6 +4,13 @@ use crate::factor::{Factor, Refusal};
 use crate::product::Mark;
 
 pub fn read(factor: &Factor, reading: u32) -> Result<(Mark, u32), Refusal> {
+    let Some(fraction) = taken(factor, reading)? else { return Ok((Mark::Right, 0)) };
+    let (mark, product) = product(factor, fraction);
+    Ok((mark, put_on(product, reading, factor.scale)?))
+}
+
+/// The fraction bits of a reading that a factor is applied to, none for a zero; or the refusals 31 and 20 to 22.
+pub fn taken(factor: &Factor, reading: u32) -> Result<Option<u32>, Refusal> {
     if !factor.intact() {
         return Err(31);
     }
@@ -15,20 +22,24 @@ pub fn read(factor: &Factor, reading: u32) -> Result<(Mark, u32), Refusal> {
         return Err(21);
     }
     if given == 0.0 {
-        return Ok((Mark::Right, 0));
+        return Ok(None);
     }
     if given.is_subnormal() {
         return Err(22);
     }
-    let (mark, product) = product(factor, reading & 0x7F_FFFF);
-    let binade = if product >= 2.0 { 1 } else { 0 };
-    let exponent = ((reading >> 23) & 0xFF) as i32 - 127 + factor.scale + binade;
+    Ok(Some(reading & 0x7F_FFFF))
+}
+
+/// The reading's sign, and its exponent moved by `scale`, put on a value in [1/2, 4); or the refusal 23.
+pub fn put_on(value: f32, reading: u32, scale: i32) -> Result<u32, Refusal> {
+    let exponent_of = |bits: u32| ((bits >> 23) & 0xFF) as i32 - 127;
+    let exponent = exponent_of(reading) + scale + exponent_of(value.to_bits());
     if !(-126..=127).contains(&exponent) {
         return Err(23);
     }
     let sign = reading & 0x8000_0000;
-    let fraction = product.to_bits() & 0x7F_FFFF;
-    Ok((mark, sign | ((exponent + 127) as u32) << 23 | fraction))
+    let fraction = value.to_bits() & 0x7F_FFFF;
+    Ok(sign | ((exponent + 127) as u32) << 23 | fraction)
 }
 
 /// Mark and product of the significand whose fraction bits are given, in [1, 4), by one multiplication and one fused step.

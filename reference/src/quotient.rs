@@ -1,0 +1,172 @@
+//! The quotient of a significand or of a reading by the high part, with the machine's own divisions (document 02, W1).
+
+use crate::factor::{greatest, least, Factor, Refusal};
+use crate::reading::{put_on, taken};
+use crate::rounding::{nearest, Dyadic};
+
+#[derive(Clone, Copy, Debug, PartialEq, Eq)]
+pub struct Quotient {
+    pub significand: u64,
+    /// -1 for [1/2, 1), 0 for [1, 2).
+    pub binade: i64,
+}
+
+pub fn divide(factor: &Factor, x: u64) -> Result<Quotient, Refusal> {
+    if !factor.intact() {
+        return Err(31);
+    }
+    if x < least(factor.bits) || greatest(factor.bits) < x {
+        return Err(17);
+    }
+    Ok(quotient(factor, x))
+}
+
+/// The quotient by an intact factor of a significand that 17 does not refuse: one binary64 division, rounded again to n bits.
+/// Rounding twice does no harm, since 53 is at least 2n + 2: the exact quotient is never a midpoint of n bits, and from
+/// each it is at least 2^-(2n + 1) away, while the division is off by 2^-53 at most.
+pub fn quotient(factor: &Factor, x: u64) -> Quotient {
+    let value = x as f64 / factor.high as f64;
+    // From 1/2 on a binary64 number has no more than 53 places.
+    let whole = (value * 2f64.powi(53)) as i64;
+    let rounded = nearest(factor.bits, Dyadic::new(whole as i128, 53));
+    let binade = factor.bits as i32 - 1 - rounded.places;
+    assert!(binade == -1 || binade == 0, "the quotient lies in [1/2, 2)");
+    Quotient { significand: rounded.whole as u64, binade: binade as i64 }
+}
+
+pub fn divide_reading(factor: &Factor, reading: u32) -> Result<u32, Refusal> {
+    match taken(factor, reading)? {
+        None => Ok(0),
+        Some(fraction) => put_on(machine(factor, fraction), reading, -factor.scale),
+    }
+}
+
+/// The quotient, in [1/2, 2), of the significand whose fraction bits are given: one binary32 division.
+pub fn machine(factor: &Factor, fraction: u32) -> f32 {
+    f32::from_bits(0x3F80_0000 | fraction) / f32::from_bits(factor.high_float)
+}
+
+/// Whether the quotient is the number of n bits nearest to X / H, and no other is as near: by whole numbers.
+pub fn is_nearest(factor: &Factor, x: u64) -> bool {
+    let Quotient { significand, binade } = quotient(factor, x);
+    let exact = x << (factor.bits as i64 - 1 - binade);
+    least(factor.bits) <= significand
+        && significand <= greatest(factor.bits)
+        && 2 * exact.abs_diff(significand * factor.high) < factor.high
+}
+
+/// Significands whose quotients lie as near to a midpoint as any does, in either binade and on either side, where there are such.
+/// In units of its last place the quotient is X × 2^s / H, s being n below 1 and n - 1 from there on. With H = 2^t × h, h odd,
+/// twice its remainder is H ± 2^t exactly where X × 2^(s + 1 - t) is ± 1 modulo h.
+pub fn near_midpoints(factor: &Factor) -> Vec<u64> {
+    let (bits, high) = (factor.bits, factor.high);
+    let twos = high.trailing_zeros();
+    let odd = high >> twos;
+    let mut found = Vec::new();
+    if odd == 1 {
+        return found;
+    }
+    for (s, first, last) in [(bits, least(bits), high - 1), (bits - 1, high, greatest(bits))] {
+        // 1, halved so often modulo h.
+        let one = (0..s + 1 - twos).fold(1, |rest, _| if rest % 2 == 0 { rest / 2 } else { (rest + odd) / 2 });
+        for rest in [one, odd - one] {
+            let x = first + (rest + odd - first % odd) % odd;
+            if x <= last {
+                found.push(x);
+            }
+        }
+    }
+    found
+}
+
+#[cfg(test)]
+mod tests {
+    use super::*;
+    use crate::factor::{of_high, set_up};
+    use crate::random::{given, Random, KINDS, KNOWN};
+
+    /// The nearest of all numbers of n bits in reach, and the only one as near: there is no tie.
+    fn by_trial(bits: u32, high: u64, x: u64) -> Quotient {
+        // The distance from X / H, over H × 2^(n + 1).
+        let apart = |q: &Quotient| (x << (bits + 1)).abs_diff((q.significand * high) << (q.binade + 2));
+        let all = || {
+            (-2..=1).flat_map(|binade| {
+                (least(bits)..=greatest(bits)).map(move |significand| Quotient { significand, binade })
+            })
+        };
+        let nearest = all().min_by_key(apart).expect("some number");
+        assert_eq!(all().filter(|q| apart(q) == apart(&nearest)).count(), 1, "a tie");
+        nearest
+    }
+
+    #[test]
+    fn agrees_with_every_significand_tried() {
+        for bits in 4..=7 {
+            for high in least(bits)..=1 << bits {
+                let factor = of_high(bits, high);
+                assert_eq!(factor.high, high);
+                for x in least(bits)..=greatest(bits) {
+                    assert_eq!(quotient(&factor, x), by_trial(bits, high, x), "{bits} {high} {x}");
+                }
+            }
+        }
+    }
+
+    /// The binary32 division and the binary64 one, rounded again, give one answer.
+    #[test]
+    fn agrees_with_the_machine_at_24_bits() {
+        let mut random = Random::new(6);
+        for (_, scale, lower, upper) in KNOWN {
+            let factor = set_up(24, scale, lower, upper).expect("an accepted factor");
+            for x in (0..300_000).map(|_| random.from_to(least(24), greatest(24))).chain(near_midpoints(&factor)) {
+                let whole = quotient(&factor, x);
+                let expected = whole.significand as f32 * 2f32.powi(whole.binade as i32 - 23);
+                assert_eq!(machine(&factor, (x - least(24)) as u32), expected);
+                assert!(is_nearest(&factor, x));
+            }
+        }
+    }
+
+    #[test]
+    fn near_midpoints_are_near() {
+        let mut found = 0;
+        for bits in 4..=9 {
+            for high in least(bits)..=1 << bits {
+                let factor = of_high(bits, high);
+                for x in near_midpoints(&factor) {
+                    let Quotient { significand, binade } = quotient(&factor, x);
+                    let apart = (x << (bits as i64 - 1 - binade)).abs_diff(significand * high);
+                    assert_eq!(2 * apart + (1 << high.trailing_zeros()), high, "{bits} {high} {x}");
+                    found += 1;
+                }
+            }
+        }
+        assert!(found > 500, "{found}");
+    }
+
+    /// One binary32 division of the whole reading by Ch × 2^k, where the quotient is not refused; and 23 where it lies outside.
+    #[test]
+    fn agrees_with_a_division_of_the_whole_reading() {
+        let mut random = Random::new(7);
+        let mut refused = [0, 0];
+        for i in 0..400_000 {
+            let g = given(&mut random, 24, i % (KINDS - 1));
+            let Ok(factor) = set_up(24, g.scale, g.lower, g.upper) else { continue };
+            let reading = f32::from_bits(random.word() as u32);
+            if !reading.is_normal() {
+                continue;
+            }
+            let applied = f32::from_bits(factor.high_float) * 2f32.powi(factor.scale);
+            match divide_reading(&factor, reading.to_bits()) {
+                Ok(bits) => assert_eq!(bits, (reading / applied).to_bits()),
+                Err(refusal) => {
+                    assert_eq!(refusal, 23);
+                    let size = (reading as f64 / applied as f64).abs();
+                    assert!(size < 2f64.powi(-126) || 2f64.powi(128) <= size, "{factor:X?} {reading}");
+                    refused[(size > 1.0) as usize] += 1;
+                }
+            }
+        }
+        assert!(refused.iter().all(|&count| count > 10_000), "{refused:?}");
+    }
+}
