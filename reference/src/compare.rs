@@ -1,8 +1,11 @@
 //! The engine against the reference: every answer, word, state, list and count must be the same.
 
-use crate::engine::{self, words, COUNT_WORDS, FACTOR_WORDS, PRODUCT_WORDS, STATE_WORDS, TOO_SHORT, UNTOUCHED};
-use crate::factor::{greatest, least, set_up, Factor};
+use crate::engine::{
+    self, words, COUNT_WORDS, FACTOR_WORDS, PRODUCT_WORDS, QUOTIENT_WORDS, STATE_WORDS, TOO_SHORT, UNTOUCHED,
+};
+use crate::factor::{greatest, least, of_high, set_up, Factor};
 use crate::product::{multiply, product, Mark};
+use crate::quotient::{divide, divide_reading, machine, near_midpoints, quotient, Quotient};
 use crate::random::{given, Given, Random, KINDS, KNOWN};
 use crate::reading::read;
 use crate::sweep::{call, new_state, word, Plain, State};
@@ -61,7 +64,8 @@ pub fn compare(output: &mut dyn Write) -> io::Result<()> {
 }
 
 fn parts() -> Vec<Part> {
-    let mut parts = Vec::new();
+    // The longest part comes first, so that the cores end about together.
+    let mut parts = vec![part("lists of sweep calls from a new state, against the plain sweep too", lists_of_calls)];
     for (name, scale, lower, upper) in KNOWN {
         parts.push(part(format!("every significand of {name} at 24 bits"), move |random| {
             every_significand(random, &set_up(24, scale, lower, upper).expect("an accepted factor"))
@@ -70,20 +74,25 @@ fn parts() -> Vec<Part> {
     for bits in 4..=8 {
         parts.push(part(format!("all significands of many factors of {bits} bits"), move |random| small(random, bits)));
     }
-    parts.push(part("random factors of every precision, their suspects among the significands", large));
+    parts.push(part("every quotient of 4 to 12 bits", every_quotient));
+    parts.push(part("every quotient where the high part is 2 or 1", high_two_and_one));
+    parts.push(part(
+        "random factors of every precision, their suspects and quotients near midpoints among the significands",
+        large,
+    ));
     parts.push(part("set-up, with every refusal", set_ups));
     parts.push(part("damaged factors", damaged));
     parts.push(part("upper halves that are not as written, through every function", upper_halves));
     parts.push(part("lists that are too short", short_lists));
     parts.push(part("readings, random and extreme, with every refusal", readings));
+    parts.push(part("quotients of readings at every exponent, past both limits", every_exponent));
     for (name, scale, lower, upper) in KNOWN.into_iter().chain([("3/2", 0, 3 << 61, 3 << 61)]) {
         parts.push(part(format!("the whole sweep of {name} at 24 bits, in one call and in many"), move |random| {
             whole_sweep(random, &set_up(24, scale, lower, upper).expect("an accepted factor"))
         }));
     }
-    parts.push(part("lists of sweep calls from a new state, against the plain sweep too", lists_of_calls));
     parts.push(part("calls on states that nobody reached, and damaged ones", any_states));
-    parts.push(part("the remaining figures of document 01", figures));
+    parts.push(part("the remaining figures of document 01, and those of quotients", figures));
     parts
 }
 
@@ -100,6 +109,11 @@ fn both_multiply(words: &[u64], x: u64) {
     agree!(engine::multiply(words, x), answer, "{words:X?} times {x:X}");
 }
 
+fn both_divide(words: &[u64], x: u64) {
+    let answer = engine::from_words(words).and_then(|factor| divide(&factor, x));
+    agree!(engine::divide(words, x), answer, "{x:X} divided by {words:X?}");
+}
+
 fn every_significand(random: &mut Random, factor: &Factor) -> u64 {
     let words = words(factor);
     for x in least(24)..=greatest(24) {
@@ -113,8 +127,16 @@ fn every_significand(random: &mut Random, factor: &Factor) -> u64 {
         // As a reading, with any sign and exponent.
         let bits = random.word() as u32 & 0xFF80_0000 | (x - least(24)) as u32;
         both_read(&words, bits);
+        // The quotient: by whole numbers, by the machine and as a reading.
+        let answer = engine::divide(&words, x);
+        agree!(answer, Ok(quotient(factor, x)), "{x:X} divided by {factor:X?}");
+        let whole = answer.expect("a quotient");
+        let expected = whole.significand as f32 * 2f32.powi(whole.binade as i32 - 23);
+        let value = machine(factor, (x - least(24)) as u32);
+        agree!(expected.to_bits(), value.to_bits(), "{x:X} divided by {factor:X?}, by the machine");
+        both_divide_reading(&words, bits);
     }
-    3 << 23
+    6 << 23
 }
 
 fn small(random: &mut Random, bits: u32) -> u64 {
@@ -129,6 +151,42 @@ fn small(random: &mut Random, bits: u32) -> u64 {
                 both_multiply(&words, x);
                 answers += 1;
             }
+            answers += every_quotient_of(&factor);
+        }
+    }
+    answers
+}
+
+/// The quotients of all significands, and of those next to them, which are refused.
+fn every_quotient_of(factor: &Factor) -> u64 {
+    let words = words(factor);
+    let (first, last) = (least(factor.bits), greatest(factor.bits));
+    both_divide(&words, first - 1);
+    both_divide(&words, last + 1);
+    for x in first..=last {
+        agree!(engine::divide(&words, x), Ok(quotient(factor, x)), "{x:X} divided by {factor:X?}");
+    }
+    last - first + 3
+}
+
+/// A quotient depends on the precision, the high part and the significand: all there are, as long as they are not too many.
+fn every_quotient(_: &mut Random) -> u64 {
+    let of_bits = |bits: u32| (least(bits)..=1 << bits).map(move |high| every_quotient_of(&of_high(bits, high)));
+    (4..=12).flat_map(of_bits).sum()
+}
+
+/// Dividing by 2 or by 1 leaves the significand as it is, at every precision.
+fn high_two_and_one(_: &mut Random) -> u64 {
+    let mut answers = 0;
+    for bits in 4..=24 {
+        for (high, binade) in [(1 << bits, -1), (least(bits), 0)] {
+            let factor = of_high(bits, high);
+            let words = words(&factor);
+            for x in least(bits)..=greatest(bits) {
+                let expected = Ok(Quotient { significand: x, binade });
+                agree!(engine::divide(&words, x), expected, "{x:X} divided by {factor:X?}");
+            }
+            answers += least(bits);
         }
     }
     answers
@@ -155,6 +213,13 @@ fn large(random: &mut Random) -> u64 {
             both_multiply(&words, x);
         }
         answers += 9;
+        let high = factor.high;
+        for x in [first, last, outside, high - 1, high, high + 1, random.from_to(first, last)] {
+            both_divide(&words, x);
+        }
+        let near = near_midpoints(&factor);
+        near.iter().for_each(|&x| both_divide(&words, x));
+        answers += 7 + near.len() as u64;
     }
     answers
 }
@@ -203,6 +268,8 @@ fn upper_halves(random: &mut Random) -> u64 {
             agree!(engine::from_words(&words), Err(31), "{words:X?}");
             both_multiply(&words, random.one_of(&[0, least(factor.bits), greatest(factor.bits), u64::MAX]));
             both_read(&words, reading_bits(random, factor.scale));
+            both_divide(&words, random.one_of(&[0, least(factor.bits), greatest(factor.bits), u64::MAX]));
+            both_divide_reading(&words, reading_bits(random, -factor.scale - 1));
             agree!(engine::new_sweep(&words, first, last), Err(31), "a new sweep of {words:X?}");
             let mut state = engine::state_words(&begun);
             state[..FACTOR_WORDS].copy_from_slice(&words);
@@ -210,7 +277,7 @@ fn upper_halves(random: &mut Random) -> u64 {
             let (cap, length, free) = call_of(random);
             let mut list = words_before(random, length);
             agree!(both_call(&mut state, cap, &mut list, free), Err(31), "a call on {state:X?}");
-            answers += 4;
+            answers += 6;
         }
         let mut state = engine::state_words(&begun);
         state[12] = random.one_of(&[1, 2, 1 << 31, 1 << 32, 1 << 63, u64::MAX]);
@@ -243,8 +310,9 @@ fn damaged(random: &mut Random) -> u64 {
             _ => random.from_to(least(factor.bits), greatest(factor.bits)),
         };
         both_multiply(&words, x);
+        both_divide(&words, x);
     }
-    count
+    2 * count
 }
 
 fn short_lists(random: &mut Random) -> u64 {
@@ -282,7 +350,31 @@ fn short_lists(random: &mut Random) -> u64 {
                 agree!((answer, out), (number, expected), "a product of {factor_length} words into {length}");
                 answers += 1;
             }
+            for length in 0..=QUOTIENT_WORDS {
+                let x = greatest(factor.bits);
+                let mut out = vec![UNTOUCHED; length];
+                let answer = engine::divide_to(&words[..factor_length], x, &mut out);
+                let mut expected = vec![UNTOUCHED; length];
+                let number = if factor_length < FACTOR_WORDS || length < QUOTIENT_WORDS {
+                    TOO_SHORT
+                } else {
+                    let quotient = divide(&factor, x).expect("a quotient");
+                    expected.copy_from_slice(&[quotient.significand, quotient.binade as u64]);
+                    0
+                };
+                agree!((answer, out), (number, expected), "a quotient of {factor_length} words into {length}");
+                answers += 1;
+            }
             let enough = factor_length == FACTOR_WORDS;
+            for length in 0..2 {
+                let mut out = vec![5; length];
+                let answer = engine::divide_reading_to(&words[..factor_length], 0x8000_0000, &mut out);
+                let refused = if factor.bits == 24 { 0 } else { 20 };
+                let number = if enough && length > 0 { refused } else { TOO_SHORT };
+                let left = if number == 0 { 0 } else { 5 };
+                agree!((answer, out), (number, vec![left; length]), "a zero divided into {length} words");
+                answers += 1;
+            }
             for length in 0..2 {
                 let mut out = vec![5; length];
                 let answer = engine::read_to(&words[..factor_length], 0, &mut out);
@@ -305,6 +397,14 @@ fn short_lists(random: &mut Random) -> u64 {
             }
         }
         let x = least(factor.bits);
+        // Words past the factor's are not looked at.
+        let mut longer = words.to_vec();
+        longer.push(random.word());
+        both_multiply(&longer, x);
+        both_divide(&longer, x);
+        both_read(&longer, reading_bits(random, factor.scale));
+        both_divide_reading(&longer, reading_bits(random, -factor.scale - 1));
+        answers += 4;
         let begun = engine::new_sweep(&words, x, x).expect("a good range");
         for length in 0..=STATE_WORDS {
             for count_length in 0..=COUNT_WORDS {
@@ -334,7 +434,13 @@ fn both_read(words: &[u64], bits: u32) {
     agree!(engine::read(words, bits), answer, "{words:X?} applied to the reading {bits:X}");
 }
 
-/// Bits of a reading: of every class, and such that the product's exponent lies at a limit.
+fn both_divide_reading(words: &[u64], bits: u32) {
+    let answer = engine::from_words(words).and_then(|factor| divide_reading(&factor, bits));
+    agree!(engine::divide_reading(words, bits), answer, "the reading {bits:X} divided by {words:X?}");
+}
+
+/// Bits of a reading: of every class, and such that the answer's exponent, moved by `scale` or by one more, lies at a limit.
+/// A product's is moved by k or by one more, a quotient's by -k - 1 or by one more.
 fn reading_bits(random: &mut Random, scale: i32) -> u32 {
     let scale = scale.clamp(-200, 200);
     let sign = (random.below(2) as u32) << 31;
@@ -342,7 +448,7 @@ fn reading_bits(random: &mut Random, scale: i32) -> u32 {
         random.one_of(&[0, 1, 0x7F_FFFF, 0x40_0000]) ^ (random.word() as u32 & random.one_of(&[0, 0x7F_FFFF]));
     let field = match random.below(6) {
         0 => random.one_of(&[0, 1, 2, 253, 254, 255]),
-        // The exponent of the product next to -126 or 127.
+        // The exponent of the answer next to -126 or 127.
         1 => (1 - scale - 1 + random.below(4) as i32 - 1).clamp(0, 255) as u32,
         2 => (254 - scale - 1 + random.below(4) as i32 - 1).clamp(0, 255) as u32,
         _ => random.below(256) as u32,
@@ -351,27 +457,67 @@ fn reading_bits(random: &mut Random, scale: i32) -> u32 {
 }
 
 fn readings(random: &mut Random) -> u64 {
-    let count = 1_500_000;
-    for i in 0..count {
+    let mut answers = 0;
+    for i in 0..1_500_000 {
         let bits = if i % 16 == 0 { random.from_to(4, 24) as u32 } else { 24 };
         let factor = accepted(random, bits);
         let mut words = words(&factor);
         if i % 32 == 1 {
             damage(random, &mut words);
         }
+        let scale = words[8] as i32;
         for _ in 0..8 {
-            both_read(&words, reading_bits(random, words[8] as i32));
+            both_read(&words, reading_bits(random, scale));
+            both_divide_reading(&words, reading_bits(random, scale.saturating_neg() - 1));
         }
-        // A reading at a suspect, where products fail.
+        answers += 16;
         if engine::from_words(&words) == Ok(factor) && factor.bits == 24 {
+            // A reading at a suspect, where products fail.
             for low in [true, false] {
                 let start = random.from_to(least(24), greatest(24));
                 let place = search::next(&factor, low, start).place.unwrap_or(0) as u32 & 0x7F_FFFF;
                 both_read(&words, reading_bits(random, factor.scale) & 0xFF80_0000 | place);
             }
+            // A reading whose quotient lies near a midpoint.
+            let near = near_midpoints(&factor);
+            for &x in &near {
+                let fraction = x as u32 & 0x7F_FFFF;
+                both_divide_reading(&words, reading_bits(random, -factor.scale - 1) & 0xFF80_0000 | fraction);
+            }
+            answers += 2 + near.len() as u64;
         }
     }
-    10 * count
+    answers
+}
+
+/// Every sign and exponent, zeros, subnormal numbers, infinities and NaN included, for scales of every size, significands next to
+/// the high part and high parts next to 1 and 2. Both of the quotient's binades meet both limits, and are refused past them.
+fn every_exponent(_: &mut Random) -> u64 {
+    let (mut answers, mut met) = (0, std::collections::BTreeSet::new());
+    let one = least(24);
+    for high in [one, one + 1, 0xA2_F983, 0xC0_0000, 2 * one - 1, 2 * one] {
+        for scale in [-100, -99, -28, -1, 0, 1, 26, 99, 100] {
+            let factor = of_high(24, high);
+            let factor = set_up(24, scale, factor.lower, factor.upper).expect("an accepted factor");
+            let words = words(&factor);
+            for x in [one, one + 1, high - 1, high, high + 1, 2 * one - 1] {
+                let x = x.clamp(one, 2 * one - 1);
+                for upper in 0..512u32 {
+                    let bits = upper << 23 | x as u32 & 0x7F_FFFF;
+                    both_divide_reading(&words, bits);
+                    answers += 1;
+                    let answer = divide_reading(&factor, bits);
+                    met.insert((x < high, upper & 0xFF > 127, answer.map(|quotient| quotient >> 23 & 0xFF)));
+                }
+            }
+        }
+    }
+    for below_one in [false, true] {
+        for (large, field) in [(false, 1), (true, 254)] {
+            assert!(met.contains(&(below_one, large, Ok(field))) && met.contains(&(below_one, large, Err(23))));
+        }
+    }
+    answers
 }
 
 /// One call by both, on the same words: answer, counts, state and whole list.
@@ -537,7 +683,7 @@ fn any_states(random: &mut Random) -> u64 {
     count
 }
 
-/// Scale 100 with 3/2, and the square root of 2, of which nothing fails; P1 to P9 and the example by the engine too.
+/// Scale 100 with 3/2, and the square root of 2, of which nothing fails; the quotients that were worked out by hand.
 fn figures(_: &mut Random) -> u64 {
     let factor = engine::set_up(24, 100, 3 << 61, 3 << 61).expect("an accepted factor");
     let bits = |exponent: u32| (127 + exponent) << 23;
@@ -547,5 +693,13 @@ fn figures(_: &mut Random) -> u64 {
     let mut state = engine::new_sweep(&words(&root), least(24), greatest(24)).expect("a good range");
     let counts = engine::sweep(&mut state, u64::MAX, &mut [7], 0).expect("an accepted call");
     agree!((counts.place, state[12]), (0, 1), "the sweep of the square root of 2");
-    4
+    let factor = engine::set_up(4, 0, 3 << 61, 3 << 61).expect("an accepted factor");
+    for (x, significand, binade) in [(8, 11, -1), (12, 8, 0), (15, 10, 0)] {
+        let expected = Ok(Quotient { significand, binade });
+        agree!(engine::divide(&words(&factor), x), expected, "{x} divided by 3/2");
+    }
+    let (_, scale, lower, upper) = KNOWN[0];
+    let factor = engine::set_up(24, scale, lower, upper).expect("an accepted factor");
+    agree!(engine::divide_reading(&words(&factor), 0x3F00_0000), Ok(0x3FC9_0FDB), "1/2 divided by 1/pi");
+    8
 }

@@ -2,10 +2,12 @@
 
 use crate::factor::{Factor, Refusal};
 use crate::product::{Mark, Product};
+use crate::quotient::Quotient;
 use crate::sweep::Counts;
 pub use crate::words::{from_words, state_from, state_words, words, FACTOR_WORDS, STATE_WORDS};
 
 pub const PRODUCT_WORDS: usize = 2;
+pub const QUOTIENT_WORDS: usize = 2;
 pub const COUNT_WORDS: usize = 3;
 pub const TOO_SHORT: u32 = 255;
 
@@ -14,6 +16,14 @@ extern "C" {
     fn gusnalip_set_up(precision: u32, scale: i32, lower: u64, upper: u64, out: *mut u64, length: usize) -> u32;
     fn gusnalip_multiply(factor: *const u64, factor_length: usize, x: u64, out: *mut u64, length: usize) -> u32;
     fn gusnalip_read(factor: *const u64, factor_length: usize, reading: u32, out: *mut u32, length: usize) -> u32;
+    fn gusnalip_divide(factor: *const u64, factor_length: usize, x: u64, out: *mut u64, length: usize) -> u32;
+    fn gusnalip_divide_reading(
+        factor: *const u64,
+        factor_length: usize,
+        reading: u32,
+        out: *mut u32,
+        length: usize,
+    ) -> u32;
     fn gusnalip_new_sweep(
         factor: *const u64,
         factor_length: usize,
@@ -47,6 +57,16 @@ pub fn multiply_to(factor: &[u64], x: u64, out: &mut [u64]) -> u32 {
 pub fn read_to(factor: &[u64], reading: u32, out: &mut [u32]) -> u32 {
     // The lists are two, and each is used within its length.
     unsafe { gusnalip_read(factor.as_ptr(), factor.len(), reading, out.as_mut_ptr(), out.len()) }
+}
+
+pub fn divide_to(factor: &[u64], x: u64, out: &mut [u64]) -> u32 {
+    // The lists are two, and each is used within its length.
+    unsafe { gusnalip_divide(factor.as_ptr(), factor.len(), x, out.as_mut_ptr(), out.len()) }
+}
+
+pub fn divide_reading_to(factor: &[u64], reading: u32, out: &mut [u32]) -> u32 {
+    // The lists are two, and each is used within its length.
+    unsafe { gusnalip_divide_reading(factor.as_ptr(), factor.len(), reading, out.as_mut_ptr(), out.len()) }
 }
 
 pub fn new_sweep_to(factor: &[u64], first: u64, last: u64, out: &mut [u64]) -> u32 {
@@ -113,6 +133,32 @@ pub fn read(factor: &[u64], reading: u32) -> Result<(Mark, u32), Refusal> {
         None => {
             assert_eq!(out[0], 0xA5A5_5A5A);
             Err(number)
+        }
+    }
+}
+
+pub fn divide(factor: &[u64], x: u64) -> Result<Quotient, Refusal> {
+    let mut out = [UNTOUCHED; QUOTIENT_WORDS + 1];
+    let number = divide_to(factor, x, &mut out);
+    assert_eq!(out[QUOTIENT_WORDS], UNTOUCHED);
+    match number {
+        0 => Ok(Quotient { significand: out[0], binade: out[1] as i64 }),
+        refusal => {
+            assert_eq!(out, [UNTOUCHED; QUOTIENT_WORDS + 1]);
+            Err(refusal)
+        }
+    }
+}
+
+pub fn divide_reading(factor: &[u64], reading: u32) -> Result<u32, Refusal> {
+    let mut out = [0xA5A5_5A5A; 2];
+    let number = divide_reading_to(factor, reading, &mut out);
+    assert_eq!(out[1], 0xA5A5_5A5A);
+    match number {
+        0 => Ok(out[0]),
+        refusal => {
+            assert_eq!(out[0], 0xA5A5_5A5A);
+            Err(refusal)
         }
     }
 }
