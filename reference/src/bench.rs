@@ -3,6 +3,7 @@
 use crate::engine::{self, words};
 use crate::factor::{greatest, least, set_up, Factor};
 use crate::product::{multiply, product, Mark};
+use crate::quotient::{divide, divide_reading};
 use crate::random::{given, Given, Random, KINDS, KNOWN};
 use crate::sweep::{call, new_state};
 use crate::{frame, lean, reading, suspects};
@@ -148,6 +149,27 @@ fn single(output: &mut dyn Write) -> io::Result<()> {
     });
     line(output, "the same, against lean 128-bit arithmetic", ours / count, lean / count)?;
 
+    let ours = seconds(5, || {
+        for (words, x) in &as_words {
+            let _ = black_box(engine::divide(words, *x));
+        }
+    });
+    let theirs = seconds(5, || {
+        for (factor, x) in &accepted {
+            let _ = black_box(divide(factor, *x));
+        }
+    });
+    line(output, "quotient of a significand, the factor checked", ours / count, theirs / count)?;
+    for (factor, x) in &accepted {
+        assert_eq!(lean::divide(factor, *x), divide(factor, *x), "the lean quotient is the reference's");
+    }
+    let lean = seconds(5, || {
+        for (factor, x) in &accepted {
+            let _ = black_box(lean::divide(factor, *x));
+        }
+    });
+    line(output, "the same, against lean arithmetic", ours / count, lean / count)?;
+
     let readings: Vec<(Factor, u32)> = (0..count as usize)
         .map(|i| known(i % 6).1)
         .map(|factor| (factor, (random.word() as u32 & 0x7FFF_FFFF) % 0x7F00_0000))
@@ -163,7 +185,18 @@ fn single(output: &mut dyn Write) -> io::Result<()> {
             black_box(reading::read(factor, *bits).is_ok());
         }
     });
-    line(output, "product of a reading, the factor checked", ours / count, theirs / count)
+    line(output, "product of a reading, the factor checked", ours / count, theirs / count)?;
+    let ours = seconds(5, || {
+        for (words, bits) in &as_words {
+            let _ = black_box(engine::divide_reading(words, *bits));
+        }
+    });
+    let theirs = seconds(5, || {
+        for (factor, bits) in &readings {
+            let _ = black_box(divide_reading(factor, *bits));
+        }
+    });
+    line(output, "quotient of a reading, the factor checked", ours / count, theirs / count)
 }
 
 fn per_suspect(output: &mut dyn Write) -> io::Result<()> {

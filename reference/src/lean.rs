@@ -1,8 +1,9 @@
-//! Set-up and product in lean 128-bit arithmetic, as one would write them for speed: only for the benchmark, which first holds them to the
-//! reference.
+//! Set-up, product and quotient in lean arithmetic of 128 and 64 bits, as one would write them for speed: only for the benchmark, which
+//! first holds them to the reference.
 
 use crate::factor::{greatest, least, Factor, Refusal};
 use crate::product::{Mark, Product};
+use crate::quotient::Quotient;
 
 /// The significand of `bits` bits nearest to a whole number that has at least so many, ties to even, and the digits dropped.
 fn rounded(whole: u128, bits: u32) -> (u64, u32) {
@@ -99,4 +100,19 @@ pub fn multiply(factor: &Factor, x: u64) -> Result<Product, Refusal> {
         Mark::Open
     };
     Ok(Product { mark, significand, binade })
+}
+
+pub fn divide(factor: &Factor, x: u64) -> Result<Quotient, Refusal> {
+    let bits = factor.bits;
+    if set_up(bits, factor.scale, factor.lower, factor.upper).as_ref() != Ok(factor) {
+        return Err(31);
+    }
+    if x < least(bits) || greatest(bits) < x {
+        return Err(17);
+    }
+    // The quotient in units of its last place: it is no midpoint, and what is rounded up stays in its binade.
+    let below_one = x < factor.high;
+    let dividend = x << (bits - 1 + below_one as u32);
+    let (kept, rest) = (dividend / factor.high, dividend % factor.high);
+    Ok(Quotient { significand: kept + (2 * rest > factor.high) as u64, binade: -(below_one as i64) })
 }
