@@ -14,8 +14,12 @@ static void due(const char *what, uint64_t answer, uint64_t expected) {
 int main(void) {
     const uint64_t three_halves = (uint64_t)3 << 61;
     const uint64_t below_19_16 = 0x4BFFFC0000000000u;
+    const uint64_t below_4_pi = 0x517CC1B727220A94u;
+    const uint64_t last = 0x7FFFFFFFFFFFFFFFu;
+    const uint64_t minus_one = 0xFFFFFFFFFFFFFFFFu;
     uint64_t factor[GUSNALIP_FACTOR_WORDS];
     uint64_t product[GUSNALIP_PRODUCT_WORDS];
+    uint64_t quotient[GUSNALIP_QUOTIENT_WORDS];
     uint32_t reading[GUSNALIP_READING_WORDS];
     uint64_t state[GUSNALIP_STATE_WORDS];
     uint64_t counts[GUSNALIP_COUNT_WORDS];
@@ -34,6 +38,41 @@ int main(void) {
     due("3/2 at 24 bits", gusnalip_set_up(24, -1, three_halves, three_halves, factor, GUSNALIP_FACTOR_WORDS), GUSNALIP_ACCEPTED);
     due("3/4 times 1", gusnalip_read(factor, GUSNALIP_FACTOR_WORDS, 0x3F800000, reading, GUSNALIP_READING_WORDS), GUSNALIP_RIGHT);
     due("its bits", reading[0], 0x3F400000);
+
+    /* Dividing: by 3/2 at 4 bits; by 2, the high part of the last fraction; by 3/4 at 24 bits, and by 1/pi: from the diameter 1/2 to the girth pi/2. */
+    due("3/2 again", gusnalip_set_up(4, 0, three_halves, three_halves, factor, GUSNALIP_FACTOR_WORDS), GUSNALIP_ACCEPTED);
+    due("15 by 3/2", gusnalip_divide(factor, GUSNALIP_FACTOR_WORDS, 15, quotient, GUSNALIP_QUOTIENT_WORDS), GUSNALIP_ACCEPTED);
+    due("its significand", quotient[0], 10);
+    due("its binade", quotient[1], 0);
+    due("8 by 3/2", gusnalip_divide(factor, GUSNALIP_FACTOR_WORDS, 8, quotient, GUSNALIP_QUOTIENT_WORDS), GUSNALIP_ACCEPTED);
+    due("its significand", quotient[0], 11);
+    due("its binade", quotient[1], minus_one);
+    due("no room", gusnalip_divide(factor, GUSNALIP_FACTOR_WORDS, 12, quotient, 1), GUSNALIP_TOO_SHORT);
+    due("16 by 3/2", gusnalip_divide(factor, GUSNALIP_FACTOR_WORDS, 16, quotient, GUSNALIP_QUOTIENT_WORDS), 17);
+    due("a reading at 4 bits", gusnalip_divide_reading(factor, GUSNALIP_FACTOR_WORDS, 0x7F800000, reading, GUSNALIP_READING_WORDS), 20);
+    factor[3] += 1;
+    due("damage", gusnalip_divide(factor, GUSNALIP_FACTOR_WORDS, 16, quotient, GUSNALIP_QUOTIENT_WORDS), GUSNALIP_DAMAGED);
+    due("the significand as it was", quotient[0], 11);
+    due("the binade as it was", quotient[1], minus_one);
+    due("nearly 2", gusnalip_set_up(4, 0, last, last, factor, GUSNALIP_FACTOR_WORDS), GUSNALIP_ACCEPTED);
+    due("9 by 2", gusnalip_divide(factor, GUSNALIP_FACTOR_WORDS, 9, quotient, GUSNALIP_QUOTIENT_WORDS), GUSNALIP_ACCEPTED);
+    due("its significand", quotient[0], 9);
+    due("its binade", quotient[1], minus_one);
+    due("3/4", gusnalip_set_up(24, -1, three_halves, three_halves, factor, GUSNALIP_FACTOR_WORDS), GUSNALIP_ACCEPTED);
+    due("-1 by 3/4", gusnalip_divide_reading(factor, GUSNALIP_FACTOR_WORDS, 0xBF800000, reading, GUSNALIP_READING_WORDS), GUSNALIP_ACCEPTED);
+    due("its bits", reading[0], 0xBFAAAAAB);
+    due("no room", gusnalip_divide_reading(factor, GUSNALIP_FACTOR_WORDS, 0, reading, 0), GUSNALIP_TOO_SHORT);
+    due("the last reading by 3/4", gusnalip_divide_reading(factor, GUSNALIP_FACTOR_WORDS, 0x7F7FFFFF, reading, GUSNALIP_READING_WORDS), 23);
+    due("infinity", gusnalip_divide_reading(factor, GUSNALIP_FACTOR_WORDS, 0x7F800000, reading, GUSNALIP_READING_WORDS), 21);
+    due("a subnormal reading", gusnalip_divide_reading(factor, GUSNALIP_FACTOR_WORDS, 1, reading, GUSNALIP_READING_WORDS), 22);
+    due("the bits as they were", reading[0], 0xBFAAAAAB);
+    due("minus zero", gusnalip_divide_reading(factor, GUSNALIP_FACTOR_WORDS, 0x80000000, reading, GUSNALIP_READING_WORDS), GUSNALIP_ACCEPTED);
+    due("its bits", reading[0], 0);
+    due("1/pi", gusnalip_set_up(24, -2, below_4_pi, below_4_pi + 1, factor, GUSNALIP_FACTOR_WORDS), GUSNALIP_ACCEPTED);
+    due("1/2 by 1/pi", gusnalip_divide_reading(factor, GUSNALIP_FACTOR_WORDS, 0x3F000000, reading, GUSNALIP_READING_WORDS), GUSNALIP_ACCEPTED);
+    due("its bits", reading[0], 0x3FC90FDB);
+    factor[8] += (uint64_t)1 << 32;
+    due("damage", gusnalip_divide_reading(factor, GUSNALIP_FACTOR_WORDS, 0x7F800000, reading, GUSNALIP_READING_WORDS), GUSNALIP_DAMAGED);
 
     /* 19/16 - 2^-20 at 4 bits: its one suspect, 8, is wrong. */
     due("19/16 - 2^-20", gusnalip_set_up(4, 0, below_19_16, below_19_16, factor, GUSNALIP_FACTOR_WORDS), GUSNALIP_ACCEPTED);

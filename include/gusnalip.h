@@ -12,7 +12,8 @@
  * Further words of either are not looked at.
  *
  * gusnalip_read asks for the machine's default rounding mode, round to nearest (FE_TONEAREST): with another one that the caller has set,
- * readings whose products lie near a midpoint can come out differently. Nothing else depends on it. */
+ * readings whose products lie near a midpoint can come out differently. Nothing else depends on it: quotients, those of readings too,
+ * are worked out in whole numbers. */
 #ifndef GUSNALIP_H
 #define GUSNALIP_H
 
@@ -21,6 +22,7 @@
 
 #define GUSNALIP_FACTOR_WORDS 9
 #define GUSNALIP_PRODUCT_WORDS 2
+#define GUSNALIP_QUOTIENT_WORDS 2
 #define GUSNALIP_READING_WORDS 1
 #define GUSNALIP_STATE_WORDS 13
 #define GUSNALIP_COUNT_WORDS 3
@@ -44,6 +46,13 @@ uint32_t gusnalip_multiply(const uint64_t *factor, size_t factor_length, uint64_
 
 /* Multiplies a reading given by its bits: a mark, with the bits of the product in out[0], or a refusal 31, 20 to 23. */
 uint32_t gusnalip_read(const uint64_t *factor, size_t factor_length, uint32_t reading, uint32_t *out, size_t out_length);
+
+/* Divides a significand by the factor's high part: 0, with the quotient's significand in out[0] and its binade in out[1] (two's complement
+ * of 64 bits: -1 is all ones), or the refusal 31 or 17. */
+uint32_t gusnalip_divide(const uint64_t *factor, size_t factor_length, uint64_t x, uint64_t *out, size_t out_length);
+
+/* Divides a reading given by its bits: 0, with the bits of the quotient in out[0], or a refusal 31, 20 to 23. */
+uint32_t gusnalip_divide_reading(const uint64_t *factor, size_t factor_length, uint32_t reading, uint32_t *out, size_t out_length);
 
 /* Begins a sweep: 0 and the state's words, or the refusal 31 or 17. */
 uint32_t gusnalip_new_sweep(const uint64_t *factor, size_t factor_length, uint64_t first, uint64_t last, uint64_t *out, size_t out_length);
