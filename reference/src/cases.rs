@@ -3,6 +3,7 @@
 use crate::factor::set_up;
 use crate::frame::{fields, for_lines};
 use crate::product::multiply;
+use crate::quotient::{divide, divide_reading};
 use crate::reading::read;
 use crate::search;
 use crate::sweep::{call, new_state};
@@ -35,6 +36,8 @@ impl Cases {
             b"06" => &[2, 16, 16],
             b"07" => &[2, 16, 2, 16],
             b"08" => &[2, 8],
+            b"09" => &[2, 16],
+            b"0A" => &[2, 8],
             _ => return None,
         };
         let f = fields(line, widths)?;
@@ -110,10 +113,18 @@ impl Cases {
                 }
                 answer
             }
-            _ => {
+            8 => {
                 self.list = [f[1] as u32; 64];
                 "00".to_string()
             }
+            9 => match from_words(&self.state).and_then(|factor| divide(&factor, f[1])) {
+                Err(refusal) => refused(refusal),
+                Ok(quotient) => format!("00 {:016X} {:016X}", quotient.significand, quotient.binade as u64),
+            },
+            _ => match from_words(&self.state).and_then(|factor| divide_reading(&factor, f[1] as u32)) {
+                Err(refusal) => refused(refusal),
+                Ok(quotient) => format!("00 {quotient:08X}"),
+            },
         };
         Some(answer)
     }
