@@ -6,6 +6,7 @@ ghost use mathlib.Core.Path.{_≡_};
 ghost use Rattle.rounding.specs.Round.{HasBits};
 ghost use Rattle.factor.specs.SetUp.{Sound};
 ghost use Rattle.quotient.specs.Quotient.{quotientBy};
+ghost use Rattle.quotient.specs.QuotientLaws.{lowered};
 ghost use Rattle.quotient.specs.Answer.{divided, outcomeOf};
 
 // A quotient from 1/2 to below 2: a significand of n bits, and its binade, -1 for [1/2, 1) and 0 for [1, 2).
@@ -20,13 +21,23 @@ pub enum QuotientAnswer {
     Refused(u32),
 }
 
+// How many binades below 1 a quotient of two significands lies: one where the first is the smaller.
+fn binades_below(x: u64, high: u64) -> u32
+    ensures { λ r. ⌜ r ≡ lowered high x ⌝ }
+{
+    if x < high {
+        return 1;
+    }
+    0
+}
+
 // RN(x / Ch) of a factor that was accepted and a significand in range. Below 1 it has one digit more behind the point, so that n digits come out of the one division.
 pub fn quotient_of(f: Factor, x: u64) -> Quotient
     requires { ⌜ Sound f × HasBits (f .precision .bits) x ⌝ }
     ensures { λ r. ⌜ r ≡ quotientBy f x ⌝ }
 {
     let high = f.parts.high;
-    let below = (x < high) as u32;
+    let below = binades_below(x, high);
     let near = round::nearest_quotient(x << (f.precision.bits - 1 + below), high, TieRule::ToEven);
     Quotient {
         significand: near.taken,

@@ -84,7 +84,7 @@ place-requires : tie.Need-place-requires
 place-requires c κs =
     let q = c .before .before .before .before in
     let s = significandOf binary32 (b (k q)) in
-    (rw (is-kept q .1) (omega (arith, few q)), rw (v-is q) (subst (λ (n : ℕ). HasBits n (quotientBy (f q) s .significand)) (precision-is (f q) (b (k q)) (taken (k q) .0)) (sound-quotient (f q) (sound (k q)) s (in-range (k q)) .bits)))
+    (subst (λ (z : ℤ). natAbs z ≤ 101) (sym (is-kept q .1)) (omega (arith, few q)), rw (v-is q) (subst (λ (n : ℕ). HasBits n (quotientBy (f q) s .significand)) (precision-is (f q) (b (k q)) (taken (k q) .0)) (sound-quotient (f q) (sound (k q)) s (in-range (k q)) .bits)))
 
 returns : tie.Need-returns
 unfolding divided
