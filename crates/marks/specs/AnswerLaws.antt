@@ -66,12 +66,12 @@ pub none-holds : (l : List (ℕ × Bool)) → judged l ≡ none → NoneHolds l
 none-holds l q = judged-none l [] (ap judged (append-nil l) ∙ q) .0
 
 -- ---- a verdict, as code has it
-module _ (l : List (ℕ × Bool)) (v : Verdict) (is : First l (refusalOf v)) where
+module _ {l : List (ℕ × Bool)} {v : Verdict} (is : First l (refusalOf v)) where
   pub verdict-taken : v ≡ Verdict.Taken → NoneHolds l
   verdict-taken e = none-holds l (is .is ∙ ap refusalOf e)
 
-  pub verdict-refuses : {A : Type 0} (n : ℕ) → v ≡ Verdict.Refused n → (a : A) → refused n ≡ answer l a
-  verdict-refuses n e a = refuses (record { is = is .is ∙ ap refusalOf e }) a
+  pub verdict-refuses : {A : Type 0} {n : ℕ} → v ≡ Verdict.Refused n → (a : A) → refused n ≡ answer l a
+  verdict-refuses e a = refuses (record { is = is .is ∙ ap refusalOf e }) a
 
 -- none of two lists holds
 pub none-apart : (k l : List (ℕ × Bool)) → NoneHolds (k ++ l) → NoneHolds k × NoneHolds l

@@ -7,10 +7,13 @@ use lib.Ieee.{Float, binary32, prec, toBits}
 use borrow.Author.Tests.{eqb-true, not-false}
 use Rattle.marks.specs.Answers.{NoneHolds, refused, accepted, answer}
 use Rattle.marks.specs.AnswerLaws.{pass, end, accepts, rest-answers, only-accepted, refused-first}
-use Rattle.floats.specs.Fields.{zeroBits, Normal}
+use Rattle.rounding.specs.Round.{HasBits}
+use Rattle.floats.specs.Fields.{zeroBits, Normal, significandOf}
+use Rattle.floats.specs.Pattern.{significand-bits}
 use Rattle.floats.specs.Classes.{normal-others}
 use Rattle.factor.specs.declared.Factor.{Factor}
-use Rattle.factor.specs.SetUp.{intact}
+use Rattle.factor.specs.SetUp.{intact, Sound}
+use Rattle.factor.specs.SetUpLaws.{intact-sound}
 use Rattle.reading.specs.declared.Taken.{Taken}
 use Rattle.reading.specs.Reading.{unreadable, Kind, zero, normal, kindOf, exponentOut, Made, answerTo, takenOf}
 
@@ -26,6 +29,12 @@ module _ (f : Factor) (b : ℕ) (h : NoneHolds (unreadable f b)) where
   -- it is a normal number, unless it is a zero
   pub is-normal : zeroBits binary32 b ≡ false → Normal binary32 b
   is-normal z = normal-others binary32 b (h .1 .1 .0) z (h .1 .1 .1 .0)
+
+-- what its work asks for
+pub record Ready (f : Factor) (b : ℕ) : Type 0 where
+  pub sound : Sound f
+  pub precision : f .precision .bits ≡ prec binary32
+  pub bits : HasBits (f .precision .bits) (significandOf binary32 b)
 
 -- ---- a reading as it was taken
 -- a kind tells whether its reading is a zero, and the bits of a normal one
@@ -45,18 +54,25 @@ module _ (f : Factor) (x : Float) (t : Taken) (is : takenOf t ≡ answer (unread
   c = toBits binary32 x
 
   -- a normal reading is let through
-  pub taken-normal : (b : ℕ) → t ≡ Taken.Normal b → NoneHolds (unreadable f b) × (zeroBits binary32 b ≡ false) × (b ≡ c)
-  taken-normal b e =
+  taken-normal : {b : ℕ} → t ≡ Taken.Normal b → NoneHolds (unreadable f b) × (zeroBits binary32 b ≡ false) × (b ≡ c)
+  taken-normal {b} e =
       let r = only-accepted (unreadable f c) (kindOf c) (normal b) (sym is ∙ ap takenOf e) in
       let k = subst (KindTells c) (r .1) (kind-tells c) in
       (subst (λ (b : ℕ). NoneHolds (unreadable f b)) (k .1) (r .0), subst (λ (b : ℕ). zeroBits binary32 b ≡ false) (k .1) (k .0), sym (k .1))
 
+  -- with a sound factor of its precision
+  pub ready : {b : ℕ} → t ≡ Taken.Normal b → Ready f b
+  ready {b} e =
+      let h = taken-normal e .0 in
+      let n = precision-is f b h in
+      record { sound = intact-sound f (is-intact f b h); precision = n; bits = subst (λ (n : ℕ). HasBits n (significandOf binary32 b)) (sym n) (significand-bits binary32 b) }
+
   -- ---- and answered, g being what is made of a reading by its bits
   module _ {A : Type 0} (g : ℕ → Made A) where
     -- unless 23 refuses it
-    pub normal-answered : (b : ℕ) → t ≡ Taken.Normal b → answer ((23, exponentOut binary32 (g b .exponent)) ∷ []) (g b .value) ≡ answerTo f c (g c)
-    normal-answered b e =
-        let k = taken-normal b e in
+    pub normal-answered : {b : ℕ} → t ≡ Taken.Normal b → answer ((23, exponentOut binary32 (g b .exponent)) ∷ []) (g b .value) ≡ answerTo f c (g c)
+    normal-answered {b} e =
+        let k = taken-normal e in
         let here : answer ((23, exponentOut binary32 (g b .exponent)) ∷ []) (g b .value) ≡ answerTo f b (g b) = rw (k .1) (sym (rest-answers (unreadable f b) _ (k .0) _)) in
         here ∙ ap (λ (b : ℕ). answerTo f b (g b)) (k .2)
 
@@ -67,5 +83,5 @@ module _ (f : Factor) (x : Float) (t : Taken) (is : takenOf t ≡ answer (unread
         rw (subst (KindTells c) (r .1) (kind-tells c)) (accepts (pass refl end) _ ∙ sym (rest-answers (unreadable f c) _ (r .0) _))
 
     -- and a refusal is the answer's
-    pub refused-answered : (k : ℕ) → t ≡ Taken.Refused k → refused k ≡ answerTo f c (g c)
-    refused-answered k e = refused-first (unreadable f c) _ _ _ k (sym (ap takenOf e) ∙ is)
+    pub refused-answered : {k : ℕ} → t ≡ Taken.Refused k → refused k ≡ answerTo f c (g c)
+    refused-answered {k} e = refused-first (unreadable f c) _ _ _ k (sym (ap takenOf e) ∙ is)

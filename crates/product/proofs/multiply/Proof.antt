@@ -23,7 +23,7 @@ module _ (c : tie.After-enum-told) where
   x = c .before .before .before .args .x
 
   none : NoneHolds (conditions f x)
-  none = verdict-taken (conditions f x) (c .before .before .refusal-of .result) (c .before .before .refusal-of .ensures) (c .enum-told .given .1)
+  none = verdict-taken (c .before .before .refusal-of .ensures) (c .enum-told .given .1)
 
   through : Sound f × HasBits (f .precision .bits) x
   through = let-through f x none
@@ -40,10 +40,7 @@ mark-of-requires c κs =
 
 returns : tie.Need-returns
 unfolding multiplied
-returns c =
-    let t = c .before .before .before in
-    let a = t .before .args in
-    verdict-refuses (conditions (a .f) (a .x)) (t .refusal-of .result) (t .refusal-of .ensures) (c .before .number .given .0 .0) (c .before .number .given .1) _
+returns c = verdict-refuses (c .before .before .before .refusal-of .ensures) (c .before .number .given .1) _
 
 returns-2 : tie.Need-returns-2
 unfolding multiplied

@@ -11,17 +11,14 @@ use Rattle.quotient.proofs.divide.Tie as tie
 
 -- nothing refuses it
 none : (c : tie.After-enum-told) → let a = c .before .before .before .args in NoneHolds (conditions (a .f) (a .x))
-none c = let t = c .before .before in let a = t .before .args in verdict-taken (conditions (a .f) (a .x)) (t .refusal-of .result) (t .refusal-of .ensures) (c .enum-told .given .1)
+none c = verdict-taken (c .before .before .refusal-of .ensures) (c .enum-told .given .1)
 
 quotient-of-requires : tie.Need-quotient-of-requires
 quotient-of-requires c κs = let a = c .before .before .before .args in let-through (a .f) (a .x) (none c)
 
 returns : tie.Need-returns
 unfolding divided
-returns c =
-    let t = c .before .before .before in
-    let a = t .before .args in
-    verdict-refuses (conditions (a .f) (a .x)) (t .refusal-of .result) (t .refusal-of .ensures) (c .before .number .given .0 .0) (c .before .number .given .1) _
+returns c = verdict-refuses (c .before .before .before .refusal-of .ensures) (c .before .number .given .1) _
 
 returns-2 : tie.Need-returns-2
 unfolding divided

@@ -1,116 +1,104 @@
 -- `reading::divide` meets its contract: refused, a zero, or the quotient and the binade less k put on. Assumes nothing.
 use mathlib.Core.Path.{_≡_, sym, ap, ap₂, _∙_, subst}
-use mathlib.Core.Bool.{false}
 use Prim.Native.Nat.{ℕ, _≤_, _<_}
 use native.Mathlib.Omega.{arith}
 use lib.IntN.{ℤ, natAbs, negℤ, _+ℤ_, _-ℤ_}
-use lib.Ieee.{binary32, toBits}
+use lib.Ieee.{Float, binary32, prec}
 use mir.Syntax.{w32}
 use mir.Val.{SFits, toZ, ofZ}
 use borrow.Author.Needs.{needs}
-use Rattle.marks.specs.Answers.{NoneHolds, accepted}
+use Rattle.marks.specs.Answers.{accepted}
 use Rattle.rounding.specs.Round.{HasBits}
-use Rattle.floats.specs.Fields.{zeroBits, significandOf, exponentOf}
-use Rattle.floats.specs.Pattern.{significand-bits}
+use Rattle.floats.specs.Fields.{significandOf, exponentOf}
 use Rattle.factor.specs.declared.Factor.{Factor}
-use Rattle.factor.specs.SetUp.{Sound}
-use Rattle.factor.specs.SetUpLaws.{intact-sound}
 use Rattle.quotient.specs.declared.Quotient.{Quotient}
 use Rattle.quotient.specs.Quotient.{quotientBy}
 use Rattle.quotient.specs.Tells.{sound-quotient, sound-binade}
-use Rattle.reading.specs.Reading.{unreadable, placed}
+use Rattle.reading.specs.Reading.{placed}
 use Rattle.reading.specs.Divided.{lowered, quotientOf, divided}
 use Rattle.reading.specs.Exponents.{size-sum, scale-size, size-negated}
-use Rattle.reading.specs.AnswerLaws.{is-intact, precision-is, taken-normal, normal-answered, zero-answered, refused-answered}
+use Rattle.reading.specs.AnswerLaws.{Ready, ready, normal-answered, zero-answered, refused-answered}
 use Rattle.reading.proofs.Laws.{kept}
 use Rattle.reading.proofs.divide.Statement.{statement}
 use Rattle.reading.proofs.divide.Tie as tie
 
 -- ---- a normal reading
 module _ (c : tie.After-known-told2) where
-  abbrev a : tie.Start
-  a = c .before .before .before .before
+  abbrev f : Factor
+  f = c .before .before .before .before .args .f
+
+  abbrev x : Float
+  x = c .before .before .before .before .args .reading
 
   abbrev b : ℕ
   b = c .before .bits .given .0 .0
 
-  taken : NoneHolds (unreadable (a .args .f) b) × (zeroBits binary32 b ≡ false) × (b ≡ toBits binary32 (a .args .reading))
-  taken = taken-normal (a .args .f) (a .args .reading) (c .before .before .before .take .result) (c .before .before .before .take .ensures) b (c .before .bits .given .1)
-
-  sound : Sound (a .args .f)
-  sound = intact-sound (a .args .f) (is-intact (a .args .f) b (taken .0))
-
-  in-range : HasBits (a .args .f .precision .bits) (significandOf binary32 b)
-  in-range = subst (λ (n : ℕ). HasBits n (significandOf binary32 b)) (sym (precision-is (a .args .f) b (taken .0))) (significand-bits binary32 b)
+  is-ready : Ready f b
+  is-ready = ready f x (c .before .before .before .take .result) (c .before .before .before .take .ensures) (c .before .bits .given .1)
 
 quotient-of-requires : tie.Need-quotient-of-requires
-quotient-of-requires c κs = let k = c .before in (sound k, rw (c .significand-of .ensures) (in-range k))
+quotient-of-requires c κs = let k = c .before in (is-ready k .sound, rw (c .significand-of .ensures) (is-ready k .bits))
 
 -- ---- its quotient, and what is put on the exponent
 module _ (c : tie.After-quotient-of) where
   abbrev k : tie.After-known-told2
   k = c .before .before
 
-  abbrev f : Factor
-  f = a k .args .f
+  abbrev scale : ℤ
+  scale = f k .applied .scale
+
+  abbrev X : ℕ
+  X = significandOf binary32 (b k)
 
   abbrev v : Quotient
   v = c .quotient-of .result
 
-  v-is : v ≡ quotientBy f (significandOf binary32 (b k))
-  v-is = c .quotient-of .ensures ∙ ap (quotientBy f) (c .before .significand-of .ensures)
+  v-is : v ≡ quotientBy (f k) X
+  v-is = c .quotient-of .ensures ∙ ap (quotientBy (f k)) (c .before .significand-of .ensures)
 
-  abbrev raise : ℤ
-  raise = v .binade -ℤ f .applied .scale
+  v-bits : HasBits (prec binary32) (v .significand)
+  v-bits = rw v-is (subst (λ (n : ℕ). HasBits n (quotientBy (f k) X .significand)) (is-ready k .precision) (sound-quotient (f k) (is-ready k .sound) X (is-ready k .bits) .bits))
 
-  few : natAbs raise < 102
+  few : natAbs (v .binade -ℤ scale) < 102
   few =
-      let one = subst (λ (w : Quotient). natAbs (w .binade) ≤ 1) (sym v-is) (sound-binade f (sound k) (significandOf binary32 (b k)) (in-range k)) in
-      omega (arith, size-sum (v .binade) (negℤ (f .applied .scale)), size-negated (f .applied .scale), scale-size (f .applied .scale) (sound k .scale), one)
+      let one = subst (λ (w : Quotient). natAbs (w .binade) ≤ 1) (sym v-is) (sound-binade (f k) (is-ready k .sound) X (is-ready k .bits)) in
+      omega (arith, size-sum (v .binade) (negℤ scale), size-negated scale, scale-size scale (is-ready k .sound .scale), one)
 
   abbrev left : ℤ
-  left = toZ w32 (ofZ w32 (v .binade)) -ℤ toZ w32 (ofZ w32 (f .applied .scale))
+  left = toZ w32 (ofZ w32 (v .binade)) -ℤ toZ w32 (ofZ w32 scale)
 
-  is-kept : SFits w32 left × (toZ w32 (ofZ w32 left) ≡ raise)
+  is-kept : SFits w32 left × (toZ w32 (ofZ w32 left) ≡ v .binade -ℤ scale)
   is-kept =
-      let read : toZ w32 (ofZ w32 (f .applied .scale)) ≡ f .applied .scale = search needs in
+      let read : toZ w32 (ofZ w32 scale) ≡ scale = search needs in
       let told : toZ w32 (ofZ w32 (v .binade)) ≡ v .binade = search needs in
-      kept left raise (ap₂ (λ (x y : ℤ). x -ℤ y) told read) (omega (arith, few))
+      kept left (v .binade -ℤ scale) (ap₂ (λ (x y : ℤ). x -ℤ y) told read) (omega (arith, few))
 
 sub-place : tie.Need-sub-place
 sub-place c = is-kept (c .before .before .before .before) .0
 
 place-requires : tie.Need-place-requires
-place-requires c κs =
-    let q = c .before .before .before .before in
-    let s = significandOf binary32 (b (k q)) in
-    (subst (λ (z : ℤ). natAbs z ≤ 101) (sym (is-kept q .1)) (omega (arith, few q)), rw (v-is q) (subst (λ (n : ℕ). HasBits n (quotientBy (f q) s .significand)) (precision-is (f q) (b (k q)) (taken (k q) .0)) (sound-quotient (f q) (sound (k q)) s (in-range (k q)) .bits)))
+place-requires c κs = let q = c .before .before .before .before in (subst (λ (z : ℤ). natAbs z ≤ 101) (sym (is-kept q .1)) (omega (arith, few q)), v-bits q)
 
 returns : tie.Need-returns
 unfolding divided
-returns c =
-    let t = c .before .before .before in
-    let a = t .before .args in
-    refused-answered (a .f) (a .reading) (t .take .result) (t .take .ensures) (quotientOf (a .f)) (c .before .number .given .0 .0) (c .before .number .given .1)
+returns c = let t = c .before .before .before in let a = t .before .args in refused-answered (a .f) (a .reading) (t .take .result) (t .take .ensures) (quotientOf (a .f)) (c .before .number .given .1)
 
 returns-2 : tie.Need-returns-2
 unfolding divided
 returns-2 c =
-    let z = c .before in
-    let t = z .before .before in
+    let t = c .before .before .before in
     let a = t .before .args in
-    ap accepted (c .plus-zero .ensures) ∙ zero-answered (a .f) (a .reading) (t .take .result) (t .take .ensures) (quotientOf (a .f)) (z .enum-told .given .1)
+    ap accepted (c .plus-zero .ensures) ∙ zero-answered (a .f) (a .reading) (t .take .result) (t .take .ensures) (quotientOf (a .f)) (c .before .enum-told .given .1)
 
 returns-3 : tie.Need-returns-3
 unfolding divided
 returns-3 c =
     let q = c .before .before .before .before .before in
     let n = k q in
-    let t = n .before .before .before in
     c .place .ensures
     ∙ ap (λ (z : ℤ). placed (b n) (v q .significand) (exponentOf binary32 (b n) +ℤ z)) (is-kept q .1)
-    ∙ ap (λ (w : Quotient). placed (b n) (w .significand) (lowered (f q) (b n) w)) (v-is q)
-    ∙ normal-answered (f q) (a n .args .reading) (t .take .result) (t .take .ensures) (quotientOf (f q)) (b n) (n .before .bits .given .1)
+    ∙ ap (λ (w : Quotient). placed (b n) (w .significand) (lowered (f n) (b n) w)) (v-is q)
+    ∙ normal-answered (f n) (x n) (n .before .before .before .take .result) (n .before .before .before .take .ensures) (quotientOf (f n)) (n .before .bits .given .1)
 
 pub divide-spec : {M : Type 1} → statement M
 divide-spec =
