@@ -5,4 +5,5 @@ pub mod Numbers
 pub mod Pattern
 pub mod Narrow
 pub mod Times
+pub mod Ratio
 pub mod Classes

@@ -1,11 +1,11 @@
 -- Laws of 2 ^ z for an integer z, in natural numbers and in units of a format's smallest value. Assumes nothing.
 use mathlib.Core.Path.{_≡_, refl, sym, ap, ap₂, _∙_}
 use mathlib.Core.Bool.{Bool, true, false}
-use Prim.Native.Nat.{ℕ, suc, _+_, _-_, _*_, _^_, _≤_, _<_}
+use Prim.Native.Nat.{ℕ, zero, suc, _+_, _-_, _*_, _^_, _≤_, _<_}
 use native.Mathlib.Nat.{mul-one, one-mul, eq-of-mul-eq-mul-right}
 use native.Mathlib.Omega.{arith}
 use lib.Dec.{ltb, lit≤}
-use lib.IntN.{ℤ, pos, negsuc, natAbs, subℕ, _+ℤ_, +ℤ-assoc, +ℤ-comm, pos-ne-negsuc}
+use lib.IntN.{ℤ, pos, negsuc, natAbs, subℕ, negℤ, _+ℤ_, _-ℤ_, +ℤ-assoc, +ℤ-comm, pos-ne-negsuc}
 use lib.Pow.{pow-add, pow-pos}
 use lib.Ieee.{Format, binary32, binary64, emax, prec, low, hid, up, down}
 use lib.Ieee.Fits.{two, reach}
@@ -50,6 +50,15 @@ powers-add e k =
     regroup u v w a b c M N P K MN PK some m j e f g =
         eq-of-mul-eq-mul-right MN some (u * v * c) (w * (a * b))
         (omega (arith, ap (λ (z : ℕ). u * v * c * z) m, ap (λ (z : ℕ). z * (v * N * c)) e, ap (λ (z : ℕ). z * (P * a * c)) f, ap (λ (z : ℕ). z * (a * b)) g, ap (λ (z : ℕ). z * (c * a * b)) j))
+
+-- and 2 ^ e / 2 ^ k is 2 ^ (e - k)
+pub powers-sub : (e k : ℤ) → up e * down k * down (e -ℤ k) ≡ up (e -ℤ k) * (down e * up k)
+powers-sub e k = let t = turned k in ap (λ (z : ℕ). up e * z * down (e -ℤ k)) (sym (t .0)) ∙ powers-add e (negℤ k) ∙ ap (λ (z : ℕ). up (e -ℤ k) * (down e * z)) (t .1)
+  where
+    turned : (k : ℤ) → (up (negℤ k) ≡ down k) × (down (negℤ k) ≡ up k)
+    turned (pos zero) = (refl, refl)
+    turned (pos (suc m)) = (refl, refl)
+    turned (negsuc m) = (refl, refl)
 
 -- ---- S / hid * 2 ^ z is S * 2 ^ j times the smallest positive value
 pub in-smallest : (f : Format) (S : ℕ) (z : ℤ) (j : ℕ) → z +ℤ pos (emax f - 1) ≡ pos j → S * up z * 2 ^ low f ≡ S * 2 ^ j * (hid f * down z)

@@ -2,7 +2,7 @@
 use mathlib.Core.Path.{_≡_, refl, sym, ap, ap₂, _∙_}
 use mathlib.Core.Bool.{Bool, true, false, not}
 use Prim.Native.Nat.{ℕ, suc, _+_, _*_, _^_, _≤_, _<_}
-use native.Mathlib.Nat.{mul-assoc, eq-of-mul-eq-mul-right, mul-pos, mul-lt-mul-of-pos-right, mul-le-mul-right, le-of-mul-le-mul-right, lt-of-mul-lt-mul-right}
+use native.Mathlib.Nat.{mul-assoc, eq-of-mul-eq-mul-right, mul-pos, mul-lt-mul-of-pos-right, mul-le-mul-right, le-of-mul-le-mul-right, lt-of-mul-lt-mul-right, le-antisymm, le-of-eq}
 use native.Mathlib.Omega.{arith}
 use lib.Dec.{ltb, eqb}
 use lib.IntN.{ℤ, pos, negsuc}
@@ -91,6 +91,15 @@ module _ (rule : Rule) (n : ℕ) (P : 0 < n) (x y : Fraction) (X : 0 < x .num) (
   RN-scaled (pos a) = scaled-by (pos a) a 0 refl
   RN-scaled (negsuc b) = scaled-by (negsuc b) 0 (suc b) (omega arith)
 
+-- and so do the order and equality of two fractions
+pub at-most-scaled : (z : ℤ) (x y a b : Fraction) → 0 < x .den → 0 < y .den → Scaled z x a → Scaled z y b → AtMost x y → AtMost a b
+at-most-scaled z x y a b X Y c d h =
+    le-of-mul-le-mul-right {k = x .den * y .den * down z}
+    (omega (arith, ap (λ (t : ℕ). t * (y .den * b .den)) c, ap (λ (t : ℕ). t * (x .den * a .den)) d, mul-le-mul-right (up z * a .den * b .den) h)) (mul-pos (mul-pos X Y) (down-pos z))
+
+pub same-scaled : (z : ℤ) (x y a b : Fraction) → 0 < x .den → 0 < y .den → Scaled z x a → Scaled z y b → x .num * y .den ≡ y .num * x .den → a .num * b .den ≡ b .num * a .den
+same-scaled z x y a b X Y c d e = le-antisymm (at-most-scaled z x y a b X Y c d (le-of-eq e)) (at-most-scaled z y x b a Y X d c (le-of-eq (sym e)))
+
 -- RN is symmetric in sign
 pub RN-negated : (rule : Rule) (n : ℕ) (x : Fraction) → RN rule n (negated x) ≡ negated (RN rule n x)
 RN-negated rule n x = refl
@@ -118,6 +127,23 @@ times-positive x y p q = record { sign = ap₂ unlike (p .sign) (q .sign); above
 
 pub ratio-positive : (x y : Fraction) → Positive x → Positive y → Positive (ratio x y)
 ratio-positive x y p q = record { sign = ap₂ unlike (p .sign) (q .sign); above = mul-pos (p .above) (q .some); some = mul-pos (p .some) (q .above) }
+
+-- dividing twice is dividing by the product
+pub ratio-twice : (x y z : Fraction) → ratio (ratio x y) z ≡ ratio x (times z y)
+ratio-twice x y z =
+    let n : x .num * y .den * z .den ≡ x .num * (z .den * y .den) = omega arith in
+    let d : x .den * y .num * z .num ≡ x .den * (z .num * y .num) = omega arith in
+    λ i. record { minus = signs (x .minus) (y .minus) (z .minus) i; num = n i; den = d i }
+  where
+    signs : (a b c : Bool) → unlike (unlike a b) c ≡ unlike a (unlike c b)
+    signs true true true = refl
+    signs true true false = refl
+    signs true false true = refl
+    signs true false false = refl
+    signs false true true = refl
+    signs false true false = refl
+    signs false false true = refl
+    signs false false false = refl
 
 -- ---- sums
 -- the sign and the size of ± a ± b
