@@ -13,10 +13,10 @@ use lib.Ieee.Fits.{up-pos, down-pos}
 use lib.Ieee.Scale.{round-same}
 use borrow.Author.Tests.{ne-eqb}
 use Rattle.rounding.specs.Grid.{toEven}
-use Rattle.rounding.specs.Fraction.{Fraction, power, times, ratio, RN, AtMost}
+use Rattle.rounding.specs.Fraction.{Fraction, over, power, times, ratio, RN, AtMost}
 use Rattle.rounding.specs.FractionLaws.{Scaled}
 use Rattle.rounding.specs.Ieee.{InRange, rounded-is-ieee}
-use Rattle.floats.specs.Powers.{powers-sub, in-smallest}
+use Rattle.floats.specs.Powers.{powers-add, powers-sub, in-smallest}
 
 -- ---- powers of two in a quotient: x * 2 ^ e / (y * 2 ^ k) is x / y * 2 ^ (e - k)
 pub ratio-scaled : (x y : Fraction) (e k : ℤ) → Scaled (e -ℤ k) (ratio x y) (ratio (times x (power e)) (times y (power k)))
@@ -43,6 +43,10 @@ div-value f (fin u m e) (fin v n g) s t a c b d C B D h k =
 -- S / hid * 2 ^ z
 abbrev pub numberAt : Format → (S : ℕ) → ℤ → Fraction
 numberAt f S z = record { minus = false; num = S * up z; den = hid f * down z }
+
+-- with one power of two apart
+pub number-scaled : (f : Format) (S : ℕ) (e b : ℤ) → Scaled e (times (power b) (over S (prec f - 1))) (numberAt f S (e +ℤ b))
+number-scaled f S e b = omega (arith, ap (λ (t : ℕ). t * (S * hid f)) (powers-add e b))
 
 module _ (f : Format) (z : ℤ) (j : ℕ) (at : z +ℤ pos (emax f - 1) ≡ pos j) (few : j ≤ 2 * emax f - 1) (q : Fraction) (least : AtMost (numberAt f (hid f) z) q) (most : AtMost q (numberAt f (2 ^ prec f - 1) z)) where
   in-range : InRange f (q .num) (q .den)

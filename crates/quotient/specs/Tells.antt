@@ -1,7 +1,7 @@
 -- What an answer to a division tells, for every factor and every number as X (`quotient-tells`): its form, that it is RN(x / Ch) by every tie rule, and that it is less than 3/2 units in the last place from x / C for
 -- every fraction C between the ends (source document 003, Property 3.1). Assumes nothing.
 use mathlib.Core.Path.{_≡_, refl, sym, ap, _∙_, subst}
-use Prim.Native.Nat.{ℕ, _-_, _≤_, _<_}
+use Prim.Native.Nat.{ℕ, _-_, _^_, _≤_, _<_}
 use native.Mathlib.Nat.{le-trans}
 use native.Mathlib.Decide.{decLt}
 use native.Mathlib.Omega.{arith}
@@ -32,7 +32,7 @@ use Rattle.product.specs.SoundLaws.{sound-fine}
 use Rattle.quotient.specs.declared.Quotient.{Quotient}
 use Rattle.quotient.specs.Quotient.{exact, once, quotientBy, valueOf}
 use Rattle.quotient.specs.Answer.{divided}
-use Rattle.quotient.specs.QuotientLaws.{HighBits, never-tied, quotient-any-rule, quotient-bits, quotient-value, quotient-low, quotient-high}
+use Rattle.quotient.specs.QuotientLaws.{HighBits, never-tied, quotient-any-rule, quotient-bits, quotient-value, quotient-range, quotient-low, quotient-high}
 
 -- ---- what is said
 -- x / C, for a significand X
@@ -77,12 +77,21 @@ module _ (f : Factor) (s : Sound f) where
       let e : f .parts .high ≡ _ = ap (λ (p : Parts). p .high) (s .parts) ∙ high-is K ok L (s .lower-end) in
       rw e (record { least = high-least K ok L (s .lower-end); most = high-most K ok L (s .lower-end) })
 
+  h-positive : Positive (high n (f .parts))
+  h-positive = record { sign = refl; above = le-trans (pow-pos (n - 1)) (sound-high .least); some = pow-pos (n - 1) }
+
+  pub sound-positive : (C : Fraction) → Between K L U C → Positive C
+  sound-positive C k = record { sign = k .sign; above = between-positive K L U (le-trans (pow-pos (K .E)) (s .lower-end .from)) C k; some = k .some }
+
+  -- |RN(x / Ch) - x / C| < 3/2 ulp(x / C), of every x > 0 and by every tie rule
+  pub sound-near : (rule : Rule) (x : Fraction) → Positive x → (C : Fraction) → Between K L U C → Below (distance (RN rule n (ratio x (high n (f .parts)))) (ratio x C)) (times (over 3 1) (ulp n (ratio x C)))
+  sound-near rule x p C k =
+      let close = subst (λ (p : Parts). AtMost (distance (high n p) C) (over 1 n)) (sym (s .parts)) (high-close K ok L U (s .lower-end) (s .upper-end) (s .same) C k) in
+      ratio-error n C (high n (f .parts)) (sound-positive C k) h-positive close x p (omega (arith, sound-high .least)) rule (ok .some)
+
   module _ (X : ℕ) (x : HasBits n X) where
     x-positive : Positive (argument n X)
     x-positive = record { sign = refl; above = le-trans (pow-pos (n - 1)) (x .least); some = pow-pos (n - 1) }
-
-    h-positive : Positive (high n (f .parts))
-    h-positive = record { sign = refl; above = le-trans (pow-pos (n - 1)) (sound-high .least); some = pow-pos (n - 1) }
 
     value : (rule : Rule) → Same (RN rule n (exact n (f .parts) X)) (valueOf n (quotientBy f X))
     value rule =
@@ -91,12 +100,9 @@ module _ (f : Factor) (s : Sound f) where
 
     near : (C : Fraction) → Between K L U C → Below (distance (valueOf n (quotientBy f X)) (exactBy n X C)) (times (over 3 1) (ulp n (exactBy n X C)))
     near C k =
-        let c : Positive C = record { sign = k .sign; above = between-positive K L U (le-trans (pow-pos (K .E)) (s .lower-end .from)) C k; some = k .some } in
         let v = quotientBy f X in
-        let close = subst (λ (p : Parts). AtMost (distance (high n p) C) (over 1 n)) (sym (s .parts)) (high-close K ok L U (s .lower-end) (s .upper-end) (s .same) C k) in
         distance-same (once K (f .parts) X) (valueOf n v) (exactBy n X C) (times (over 3 1) (ulp n (exactBy n X C)))
-        (RN-some (K .rule) n (exact n (f .parts) X)) (mul-pos (down-pos (v .binade)) (pow-pos (n - 1))) (ratio-positive (argument n X) C x-positive c .some) (value (K .rule))
-        (ratio-error n C (high n (f .parts)) c h-positive close (argument n X) x-positive (omega (arith, sound-high .least)) (K .rule) (ok .some))
+        (RN-some (K .rule) n (exact n (f .parts) X)) (mul-pos (down-pos (v .binade)) (pow-pos (n - 1))) (ratio-positive (argument n X) C x-positive (sound-positive C k) .some) (value (K .rule)) (sound-near (K .rule) (argument n X) x-positive C k)
 
     pub sound-quotient : Tells f X (quotientBy f X)
     sound-quotient =
@@ -108,6 +114,10 @@ module _ (f : Factor) (s : Sound f) where
           untied = never-tied K (ok .some) (f .parts) X sound-high x;
           near = near;
         }
+
+    -- x / Ch lies in the quotient's binade
+    pub sound-range : let z = quotientBy f X .binade in AtMost (valueOf n (record { significand = 2 ^ (n - 1); binade = z })) (exact n (f .parts) X) × AtMost (exact n (f .parts) X) (valueOf n (record { significand = 2 ^ n - 1; binade = z }))
+    sound-range = quotient-range K (ok .some) (f .parts) X sound-high x
 
     -- one or no binade below that of x
     pub sound-binade : natAbs (quotientBy f X .binade) ≤ 1

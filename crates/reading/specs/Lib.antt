@@ -7,5 +7,6 @@ pub mod ReadingLaws
 pub mod AnswerLaws
 pub mod Standard
 pub mod Demand2
+pub mod QuotientTells
 pub mod FromProduct
 pub mod Examples
