@@ -19,9 +19,9 @@ use Rattle.marks.specs.AnswerLaws.{none-apart, none-refuses, of-answer}
 use Rattle.rounding.specs.Grid.{toEven}
 use Rattle.rounding.specs.Round.{HasBits}
 use Rattle.rounding.specs.Fraction.{Fraction, over, power, times, ratio, distance, RN, Same, Below, AtMost, Positive}
-use Rattle.rounding.specs.FractionLaws.{RN-some, Scaled, RN-scaled, at-most-scaled, same-scaled, ratio-twice, distance-same, distance-sizes}
+use Rattle.rounding.specs.FractionLaws.{RN-some, Scaled, RN-scaled, at-most-scaled, same-scaled, ratio-positive, ratio-twice, distance-same}
 use Rattle.rounding.specs.Ulp.{ulp}
-use Rattle.rounding.specs.UlpLaws.{ulp-size}
+use Rattle.rounding.specs.UlpLaws.{error-signed}
 use Rattle.rounding.specs.Ieee.{revalue, value-unique}
 use Rattle.floats.specs.Fields.{plusZero, signOf, zeroBits, Normal, significandOf, exponentOf}
 use Rattle.floats.specs.Powers.{powers-add}
@@ -38,7 +38,7 @@ use Rattle.factor.specs.StoredLaws.{high-number}
 use Rattle.product.specs.Product.{argument, high}
 use Rattle.quotient.specs.declared.Quotient.{Quotient}
 use Rattle.quotient.specs.Quotient.{exact, quotientBy, valueOf}
-use Rattle.quotient.specs.Tells.{sound-high, sound-positive, sound-near, sound-quotient, sound-range}
+use Rattle.quotient.specs.Tells.{Tells as TellsOf, sound-high, sound-positive, sound-near, sound-quotient, sound-range}
 use Rattle.reading.specs.Reading.{unreadable, exponentOut, numberOf, conditions}
 use Rattle.reading.specs.Divided.{lowered, quotientOf, divided}
 use Rattle.reading.specs.Exponents.{let-through, from-least}
@@ -187,3 +187,82 @@ module _ (f : Factor) (b : ℕ) (h : NoneHolds (unreadable f b)) (nonzero : zero
       let d = divides binary32 f sound bits-are X X-bits (e -ℤ k) c turned (readingAt b) (divisor f) (mul-pos hid-some (down-pos e)) (mul-pos high-some (up-pos k)) (mul-pos hid-some (down-pos k)) size-along o x g i j in
       value-unique binary32 (div binary32 x g) y (signOf binary32 b) (u .significand * up c) (hid binary32 * down c) (mul-pos hid-some (down-pos c)) (div-fits binary32 x g) (round-fits binary32 (signOf binary32 b) (u .significand * up c) (hid binary32 * down c))
       (subst (λ (m : Bool). HasValue (div binary32 x g) m (u .significand * up c) (hid binary32 * down c)) (unlike-plus (signOf binary32 b)) d) y-value
+
+  -- the exponent of a quotient of significands is one of the format
+  significand-in : exponentOut binary32 (u .binade) ≡ false
+  significand-in = go (decLt X (f .parts .high))
+    where
+      told : TellsOf f X u
+      told = sound-quotient f sound X (subst (λ (m : ℕ). HasBits m X) (sym bits-are) X-bits)
+
+      go : Dec (X < f .parts .high) → exponentOut binary32 (u .binade) ≡ false
+      go (yes l) = rw (told .low l)
+      go (no l) = rw (told .from-one (omega arith))
+
+  significands : T (fits binary32 (f .applied .high)) → (x : Float) → HasValue x false X (hid binary32) → Is (div binary32 x (f .applied .high)) (valueOf (prec binary32) u)
+  significands i x j =
+      let g = subst (λ (m : ℕ). HasValue (f .applied .high) false (f .parts .high) (2 ^ (m - 1))) bits-are (high-number f sound i) in
+      let d = divides binary32 f sound bits-are X X-bits (pos 0) (u .binade) (sym (+ℤ-idl (u .binade))) (argument (prec binary32) X) (high (prec binary32) (f .parts)) hid-some high-some hid-some (omega arith) significand-in x (f .applied .high) j g in
+      revalue (div binary32 x (f .applied .high)) false (u .significand * up (u .binade)) (hid binary32 * down (u .binade)) _ _ (mul-pos hid-some (down-pos (u .binade))) (turn (u .significand) (up (u .binade)) (down (u .binade)) (hid binary32)) d
+    where
+      turn : (S a c H : ℕ) → S * a * (c * H) ≡ a * S * (H * c)
+      turn S a c H = omega arith
+
+  -- y is less than 3/2 ulp from q
+  abbrev Near : ℕ → Fraction → Fraction → Type 0
+  Near n y q = Below (distance y q) (times (over 3 1) (ulp n q))
+
+  -- the error, of sizes: what is divided by C is |reading| / 2 ^ k
+  size-near : (C : Fraction) → Between (contextOf f) (lowerOf f) (upperOf f) C → Near (prec binary32) (numberAt binary32 (u .significand) c) (ratio (numberAt binary32 X e) (times C (power k)))
+  size-near C t =
+      let n = prec binary32 in
+      let x = numberAt binary32 X e in
+      let H = high n (f .parts) in
+      let x-positive : Positive x = record { sign = refl; above = mul-pos (le-trans hid-some (X-bits .least)) (up-pos e); some = mul-pos hid-some (down-pos e) } in
+      let k-positive : Positive (power k) = record { sign = refl; above = up-pos k; some = down-pos k } in
+      let near-once = subst (λ (m : ℕ). Near m (RN toEven m (ratio (ratio x (power k)) (high m (f .parts)))) (ratio (ratio x (power k)) C)) bits-are (sound-near f sound toEven (ratio x (power k)) (ratio-positive x (power k) x-positive k-positive) C t) in
+      let near-k = subst (λ (q : Fraction). Near n (RN toEven n (ratio x (divisor f))) q) (ratio-twice x (power k) C) (subst (λ (q : Fraction). Near n (RN toEven n q) (ratio (ratio x (power k)) C)) (ratio-twice x (power k) H) near-once) in
+      distance-same (RN toEven n (ratio x (divisor f))) (numberAt binary32 (u .significand) c) (ratio x (times C (power k))) (times (over 3 1) (ulp n (ratio x (times C (power k)))))
+      (RN-some toEven n (ratio x (divisor f))) (mul-pos hid-some (down-pos c)) (mul-pos (mul-pos hid-some (down-pos e)) (mul-pos (sound-positive f sound C t .above) (up-pos k)))
+      (refl, rounds binary32 f sound bits-are X X-bits (e -ℤ k) c turned x (divisor f) (mul-pos hid-some (down-pos e)) (mul-pos high-some (up-pos k)) (mul-pos hid-some (down-pos k)) size-along) near-k
+
+  -- signs put on
+  near : (C : Fraction) → Between (contextOf f) (lowerOf f) (upperOf f) C → Near (prec binary32) (answerAt f b) (exactBy f b C)
+  near C t =
+      let s = signOf binary32 b in
+      let plain : Fraction = record { minus = false; num = C .num; den = C .den } in
+      let q = ratio (numberAt binary32 X e) (times plain (power k)) in
+      let sizes = size-near plain (record { some = t .some; sign = refl; least = t .least; most = t .most }) in
+      let signed : Near (prec binary32) (answerAt f b) (record { minus = s; num = q .num; den = q .den }) = error-signed (prec binary32) s (u .significand * up c) (hid binary32 * down c) (q .num) (q .den) (over 3 1) sizes in
+      subst (λ (m : Bool). Near (prec binary32) (answerAt f b) (record { minus = m; num = q .num; den = q .den })) (sym (ap (λ (m : Bool). unlike s (unlike m false)) (t .sign) ∙ unlike-plus s)) signed
+
+  tells : Tells f b y
+  tells =
+      record {
+        reading = λ x fit i. subst (λ (m : ℕ). Is x (readingAt m)) i (normal-value binary32 x fit (subst (Normal binary32) (sym i) (is-normal f b h nonzero)));
+        value = y-value;
+        normal = y-normal;
+        significands = significands;
+        standard = standard;
+        near = near;
+      }
+
+-- every answer to a reading tells the truth, whatever the factor and the reading
+pub quotient-tells : (f : Factor) (x : Float) → AnswerTells f (toBits binary32 x) (divided f x)
+unfolding divided
+quotient-tells f x = of-answer (AnswerTells f b) (conditions f b (quotientOf f b .exponent)) (numbered f b) (λ k. tt) (λ h. go (zeroBits binary32 b) refl h)
+  where
+    b : ℕ
+    b = toBits binary32 x
+
+    go : (z : Bool) → zeroBits binary32 b ≡ z → NoneHolds (conditions f b (quotientOf f b .exponent)) → AnswerTells f b (accepted (numbered f b))
+    go true z h = rw z (inl (refl, refl))
+    go false z h =
+        let t = none-apart (unreadable f b) ((23, not (zeroBits binary32 b) && exponentOut binary32 (quotientOf f b .exponent)) ∷ []) h in
+        let o : exponentOut binary32 (quotientOf f b .exponent) ≡ false = rw z at (t .1 .0) in
+        rw z (inr (refl, tells f b (t .0) z o))
+
+-- and a reading that none of 31 and 20 to 23 refuses is answered, with plus zero or the number
+pub quotient-answered : (f : Factor) (x : Float) → let b = toBits binary32 x in NoneHolds (conditions f b (quotientOf f b .exponent)) → divided f x ≡ accepted (numbered f b)
+unfolding divided
+quotient-answered f x h = let b = toBits binary32 x in none-refuses (conditions f b (quotientOf f b .exponent)) (numbered f b) h

@@ -231,11 +231,6 @@ distance-same x y v u X Y D s h =
     let e = plus-same x (negated v) y (negated v) X D Y D s (refl, refl) .1 in
     lt-of-mul-lt-mul-right (distance x v .den) (omega (arith, ap (λ (z : ℕ). z * u .den) e, mul-lt-mul-of-pos-right h (plus-some y (negated v) Y D)))
 
--- of two fractions of one sign it is that of their sizes
-pub distance-sizes : (s : Bool) (a c b d : ℕ) → distance (record { minus = s; num = a; den = c }) (record { minus = s; num = b; den = d }) ≡ distance (record { minus = false; num = a; den = c }) (record { minus = false; num = b; den = d })
-distance-sizes true a c b d = refl
-distance-sizes false a c b d = refl
-
 module _ (T a b : ℕ) (x y : Fraction) (c : InUnits T false a x) (d : InUnits T false b y) where
   left : x .num * y .den * T ≡ a * (x .den * y .den)
   left = omega (arith, ap (λ (z : ℕ). z * y .den) (c .count))

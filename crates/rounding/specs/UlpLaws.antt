@@ -1,6 +1,6 @@
 -- Laws of the unit in the last place: its value on a binade, scaled by powers of two, the step of RN in every unit that is fine enough; half of it bounds the error of RN, and 3/2 of it where RN is of a fraction that is near. Assumes nothing.
 use mathlib.Core.Path.{_≡_, refl, sym, ap, ap₂, _∙_, subst}
-use mathlib.Core.Bool.{Bool, false}
+use mathlib.Core.Bool.{Bool, true, false}
 use Prim.Native.Nat.{ℕ, suc, _+_, _-_, _*_, _^_, _≤_, _<_}
 use native.Mathlib.Nat.{mul-le-mul-right, mul-le-mul-left, mul-lt-mul-of-pos-right, mul-pos, mul-assoc, le-of-mul-le-mul-right, lt-of-mul-lt-mul-right, pow-succ'}
 use native.Mathlib.Omega.{arith}
@@ -73,10 +73,13 @@ module _ (v : Fraction) (p : Positive v) where
   unfolding ulp
   ulp-is n e b = ap (λ (z : ℤ). power (z -ℤ pos (n - 1))) (binade-only e b)
 
--- it is that of the size
-pub ulp-size : (n : ℕ) (s t : Bool) (a d : ℕ) → ulp n (record { minus = s; num = a; den = d }) ≡ ulp n (record { minus = t; num = a; den = d })
+-- an error in ulps is that of the sizes, if both fractions have one sign
+pub error-signed : (n : ℕ) (s : Bool) (a c b d : ℕ) (u : Fraction)
+    → Below (distance (record { minus = false; num = a; den = c }) (record { minus = false; num = b; den = d })) (times u (ulp n (record { minus = false; num = b; den = d })))
+    → Below (distance (record { minus = s; num = a; den = c }) (record { minus = s; num = b; den = d })) (times u (ulp n (record { minus = s; num = b; den = d })))
 unfolding ulp
-ulp-size n s t a d = refl
+error-signed n true a c b d u h = h
+error-signed n false a c b d u h = h
 
 module _ (n : ℕ) (P : 0 < n) where
   -- in every unit in which v has n digits it is the step of RN
