@@ -1,8 +1,8 @@
--- Laws: a quotient of two floats is the exact quotient, rounded. Where that lies in one binade of the format's normal numbers it is RN of it. Assumes nothing.
+-- Laws of quotients: powers of two in one; and of two floats it is the exact quotient, rounded, which is RN where it lies in one binade of the format's normal numbers. Assumes nothing.
 use mathlib.Core.Path.{_≡_, sym, ap, ap₂, _∙_, subst}
 use mathlib.Core.Bool.{Bool, false}
 use Prim.Native.Nat.{ℕ, _-_, _*_, _^_, _≤_, _<_}
-use native.Mathlib.Nat.{pos-of-ne-zero, mul-pos, mul-le-mul-right, mul-le-mul-left, le-trans, le-of-mul-le-mul-right}
+use native.Mathlib.Nat.{pos-of-ne-zero, mul-pos, mul-le-mul-right, mul-le-mul-left, le-of-mul-le-mul-right}
 use native.Mathlib.Omega.{arith}
 use lib.IntN.{ℤ, pos, _+ℤ_, _-ℤ_}
 use lib.Pow.{pow-pos, pow-mono}
@@ -44,7 +44,7 @@ div-value f (fin u m e) (fin v n g) s t a c b d C B D h k =
 abbrev pub numberAt : Format → (S : ℕ) → ℤ → Fraction
 numberAt f S z = record { minus = false; num = S * up z; den = hid f * down z }
 
--- with one power of two apart
+-- it is 2 ^ e times what it is without 2 ^ e
 pub number-scaled : (f : Format) (S : ℕ) (e b : ℤ) → Scaled e (times (power b) (over S (prec f - 1))) (numberAt f S (e +ℤ b))
 number-scaled f S e b = omega (arith, ap (λ (t : ℕ). t * (S * hid f)) (powers-add e b))
 

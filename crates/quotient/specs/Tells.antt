@@ -2,13 +2,12 @@
 -- every fraction C between the ends (source document 003, Property 3.1). Assumes nothing.
 use mathlib.Core.Path.{_≡_, refl, sym, ap, _∙_, subst}
 use Prim.Native.Nat.{ℕ, _-_, _^_, _≤_, _<_}
-use native.Mathlib.Nat.{le-trans}
+use native.Mathlib.Nat.{mul-pos, le-trans}
 use native.Mathlib.Decide.{decLt}
 use native.Mathlib.Omega.{arith}
 use lib.IntN.{pos, negsuc, natAbs}
 use lib.Pow.{pow-pos}
 use lib.Ieee.Fits.{down-pos}
-use native.Mathlib.Nat.{mul-pos}
 use Rattle.marks.specs.Answers.{Outcome, refused, accepted}
 use Rattle.marks.specs.AnswerLaws.{of-answer}
 use Rattle.rounding.specs.declared.Location.the-variants.{Half}

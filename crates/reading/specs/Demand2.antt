@@ -20,11 +20,12 @@ use Rattle.marks.specs.Says.{Says}
 use Rattle.marks.specs.SaysLaws.{says-alike}
 use Rattle.rounding.specs.Round.{HasBits}
 use Rattle.rounding.specs.Fraction.{Fraction, power, times, RN, Same}
-use Rattle.rounding.specs.FractionLaws.{RN-some, Scaled, RN-scaled}
+use Rattle.rounding.specs.FractionLaws.{RN-some, Scaled, RN-scaled, same-scaled}
 use Rattle.rounding.specs.Ieee.{revalue, one-value}
 use Rattle.floats.specs.Fields.{plusZero, signOf, zeroBits, Normal, significandOf, exponentOf}
 use Rattle.floats.specs.Powers.{powers-add}
 use Rattle.floats.specs.Pattern.{significand-bits}
+use Rattle.floats.specs.Ratio.{numberAt}
 use Rattle.floats.specs.Classes.{normal-value}
 use Rattle.factor.specs.declared.Factor.{Factor}
 use Rattle.factor.specs.Context.{contextOf, lowerOf, upperOf}
@@ -125,12 +126,11 @@ module _ (f : Factor) (b : ℕ) (v : Product) (y : Float) (is : HasValue y (sign
 
   pub to-reading : Same r (valueOf (prec binary32) v) → GivesNumber f b y C
   to-reading e =
+      let N = v .significand * 2 ^ v .binade in
+      let H = pow-pos (prec binary32 - 1) in
       subst (λ (s : Bool). HasValue y s (q .num) (q .den)) q-sign
-      (revalue y (signOf binary32 b) _ _ (q .num) (q .den) (mul-pos (pow-pos (prec binary32 - 1)) (down-pos z))
-      (meet (v .significand * 2 ^ v .binade) (hid binary32) (up z) (down z) (q .num) (q .den) (r .num) (r .den) (RN-some (contextOf f .rule) (prec binary32) (times C (argument (prec binary32) (significandOf binary32 b)))) (e .1) along) is)
-    where
-      meet : (N H u c Q d R g : ℕ) → 0 < g → R * H ≡ N * g → Q * (g * c) ≡ R * u * d → N * u * d ≡ Q * (H * c)
-      meet N H u c Q d R g G e w = eq-of-mul-eq-mul-right g G (N * u * d) (Q * (H * c)) (omega (arith, ap (λ (t : ℕ). t * (u * d)) e, ap (λ (t : ℕ). t * H) w))
+      (revalue y (signOf binary32 b) _ _ (q .num) (q .den) (mul-pos H (down-pos z))
+      (sym (same-scaled z r (valueOf (prec binary32) v) q (numberAt binary32 N z) (RN-some (contextOf f .rule) (prec binary32) (times C (argument (prec binary32) (significandOf binary32 b)))) H along refl (e .1))) is)
 
   pub from-reading : GivesNumber f b y C → Same r (valueOf (prec binary32) v)
   from-reading g = (

@@ -1,10 +1,10 @@
--- A law: a reading's product is the product of its significand with sign and exponent put on. Assumes nothing.
+-- Laws: a reading's product is the product of its significand with sign and exponent put on, and its quotient is the quotient. Assumes nothing.
 use mathlib.Core.Path.{_≡_, ap}
 use mathlib.Core.Bool.{true, false, not}
 use Prim.Native.Nat.{ℕ, _^_}
-use lib.Ieee.{binary32, prec, hid}
+use lib.Ieee.{Float, binary32, prec, hid}
 use borrow.Author.Tests.{le-ltb, lt-leb}
-use Rattle.marks.specs.Answers.{Outcome, andThen, Marked}
+use Rattle.marks.specs.Answers.{none, First, Outcome, andThen, Marked}
 use Rattle.marks.specs.AnswerLaws.{pass, end, accepts}
 use Rattle.floats.specs.Fields.{significandOf}
 use Rattle.floats.specs.Pattern.{significand-bits}
@@ -13,13 +13,32 @@ use Rattle.factor.specs.Precision.{significandOut}
 use Rattle.factor.specs.SetUp.{intact}
 use Rattle.product.specs.declared.Product.{Product}
 use Rattle.product.specs.Product.{productBy}
-use Rattle.product.specs.Answer.{marked, multiplied}
-use Rattle.reading.specs.Reading.{ranged, finished}
+use Rattle.product.specs.Answer.{conditions, marked, multiplied}
+use Rattle.quotient.specs.declared.Quotient.{Quotient}
+use Rattle.quotient.specs.Quotient.{quotientBy}
+use Rattle.quotient.specs.Answer.{divided}
+use Rattle.reading.specs.Reading.{placed, ranged, finished}
+use Rattle.reading.specs.Divided.{lowered}
 
-pub from-product : (f : Factor) (b : ℕ) → intact f ≡ true → f .precision .bits ≡ prec binary32 → finished f b (productBy f (significandOf binary32 b)) ≡ andThen (multiplied f (significandOf binary32 b)) (ranged f b)
-unfolding finished multiplied
-from-product f b i n =
-    let X = significandOf binary32 b in
-    let is = significand-bits binary32 b in
-    let in-range : significandOut (f .precision .bits) X ≡ false = rw (n, le-ltb X (hid binary32) (is .least), lt-leb (2 ^ prec binary32) X (is .most)) in
-    ap (λ (o : Outcome (Marked Product)). andThen o (ranged f b)) (accepts (pass (ap not i) (pass in-range end)) (marked f X (productBy f X)))
+module _ (f : Factor) (b : ℕ) (i : intact f ≡ true) (n : f .precision .bits ≡ prec binary32) where
+  abbrev X : ℕ
+  X = significandOf binary32 b
+
+  -- a reading's significand is refused by neither 31 nor 17
+  through : First (conditions f X) none
+  through =
+      let is = significand-bits binary32 b in
+      let in-range : significandOut (f .precision .bits) X ≡ false = rw (n, le-ltb X (hid binary32) (is .least), lt-leb (2 ^ prec binary32) X (is .most)) in
+      pass (ap not i) (pass in-range end)
+
+  pub from-product : finished f b (productBy f X) ≡ andThen (multiplied f X) (ranged f b)
+  unfolding finished multiplied
+  from-product = ap (λ (o : Outcome (Marked Product)). andThen o (ranged f b)) (accepts through (marked f X (productBy f X)))
+
+  -- a quotient with sign and exponent put on, unless 23 refuses it
+  abbrev pub rangedQuotient : Quotient → Outcome Float
+  rangedQuotient v = placed b (v .significand) (lowered f b v)
+
+  pub from-quotient : rangedQuotient (quotientBy f X) ≡ andThen (divided f X) rangedQuotient
+  unfolding divided
+  from-quotient = ap (λ (o : Outcome Quotient). andThen o rangedQuotient) (accepts through (quotientBy f X))
