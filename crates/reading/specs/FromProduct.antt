@@ -20,6 +20,10 @@ use Rattle.quotient.specs.Answer.{divided}
 use Rattle.reading.specs.Reading.{placed, ranged, finished}
 use Rattle.reading.specs.Divided.{lowered}
 
+-- sign and exponent put on a quotient, unless 23 refuses it
+abbrev pub rangedQuotient : Factor → ℕ → Quotient → Outcome Float
+rangedQuotient f b v = placed b (v .significand) (lowered f b v)
+
 module _ (f : Factor) (b : ℕ) (i : intact f ≡ true) (n : f .precision .bits ≡ prec binary32) where
   abbrev X : ℕ
   X = significandOf binary32 b
@@ -35,10 +39,6 @@ module _ (f : Factor) (b : ℕ) (i : intact f ≡ true) (n : f .precision .bits 
   unfolding finished multiplied
   from-product = ap (λ (o : Outcome (Marked Product)). andThen o (ranged f b)) (accepts through (marked f X (productBy f X)))
 
-  -- a quotient with sign and exponent put on, unless 23 refuses it
-  abbrev pub rangedQuotient : Quotient → Outcome Float
-  rangedQuotient v = placed b (v .significand) (lowered f b v)
-
-  pub from-quotient : rangedQuotient (quotientBy f X) ≡ andThen (divided f X) rangedQuotient
+  pub from-quotient : rangedQuotient f b (quotientBy f X) ≡ andThen (divided f X) (rangedQuotient f b)
   unfolding divided
-  from-quotient = ap (λ (o : Outcome Quotient). andThen o rangedQuotient) (accepts through (quotientBy f X))
+  from-quotient = ap (λ (o : Outcome Quotient). andThen o (rangedQuotient f b)) (accepts through (quotientBy f X))

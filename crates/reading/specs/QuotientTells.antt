@@ -113,7 +113,7 @@ module _ (r : Format) (f : Factor) (s : Sound f) (n : f .precision .bits ≡ pre
   number-some : 0 < down (v .binade) * hid r
   number-some = mul-pos (down-pos (v .binade)) (pow-pos (prec r - 1))
 
-  pub rounds : let e = RN toEven (prec r) q in e .num * (hid r * down z) ≡ v .significand * up z * e .den
+  rounds : let e = RN toEven (prec r) q in e .num * (hid r * down z) ≡ v .significand * up z * e .den
   rounds =
       let y = exact (prec r) (f .parts) X in
       let is = subst (λ (m : ℕ). Same (RN toEven m (exact m (f .parts) X)) (valueOf m v)) n (sound-quotient f s X x-bits .value toEven) in
@@ -121,7 +121,7 @@ module _ (r : Format) (f : Factor) (s : Sound f) (n : f .precision .bits ≡ pre
       (RN-scaled toEven (prec r) some y q (mul-pos (le-trans (pow-pos (prec r - 1)) (xb .least)) (pow-pos (prec r - 1))) exact-some (mul-pos P (G .above)) w along) (put-on (v .significand)) (is .1)
 
   -- so does one division in the format
-  pub divides : exponentOut r z ≡ false → (x y : Float) → HasValue x (p .minus) (p .num) (p .den) → HasValue y (g .minus) (g .num) (g .den) → HasValue (div r x y) (q .minus) (v .significand * up z) (hid r * down z)
+  divides : exponentOut r z ≡ false → (x y : Float) → HasValue x (p .minus) (p .num) (p .den) → HasValue y (g .minus) (g .num) (g .den) → HasValue (div r x y) (q .minus) (v .significand * up z) (hid r * down z)
   divides o x y h k =
       let t = let-through r z o in
       let e = exact (prec r) (f .parts) X in
