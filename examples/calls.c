@@ -14,8 +14,8 @@ static void due(const char *what, uint64_t answer, uint64_t expected) {
 int main(void) {
     const uint64_t three_halves = (uint64_t)3 << 61;
     const uint64_t below_19_16 = 0x4BFFFC0000000000u;
-    const uint64_t below_4_pi = 0x517CC1B727220A94u;
-    const uint64_t last = 0x7FFFFFFFFFFFFFFFu;
+    const uint64_t below_4_over_pi = 0x517CC1B727220A94u;
+    const uint64_t last_end = 0x7FFFFFFFFFFFFFFFu;
     const uint64_t minus_one = 0xFFFFFFFFFFFFFFFFu;
     uint64_t factor[GUSNALIP_FACTOR_WORDS];
     uint64_t product[GUSNALIP_PRODUCT_WORDS];
@@ -54,7 +54,7 @@ int main(void) {
     due("damage", gusnalip_divide(factor, GUSNALIP_FACTOR_WORDS, 16, quotient, GUSNALIP_QUOTIENT_WORDS), GUSNALIP_DAMAGED);
     due("the significand as it was", quotient[0], 11);
     due("the binade as it was", quotient[1], minus_one);
-    due("nearly 2", gusnalip_set_up(4, 0, last, last, factor, GUSNALIP_FACTOR_WORDS), GUSNALIP_ACCEPTED);
+    due("nearly 2", gusnalip_set_up(4, 0, last_end, last_end, factor, GUSNALIP_FACTOR_WORDS), GUSNALIP_ACCEPTED);
     due("9 by 2", gusnalip_divide(factor, GUSNALIP_FACTOR_WORDS, 9, quotient, GUSNALIP_QUOTIENT_WORDS), GUSNALIP_ACCEPTED);
     due("its significand", quotient[0], 9);
     due("its binade", quotient[1], minus_one);
@@ -68,7 +68,7 @@ int main(void) {
     due("the bits as they were", reading[0], 0xBFAAAAAB);
     due("minus zero", gusnalip_divide_reading(factor, GUSNALIP_FACTOR_WORDS, 0x80000000, reading, GUSNALIP_READING_WORDS), GUSNALIP_ACCEPTED);
     due("its bits", reading[0], 0);
-    due("1/pi", gusnalip_set_up(24, -2, below_4_pi, below_4_pi + 1, factor, GUSNALIP_FACTOR_WORDS), GUSNALIP_ACCEPTED);
+    due("1/pi", gusnalip_set_up(24, -2, below_4_over_pi, below_4_over_pi + 1, factor, GUSNALIP_FACTOR_WORDS), GUSNALIP_ACCEPTED);
     due("1/2 by 1/pi", gusnalip_divide_reading(factor, GUSNALIP_FACTOR_WORDS, 0x3F000000, reading, GUSNALIP_READING_WORDS), GUSNALIP_ACCEPTED);
     due("its bits", reading[0], 0x3FC90FDB);
     factor[8] += (uint64_t)1 << 32;

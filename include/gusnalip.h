@@ -47,11 +47,12 @@ uint32_t gusnalip_multiply(const uint64_t *factor, size_t factor_length, uint64_
 /* Multiplies a reading given by its bits: a mark, with the bits of the product in out[0], or a refusal 31, 20 to 23. */
 uint32_t gusnalip_read(const uint64_t *factor, size_t factor_length, uint32_t reading, uint32_t *out, size_t out_length);
 
-/* Divides a significand by the factor's high part: 0, with the quotient's significand in out[0] and its binade in out[1] (two's complement
- * of 64 bits: -1 is all ones), or the refusal 31 or 17. */
+/* Divides a significand by the factor's high part, which the scale does not change: 0, with the quotient's significand in out[0] and its
+ * binade in out[1] (two's complement of 64 bits: -1 is all ones), or the refusal 31 or 17. */
 uint32_t gusnalip_divide(const uint64_t *factor, size_t factor_length, uint64_t x, uint64_t *out, size_t out_length);
 
-/* Divides a reading given by its bits: 0, with the bits of the quotient in out[0], or a refusal 31, 20 to 23. */
+/* Divides a reading given by its bits by the factor's high part times 2^scale: 0, with the bits of the quotient in out[0], or a refusal 31,
+ * 20 to 23. A zero of either sign gives plus zero. */
 uint32_t gusnalip_divide_reading(const uint64_t *factor, size_t factor_length, uint32_t reading, uint32_t *out, size_t out_length);
 
 /* Begins a sweep: 0 and the state's words, or the refusal 31 or 17. */

@@ -16,7 +16,7 @@ use Rattle.product.specs.Answer.{multiplied}
 use Rattle.quotient.specs.declared.Quotient.{Quotient}
 use Rattle.quotient.specs.Answer.{divided}
 use Rattle.reading.specs.Reading.{applied}
-use Rattle.reading.specs.Divided as readings
+use Rattle.reading.specs.Divided.{dividedReading}
 use Rattle.words.specs.Words.{unsigned}
 use Rattle.calls.specs.State.{State}
 use Rattle.calls.specs.Call.{newState, Result, Reply, sweepCall}
@@ -106,8 +106,8 @@ divideTo factor X out = plainAnswer quotientWords (andThen (taken factor factorL
 
 -- ---- a reading's quotient: 0 with its bits, or the refusal
 unfoldable pub divideReadingTo : (factor : List ℕ) (reading : ℕ) (out : List ℕ) → Answer
-unfolding readings.divided taken toBits ofBits
-divideReadingTo factor reading out = plainAnswer readingWords (andThen (taken factor factorLength (length out) 1) (λ f. readings.divided f (ofBits binary32 reading)))
+unfolding dividedReading taken toBits ofBits
+divideReadingTo factor reading out = plainAnswer readingWords (andThen (taken factor factorLength (length out) 1) (λ f. dividedReading f (ofBits binary32 reading)))
 
 -- ---- a new sweep: 0 and the state, or the refusal
 abbrev pub newSweepAnswer : Outcome (State Factor) → Answer

@@ -5,7 +5,7 @@ use mathlib.Core.List.{List, [], _∷_, _++_, append-nil}
 use Prim.Native.Nat.{ℕ}
 use native.Mathlib.Omega.{arith}
 use Rattle.marks.specs.declared.Mark.{Mark}
-use Rattle.marks.specs.declared.Verdict.{Verdict}
+use Rattle.marks.specs.declared.Judgement.{Judgement}
 use Rattle.marks.specs.Answers.{Refusal, number, none, judged, refusalOf, First, NoneHolds, Outcome, refused, accepted, unless, answer, Marked}
 
 -- ---- from the tests to the refusal
@@ -65,13 +65,13 @@ judged-none (t ∷ k) l q = go (t .1) refl q (judged-none k l)
 pub none-holds : (l : List (ℕ × Bool)) → judged l ≡ none → NoneHolds l
 none-holds l q = judged-none l [] (ap judged (append-nil l) ∙ q) .0
 
--- ---- a verdict, as code has it
-module _ {l : List (ℕ × Bool)} {v : Verdict} (is : First l (refusalOf v)) where
-  pub verdict-taken : v ≡ Verdict.Taken → NoneHolds l
-  verdict-taken e = none-holds l (is .is ∙ ap refusalOf e)
+-- ---- a judgement, as code has it
+module _ {l : List (ℕ × Bool)} {v : Judgement} (is : First l (refusalOf v)) where
+  pub judged-passed : v ≡ Judgement.Passed → NoneHolds l
+  judged-passed e = none-holds l (is .is ∙ ap refusalOf e)
 
-  pub verdict-refuses : {A : Type 0} {n : ℕ} → v ≡ Verdict.Refused n → (a : A) → refused n ≡ answer l a
-  verdict-refuses e a = refuses (record { is = is .is ∙ ap refusalOf e }) a
+  pub judged-refused : {A : Type 0} {n : ℕ} → v ≡ Judgement.Refused n → (a : A) → refused n ≡ answer l a
+  judged-refused e a = refuses (record { is = is .is ∙ ap refusalOf e }) a
 
 -- none of two lists holds
 pub none-apart : (k l : List (ℕ × Bool)) → NoneHolds (k ++ l) → NoneHolds k × NoneHolds l

@@ -4,7 +4,7 @@ use mathlib.Core.Bool.{Bool, false, cond}
 use mathlib.Core.List.{List, [], _∷_}
 use Prim.Native.Nat.{ℕ}
 use Rattle.marks.specs.declared.Mark.{Mark}
-use Rattle.marks.specs.declared.Verdict.{Verdict}
+use Rattle.marks.specs.declared.Judgement.{Judgement}
 
 -- ---- refusals
 -- the number of a refusal, or none
@@ -17,10 +17,10 @@ unfoldable pub judged : List (ℕ × Bool) → Refusal
 judged [] = none
 judged (t ∷ l) = cond (t .1) (number (t .0)) (judged l)
 
--- what a verdict says
-abbrev pub refusalOf : Verdict → Refusal
-refusalOf (Verdict.Refused n) = number n
-refusalOf Verdict.Taken = none
+-- what a judgement says
+abbrev pub refusalOf : Judgement → Refusal
+refusalOf (Judgement.Refused n) = number n
+refusalOf Judgement.Passed = none
 
 -- v is what the first condition that holds says
 pub record First (l : List (ℕ × Bool)) (v : Refusal) : Type 0 where

@@ -1,4 +1,6 @@
-// The mark of a product (document 01, "The product"): whether it is what the factor times the significand rounds to. specs/ has what every answer says, refused or not.
+// What answers are made of: the mark of a product, and the judgement on what a call asks. specs/ has what every answer says, refused or not.
+
+// The mark of a product (document 01, "The product"): whether it is what the factor times the significand rounds to.
 pub enum Mark {
     // for every fraction between the ends
     Right,
@@ -8,8 +10,8 @@ pub enum Mark {
     Wrong,
 }
 
-// Whether what a call asks is refused, and with which number: what code judges before its work.
-pub enum Verdict {
+// Whether what a call asks is refused, and with which number, or passed: what code judges before its work.
+pub enum Judgement {
     Refused(u32),
-    Taken,
+    Passed,
 }

@@ -23,7 +23,7 @@ use Rattle.factor.specs.Parts.{partsAt}
 use Rattle.factor.specs.UnitParts.{UnitParts, step, plusOrMinus, unitParts}
 use Rattle.factor.specs.Ends.{End}
 use Rattle.rounding.specs.Signed.{negative}
-use Rattle.factor.specs.PartsLaws.{width-is, step-is, bottom-is, high-from, high-is, low-most, width-le, worth-near, units-of-parts, high-kept, low-kept}
+use Rattle.factor.specs.PartsLaws.{width-is, step-is, bottom-is, high-from, low-most, width-le, worth-near, units-of-parts, high-kept, low-kept}
 use Rattle.product.specs.declared.Product.{Product}
 use Rattle.product.specs.Product.{argument, high, low, first, fused, second, product, valueOf}
 use Rattle.product.specs.Units.{firstUnits, fusedUnits, secondUnits, units}

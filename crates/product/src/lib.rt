@@ -2,8 +2,8 @@
 use factor::Factor;
 use factor::Parts;
 use factor::Precision;
+use marks::Judgement;
 use marks::Mark;
-use marks::Verdict;
 use rounding::TieRule;
 use wide::Wide;
 ghost use mathlib.Core.Path.{_≡_};
@@ -171,17 +171,17 @@ fn answer(m: Mark, v: Product) -> ProductAnswer
 }
 
 // The first refusal of a significand whose condition holds: 31 by the factor, then 17, whatever is then made of it.
-pub fn refusal_of(f: Factor, x: u64) -> Verdict
+pub fn refusal_of(f: Factor, x: u64) -> Judgement
     ensures { λ r. ⌜ First (conditions f x) (refusalOf r) ⌝ }
 {
     if !factor::is_intact(f) {
-        return Verdict::Refused(31);
+        return Judgement::Refused(31);
     }
     let p = f.precision;
     if significand_out(p, x) {
-        return Verdict::Refused(17);
+        return Judgement::Refused(17);
     }
-    Verdict::Taken
+    Judgement::Passed
 }
 
 // Multiplies a significand: the product with its mark, or refusal 31 for the factor, or 17 for the significand.
@@ -189,8 +189,8 @@ pub fn multiply(f: Factor, x: u64) -> ProductAnswer
     ensures { λ r. ⌜ outcomeOf r ≡ multiplied f x ⌝ }
 {
     match refusal_of(f, x) {
-        Verdict::Refused(number) => ProductAnswer::Refused(number),
-        Verdict::Taken => {
+        Judgement::Refused(number) => ProductAnswer::Refused(number),
+        Judgement::Passed => {
             let v = product_of(f, x);
             answer(mark_of(f, x, v), v)
         }

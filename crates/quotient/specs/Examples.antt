@@ -8,7 +8,6 @@ use lib.Ieee.{size}
 use Rattle.marks.specs.Answers.{judged, Outcome, refused, accepted, answer}
 use Rattle.rounding.specs.Fraction.{over, times, distance, Below}
 use Rattle.rounding.specs.Ulp.{ulp}
-use Rattle.factor.specs.declared.Description.{Description}
 use Rattle.factor.specs.declared.Factor.{Factor}
 use Rattle.factor.specs.Precision.{scaleOf}
 use Rattle.factor.specs.Context.{tieRule}
@@ -24,23 +23,23 @@ factorAt : (n c : ℕ) → Factor
 unfolding scaleOf tieRule partsAt appliedOf
 factorAt n c = factorOf (record { precision = n; scale = pos 0; lower = c; upper = c })
 
-abbrev quotientOf : ℕ → ℤ → Outcome Quotient
-quotientOf s b = accepted (record { significand = s; binade = b })
+abbrev is : ℕ → ℤ → Outcome Quotient
+is s b = accepted (record { significand = s; binade = b })
 
 -- C = 3/2, n = 4: 2/3, 1 and 5/4
 three-halves :
-    (divided (factorAt 4 (3 * 2 ^ 61)) 8 ≡ quotientOf 11 (negsuc 0))
-    × (divided (factorAt 4 (3 * 2 ^ 61)) 12 ≡ quotientOf 8 (pos 0))
-    × (divided (factorAt 4 (3 * 2 ^ 61)) 15 ≡ quotientOf 10 (pos 0))
+    (divided (factorAt 4 (3 * 2 ^ 61)) 8 ≡ is 11 (negsuc 0))
+    × (divided (factorAt 4 (3 * 2 ^ 61)) 12 ≡ is 8 (pos 0))
+    × (divided (factorAt 4 (3 * 2 ^ 61)) 15 ≡ is 10 (pos 0))
 unfolding factorAt divided answer judged Ieee.toBits size
 three-halves = (refl, refl, refl)
 
--- C just below 2, whose high part is 2: 1 gives exactly 1/2; C = 1: every x itself
+-- C just below 2, whose high part is 2: 1 gives exactly 1/2, and no x more than 1; C = 1: the least x and the largest give themselves
 ends-of-the-high-part :
-    (divided (factorAt 4 (2 ^ 63 - 1)) 8 ≡ quotientOf 8 (negsuc 0))
-    × (divided (factorAt 4 (2 ^ 63 - 1)) 15 ≡ quotientOf 15 (negsuc 0))
-    × (divided (factorAt 4 (2 ^ 62)) 8 ≡ quotientOf 8 (pos 0))
-    × (divided (factorAt 4 (2 ^ 62)) 15 ≡ quotientOf 15 (pos 0))
+    (divided (factorAt 4 (2 ^ 63 - 1)) 8 ≡ is 8 (negsuc 0))
+    × (divided (factorAt 4 (2 ^ 63 - 1)) 15 ≡ is 15 (negsuc 0))
+    × (divided (factorAt 4 (2 ^ 62)) 8 ≡ is 8 (pos 0))
+    × (divided (factorAt 4 (2 ^ 62)) 15 ≡ is 15 (pos 0))
 unfolding factorAt divided answer judged Ieee.toBits size
 ends-of-the-high-part = (refl, refl, refl, refl)
 

@@ -1,5 +1,7 @@
 -- The quotient of a significand by the high part (request W1; source document 003, section III), over a context. Definitions only. Assumes nothing.
+use mathlib.Core.Bool.{cond}
 use Prim.Native.Nat.{ℕ, _-_}
+use lib.Dec.{ltb}
 use lib.IntN.{pos, _+ℤ_}
 use Rattle.rounding.specs.Round.{rounded}
 use Rattle.rounding.specs.Fraction.{Fraction, over, power, times, ratio, RN}
@@ -10,21 +12,21 @@ use Rattle.product.specs.Product.{argument, high}
 use Rattle.quotient.specs.declared.Quotient.{Quotient}
 
 -- x / Ch
-abbrev pub exact : (n : ℕ) → Parts → ℕ → Fraction
-exact n p X = ratio (argument n X) (high n p)
+abbrev pub byHigh : (n : ℕ) → Parts → ℕ → Fraction
+byHigh n p X = ratio (argument n X) (high n p)
 
 module _ (K : Context) where
   open Context K using (rule, n)
 
   -- RN(x / Ch)
   abbrev pub once : Parts → ℕ → Fraction
-  once p X = RN rule n (exact n p X)
+  once p X = RN rule n (byHigh n p X)
 
   -- it as a significand of n bits and a binade: significand * 2 ^ binade / 2 ^ (n - 1)
   unfoldable pub quotient : Parts → ℕ → Quotient
   unfolding rounded
   quotient p X =
-      let y = exact n p X in
+      let y = byHigh n p X in
       let r = rounded rule n (y .num) (y .den) in
       record { significand = r .significand; binade = r .exponent +ℤ pos (n - 1) }
 
@@ -35,3 +37,7 @@ quotientBy f X = quotient (contextOf f) (f .parts) X
 -- a quotient as a number
 abbrev pub valueOf : (n : ℕ) → Quotient → Fraction
 valueOf n v = times (power (v .binade)) (over (v .significand) (n - 1))
+
+-- how many binades below 1 it lies: one where X is below the high significand H
+abbrev pub binadesBelow : (X H : ℕ) → ℕ
+binadesBelow X H = cond (ltb X H) 1 0

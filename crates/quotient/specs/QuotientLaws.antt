@@ -23,7 +23,7 @@ use Rattle.rounding.specs.Fraction.{Same, AtMost}
 use Rattle.factor.specs.declared.Parts.{Parts}
 use Rattle.factor.specs.Context.{Context}
 use Rattle.quotient.specs.declared.Quotient.{Quotient}
-use Rattle.quotient.specs.Quotient.{exact, once, quotient, valueOf}
+use Rattle.quotient.specs.Quotient.{byHigh, once, quotient, valueOf, binadesBelow}
 
 -- a high significand: Ch is from 1 to 2, both included
 pub record HighBits (n H : ℕ) : Type 0 where
@@ -39,23 +39,19 @@ odd-multiple (suc m) Y q H h e =
     let f : 2 ^ m * Y ≡ (2 * q + 1) * (H / 2) = omega (arith, ap (λ (z : ℕ). (2 * q + 1) * z) even) in
     omega (arith, odd-multiple m Y q (H / 2) (omega arith) f, pow-succ' 2 m)
 
--- X * 2 ^ t / H has n digits before the point
-pub record Scaled (n H X t : ℕ) : Type 0 where
+-- X * 2 ^ t / H has n digits before the point, and rounding it carries nothing into another
+pub record HasDigits (n H X t : ℕ) : Type 0 where
   pub least : 2 ^ (n - 1) * H ≤ X * 2 ^ t
   pub most : X * 2 ^ t ≤ (2 ^ n - 1) * H
   -- and is half way between no two whole numbers
   pub untied : (q : ℕ) → 2 * (X * 2 ^ t) ≡ 2 * (q * H) + H → ⊥
-
--- how far below 1 the binade of X / H is: 1, or 0
-abbrev pub lowered : (H X : ℕ) → ℕ
-lowered H X = cond (ltb X H) 1 0
 
 module _ (n : ℕ) (P : 0 < n) (H X : ℕ) (h : HighBits n H) (x : HasBits n X) where
   pub high-some : 0 < H
   high-some = le-trans (pow-pos (n - 1)) (h .least)
 
   -- below 1: in the unit 2 ^ - n
-  scaled-low : X < H → Scaled n H X n
+  scaled-low : X < H → HasDigits n H X n
   scaled-low l =
       let e = pow-half n P in
       record {
@@ -68,7 +64,7 @@ module _ (n : ℕ) (P : 0 < n) (H X : ℕ) (h : HighBits n H) (x : HasBits n X) 
       go b c e p q = omega (arith, mul-le-mul-right b q, ap (λ (z : ℕ). H * z) e)
 
   -- at least 1: in the unit 2 ^ - (n - 1)
-  scaled-high : H ≤ X → Scaled n H X (n - 1)
+  scaled-high : H ≤ X → HasDigits n H X (n - 1)
   scaled-high l =
       let e = pow-half n P in
       record {
@@ -78,12 +74,12 @@ module _ (n : ℕ) (P : 0 < n) (H X : ℕ) (h : HighBits n H) (x : HasBits n X) 
       }
 
   -- by one test
-  pub scaled : Scaled n H X (n - 1 + lowered H X)
+  pub scaled : HasDigits n H X (n - 1 + binadesBelow X H)
   scaled = go (ltb X H) refl
     where
-      go : (b : Bool) → ltb X H ≡ b → Scaled n H X (n - 1 + cond b 1 0)
-      go true e = subst (Scaled n H X) (omega arith) (scaled-low (ltb-true X H e))
-      go false e = subst (Scaled n H X) (omega arith) (scaled-high (ltb-false X H e))
+      go : (b : Bool) → ltb X H ≡ b → HasDigits n H X (n - 1 + cond b 1 0)
+      go true e = subst (HasDigits n H X) (omega arith) (scaled-low (ltb-true X H e))
+      go false e = subst (HasDigits n H X) (omega arith) (scaled-high (ltb-false X H e))
 
 module _ (K : Context) (P : 0 < K .n) (p : Parts) (X : ℕ) (h : HighBits (K .n) (p .high)) (x : HasBits (K .n) X) where
   open Context K using (rule, n)
@@ -92,7 +88,7 @@ module _ (K : Context) (P : 0 < K .n) (p : Parts) (X : ℕ) (h : HighBits (K .n)
   H = p .high
 
   abbrev b : ℕ
-  b = lowered H X
+  b = binadesBelow X H
 
   -- in the unit 2 ^ - t, x / Ch is N / H, with n digits
   abbrev t : ℕ
@@ -104,14 +100,14 @@ module _ (K : Context) (P : 0 < K .n) (p : Parts) (X : ℕ) (h : HighBits (K .n)
   some : 0 < H
   some = high-some n P H X h x
 
-  s : Scaled n H X t
+  s : HasDigits n H X t
   s = scaled n P H X h x
 
   module _ (rule : Rule) where
     pub nearest-bits : HasBits n (nearest rule N H)
     nearest-bits = record { least = nearest-ge rule N H (2 ^ (n - 1)) some (s .least); most = omega (arith, nearest-le rule N H (2 ^ n - 1) some (s .most), pow-pos n) }
 
-    rounded-exact : rounded rule n (exact n p X .num) (exact n p X .den) ≡ record { significand = nearest rule N H; exponent = minus 0 t; location = location (N % H) H }
+    rounded-exact : rounded rule n (byHigh n p X .num) (byHigh n p X .den) ≡ record { significand = nearest rule N H; exponent = minus 0 t; location = location (N % H) H }
     unfolding roundedIn stepped normalised
     rounded-exact =
         let e : 2 ^ n ≡ (2 ^ n - 1) + 1 = omega (arith, pow-pos n) in
@@ -123,7 +119,7 @@ module _ (K : Context) (P : 0 < K .n) (p : Parts) (X : ℕ) (h : HighBits (K .n)
         ∙ rw (ne-eqb (nearest rule N H) (2 ^ n) (λ e. omega (arith, nearest-bits .most)))
 
     -- never half way between two numbers of n bits
-    pub never-tied : rounded rule n (exact n p X .num) (exact n p X .den) .location ≡ Half → ⊥
+    pub never-tied : rounded rule n (byHigh n p X .num) (byHigh n p X .den) .location ≡ Half → ⊥
     never-tied e =
         let l : location (N % H) H ≡ Half = sym (ap (λ (r : Rounded). r .location) rounded-exact) ∙ e in
         s .untied (N / H) (omega (arith, subst (λ (l : Location). Lies l (N % H) H) l (location-lies (N % H) H), div-add-mod' N H))
@@ -166,7 +162,7 @@ module _ (K : Context) (P : 0 < K .n) (p : Parts) (X : ℕ) (h : HighBits (K .n)
       )
 
   -- x / Ch lies in the quotient's binade: from its least number of n bits to its largest
-  pub quotient-range : let z = quotient K p X .binade in AtMost (valueOf n (record { significand = 2 ^ (n - 1); binade = z })) (exact n p X) × AtMost (exact n p X) (valueOf n (record { significand = 2 ^ n - 1; binade = z }))
+  pub quotient-range : let z = quotient K p X .binade in AtMost (valueOf n (record { significand = 2 ^ (n - 1); binade = z })) (byHigh n p X) × AtMost (byHigh n p X) (valueOf n (record { significand = 2 ^ n - 1; binade = z }))
   quotient-range =
       let u = up (minus 0 b) in
       let g = 2 ^ (n - 1) in

@@ -1,5 +1,5 @@
 -- What an answer to a division tells, for every factor and every number as X (`quotient-tells`): its form, that it is RN(x / Ch) by every tie rule, and that it is less than 3/2 units in the last place from x / C for
--- every fraction C between the ends (source document 003, Property 3.1). Assumes nothing.
+-- every fraction C between the ends: request W1's bound, of which source document 003 (Property 3.1) has a slightly sharper one. Assumes nothing.
 use mathlib.Core.Path.{_≡_, refl, sym, ap, _∙_, subst}
 use Prim.Native.Nat.{ℕ, _-_, _^_, _≤_, _<_}
 use native.Mathlib.Nat.{mul-pos, le-trans}
@@ -29,7 +29,7 @@ use Rattle.product.specs.Answer.{conditions}
 use Rattle.product.specs.AnswerLaws.{let-through}
 use Rattle.product.specs.SoundLaws.{sound-fine}
 use Rattle.quotient.specs.declared.Quotient.{Quotient}
-use Rattle.quotient.specs.Quotient.{exact, once, quotientBy, valueOf}
+use Rattle.quotient.specs.Quotient.{byHigh, once, quotientBy, valueOf}
 use Rattle.quotient.specs.Answer.{divided}
 use Rattle.quotient.specs.QuotientLaws.{HighBits, never-tied, quotient-any-rule, quotient-bits, quotient-value, quotient-range, quotient-low, quotient-high}
 
@@ -44,8 +44,8 @@ pub record Tells (f : Factor) (X : ℕ) (v : Quotient) : Type 0 where
   pub low : X < f .parts .high → v .binade ≡ negsuc 0
   pub from-one : f .parts .high ≤ X → v .binade ≡ pos 0
   -- it is RN(x / Ch), by whatever tie rule, since x / Ch is never half way between two numbers of n bits
-  pub value : (rule : Rule) → Same (RN rule (f .precision .bits) (exact (f .precision .bits) (f .parts) X)) (valueOf (f .precision .bits) v)
-  pub untied : (rule : Rule) → let y = exact (f .precision .bits) (f .parts) X in rounded rule (f .precision .bits) (y .num) (y .den) .location ≡ Half → ⊥
+  pub value : (rule : Rule) → Same (RN rule (f .precision .bits) (byHigh (f .precision .bits) (f .parts) X)) (valueOf (f .precision .bits) v)
+  pub untied : (rule : Rule) → let y = byHigh (f .precision .bits) (f .parts) X in rounded rule (f .precision .bits) (y .num) (y .den) .location ≡ Half → ⊥
   -- |RN(x / Ch) - x / C| < 3/2 ulp(x / C) for every C between the ends, in whole numbers, cross-multiplied
   pub near : (C : Fraction) → Between (contextOf f) (lowerOf f) (upperOf f) C → let y = exactBy (f .precision .bits) X C in Below (distance (valueOf (f .precision .bits) v) y) (times (over 3 1) (ulp (f .precision .bits) y))
 
@@ -92,7 +92,7 @@ module _ (f : Factor) (s : Sound f) where
     x-positive : Positive (argument n X)
     x-positive = record { sign = refl; above = le-trans (pow-pos (n - 1)) (x .least); some = pow-pos (n - 1) }
 
-    value : (rule : Rule) → Same (RN rule n (exact n (f .parts) X)) (valueOf n (quotientBy f X))
+    value : (rule : Rule) → Same (RN rule n (byHigh n (f .parts) X)) (valueOf n (quotientBy f X))
     value rule =
         let other : Context = record { rule = rule; n = n; E = K .E } in
         subst (λ (v : Quotient). Same (once other (f .parts) X) (valueOf n v)) (quotient-any-rule K (ok .some) (f .parts) X sound-high x rule) (quotient-value other (ok .some) (f .parts) X sound-high x)
@@ -101,7 +101,7 @@ module _ (f : Factor) (s : Sound f) where
     near C k =
         let v = quotientBy f X in
         distance-same (once K (f .parts) X) (valueOf n v) (exactBy n X C) (times (over 3 1) (ulp n (exactBy n X C)))
-        (RN-some (K .rule) n (exact n (f .parts) X)) (mul-pos (down-pos (v .binade)) (pow-pos (n - 1))) (ratio-positive (argument n X) C x-positive (sound-positive C k) .some) (value (K .rule)) (sound-near (K .rule) (argument n X) x-positive C k)
+        (RN-some (K .rule) n (byHigh n (f .parts) X)) (mul-pos (down-pos (v .binade)) (pow-pos (n - 1))) (ratio-positive (argument n X) C x-positive (sound-positive C k) .some) (value (K .rule)) (sound-near (K .rule) (argument n X) x-positive C k)
 
     pub sound-quotient : Tells f X (quotientBy f X)
     sound-quotient =
@@ -115,10 +115,10 @@ module _ (f : Factor) (s : Sound f) where
         }
 
     -- x / Ch lies in the quotient's binade
-    pub sound-range : let z = quotientBy f X .binade in AtMost (valueOf n (record { significand = 2 ^ (n - 1); binade = z })) (exact n (f .parts) X) × AtMost (exact n (f .parts) X) (valueOf n (record { significand = 2 ^ n - 1; binade = z }))
+    pub sound-range : let z = quotientBy f X .binade in AtMost (valueOf n (record { significand = 2 ^ (n - 1); binade = z })) (byHigh n (f .parts) X) × AtMost (byHigh n (f .parts) X) (valueOf n (record { significand = 2 ^ n - 1; binade = z }))
     sound-range = quotient-range K (ok .some) (f .parts) X sound-high x
 
-    -- one or no binade below that of x
+    -- its binade, -1 or 0, has at most the size 1
     pub sound-binade : natAbs (quotientBy f X .binade) ≤ 1
     sound-binade = go (decLt X (f .parts .high))
       where

@@ -1,12 +1,11 @@
 // The quotient of a significand by a factor's high part, rounded once (request W1): what a tape that is graduated in diameter gives back as a girth.
 use factor::Factor;
-use marks::Verdict;
+use marks::Judgement;
 use rounding::TieRule;
 ghost use mathlib.Core.Path.{_≡_};
 ghost use Rattle.rounding.specs.Round.{HasBits};
 ghost use Rattle.factor.specs.SetUp.{Sound};
-ghost use Rattle.quotient.specs.Quotient.{quotientBy};
-ghost use Rattle.quotient.specs.QuotientLaws.{lowered};
+ghost use Rattle.quotient.specs.Quotient.{quotientBy, binadesBelow};
 ghost use Rattle.quotient.specs.Answer.{divided, outcomeOf};
 
 // A quotient from 1/2 to below 2: a significand of n bits, and its binade, -1 for [1/2, 1) and 0 for [1, 2).
@@ -23,7 +22,7 @@ pub enum QuotientAnswer {
 
 // How many binades below 1 a quotient of two significands lies: one where the first is the smaller.
 fn binades_below(x: u64, high: u64) -> u32
-    ensures { λ r. ⌜ r ≡ lowered high x ⌝ }
+    ensures { λ r. ⌜ r ≡ binadesBelow x high ⌝ }
 {
     if x < high {
         return 1;
@@ -50,7 +49,7 @@ pub fn divide(f: Factor, x: u64) -> QuotientAnswer
     ensures { λ r. ⌜ outcomeOf r ≡ divided f x ⌝ }
 {
     match product::refusal_of(f, x) {
-        Verdict::Refused(number) => QuotientAnswer::Refused(number),
-        Verdict::Taken => QuotientAnswer::Accepted(quotient_of(f, x)),
+        Judgement::Refused(number) => QuotientAnswer::Refused(number),
+        Judgement::Passed => QuotientAnswer::Accepted(quotient_of(f, x)),
     }
 }

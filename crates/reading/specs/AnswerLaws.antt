@@ -1,4 +1,4 @@
--- Readings that are let through to their product, and what they are answered with. Assumes nothing.
+-- Readings that are let through to their product or quotient, and what they are answered with. Assumes nothing.
 use mathlib.Core.Path.{_≡_, refl, sym, ap, _∙_, subst}
 use mathlib.Core.Bool.{Bool, true, false, cond}
 use mathlib.Core.List.{[], _∷_}
@@ -17,7 +17,7 @@ use Rattle.factor.specs.SetUpLaws.{intact-sound}
 use Rattle.reading.specs.declared.Taken.{Taken}
 use Rattle.reading.specs.Reading.{unreadable, Kind, zero, normal, kindOf, exponentOut, Made, answerTo, takenOf}
 
--- ---- readings that are let through to their product
+-- ---- readings that are let through
 module _ (f : Factor) (b : ℕ) (h : NoneHolds (unreadable f b)) where
   -- the factor is intact, and of the format's precision
   pub is-intact : intact f ≡ true
@@ -67,21 +67,21 @@ module _ (f : Factor) (x : Float) (t : Taken) (is : takenOf t ≡ answer (unread
       let n = precision-is f b h in
       record { sound = intact-sound f (is-intact f b h); precision = n; bits = subst (λ (n : ℕ). HasBits n (significandOf binary32 b)) (sym n) (significand-bits binary32 b) }
 
-  -- ---- and answered, g being what is made of a reading by its bits
+  -- ---- what it is answered with, g being what is made of a reading by its bits
   module _ {A : Type 0} (g : ℕ → Made A) where
-    -- unless 23 refuses it
+    -- a normal reading with what is made of it, unless 23 refuses that
     pub normal-answered : {b : ℕ} → t ≡ Taken.Normal b → answer ((23, exponentOut binary32 (g b .exponent)) ∷ []) (g b .value) ≡ answerTo f c (g c)
     normal-answered {b} e =
         let k = taken-normal e in
         let here : answer ((23, exponentOut binary32 (g b .exponent)) ∷ []) (g b .value) ≡ answerTo f b (g b) = rw (k .1) (sym (rest-answers (unreadable f b) _ (k .0) _)) in
         here ∙ ap (λ (b : ℕ). answerTo f b (g b)) (k .2)
 
-    -- so is a zero
+    -- a zero with what is made of a zero
     pub zero-answered : t ≡ Taken.Zero → accepted (g c .of-zero) ≡ answerTo f c (g c)
     zero-answered e =
         let r = only-accepted (unreadable f c) (kindOf c) zero (sym is ∙ ap takenOf e) in
         rw (subst (KindTells c) (r .1) (kind-tells c)) (accepts (pass refl end) _ ∙ sym (rest-answers (unreadable f c) _ (r .0) _))
 
-    -- and a refusal is the answer's
+    -- and a refusal before any work is the answer's
     pub refused-answered : {k : ℕ} → t ≡ Taken.Refused k → refused k ≡ answerTo f c (g c)
     refused-answered {k} e = refused-first (unreadable f c) _ _ _ k (sym (ap takenOf e) ∙ is)

@@ -38,7 +38,7 @@ use Rattle.product.specs.Product.{argument, productBy, valueOf}
 use Rattle.product.specs.Marks.{Gives, markBy}
 use Rattle.product.specs.SoundLaws.{sound-product}
 use Rattle.product.specs.Demand2.{mark-tells, mark-alone}
-use Rattle.reading.specs.Reading.{unreadable, exponentOut, numberOf, conditions, raised, twoSteps, applied}
+use Rattle.reading.specs.Reading.{unreadable, exponentOut, numberOf, conditions, productExponent, twoSteps, applied}
 use Rattle.reading.specs.Exponents.{let-through}
 use Rattle.reading.specs.ReadingLaws.{number-value, number-normal}
 use Rattle.reading.specs.AnswerLaws.{is-intact, precision-is, is-normal}
@@ -150,7 +150,7 @@ binade-apart y s S B H some e k is =
     (subst (λ (w : ℤ). HasValue y s (S * up w) (H * down w)) (sym (+ℤ-assoc e k (pos B))) is)
 
 -- ---- a reading that is let through, and not a zero
-module _ (f : Factor) (b : ℕ) (h : NoneHolds (unreadable f b)) (nonzero : zeroBits binary32 b ≡ false) (o : exponentOut binary32 (raised f b (secondOf f b)) ≡ false) where
+module _ (f : Factor) (b : ℕ) (h : NoneHolds (unreadable f b)) (nonzero : zeroBits binary32 b ≡ false) (o : exponentOut binary32 (productExponent f b (secondOf f b)) ≡ false) where
   abbrev X : ℕ
   X = significandOf binary32 b
 
@@ -158,7 +158,7 @@ module _ (f : Factor) (b : ℕ) (h : NoneHolds (unreadable f b)) (nonzero : zero
   v = secondOf f b
 
   abbrev y : Float
-  y = numberOf binary32 (signOf binary32 b) (v .significand) (raised f b v)
+  y = numberOf binary32 (signOf binary32 b) (v .significand) (productExponent f b v)
 
   sound : Sound f
   sound = intact-sound f (is-intact f b h)
@@ -174,11 +174,11 @@ module _ (f : Factor) (b : ℕ) (h : NoneHolds (unreadable f b)) (nonzero : zero
 
   y-value : HasValue y (signOf binary32 b) (v .significand * 2 ^ v .binade * up (scaled f b)) (hid binary32 * down (scaled f b))
   y-value =
-      let t = let-through binary32 (raised f b v) o in
-      binade-apart y (signOf binary32 b) (v .significand) (v .binade) (hid binary32) (pow-pos (prec binary32 - 1)) (exponentOf binary32 b) (f .applied .scale) (number-value binary32 (signOf binary32 b) (v .significand) (raised f b v) v-bits (t .0) (t .1) (t .2) (t .3))
+      let t = let-through binary32 (productExponent f b v) o in
+      binade-apart y (signOf binary32 b) (v .significand) (v .binade) (hid binary32) (pow-pos (prec binary32 - 1)) (exponentOf binary32 b) (f .applied .scale) (number-value binary32 (signOf binary32 b) (v .significand) (productExponent f b v) v-bits (t .0) (t .1) (t .2) (t .3))
 
   y-normal : Normal binary32 (toBits binary32 y)
-  y-normal = let t = let-through binary32 (raised f b v) o in number-normal binary32 (signOf binary32 b) (v .significand) (raised f b v) v-bits (t .0) (t .1) (t .2) (t .3)
+  y-normal = let t = let-through binary32 (productExponent f b v) o in number-normal binary32 (signOf binary32 b) (v .significand) (productExponent f b v) v-bits (t .0) (t .1) (t .2) (t .3)
 
   abbrev Ends : Fraction → Type 0
   Ends C = Between (contextOf f) (lowerOf f) (upperOf f) C
@@ -206,19 +206,19 @@ module _ (f : Factor) (b : ℕ) (h : NoneHolds (unreadable f b)) (nonzero : zero
 -- every answer to a reading tells the truth, whatever the factor and the reading
 pub reading-tells : (f : Factor) (x : Float) → AnswerTells f (toBits binary32 x) (applied f x)
 unfolding applied
-reading-tells f x = of-answer (AnswerTells f b) (conditions f b (raised f b (secondOf f b))) (numbered f b) (λ k. tt) (λ h. go (zeroBits binary32 b) refl h)
+reading-tells f x = of-answer (AnswerTells f b) (conditions f b (productExponent f b (secondOf f b))) (numbered f b) (λ k. tt) (λ h. go (zeroBits binary32 b) refl h)
   where
     b : ℕ
     b = toBits binary32 x
 
-    go : (z : Bool) → zeroBits binary32 b ≡ z → NoneHolds (conditions f b (raised f b (secondOf f b))) → AnswerTells f b (accepted (numbered f b))
+    go : (z : Bool) → zeroBits binary32 b ≡ z → NoneHolds (conditions f b (productExponent f b (secondOf f b))) → AnswerTells f b (accepted (numbered f b))
     go true z h = rw z (inl (refl, refl, refl))
     go false z h =
-        let t = none-apart (unreadable f b) ((23, not (zeroBits binary32 b) && exponentOut binary32 (raised f b (secondOf f b))) ∷ []) h in
-        let o : exponentOut binary32 (raised f b (secondOf f b)) ≡ false = rw z at (t .1 .0) in
+        let t = none-apart (unreadable f b) ((23, not (zeroBits binary32 b) && exponentOut binary32 (productExponent f b (secondOf f b))) ∷ []) h in
+        let o : exponentOut binary32 (productExponent f b (secondOf f b)) ≡ false = rw z at (t .1 .0) in
         rw z (inr (refl, tells f b (t .0) z o))
 
 -- and a reading that none of 31 and 20 to 23 refuses is answered, with plus zero or the number with its mark
-pub reading-answered : (f : Factor) (x : Float) → let b = toBits binary32 x in NoneHolds (conditions f b (raised f b (secondOf f b))) → applied f x ≡ accepted (numbered f b)
+pub reading-answered : (f : Factor) (x : Float) → let b = toBits binary32 x in NoneHolds (conditions f b (productExponent f b (secondOf f b))) → applied f x ≡ accepted (numbered f b)
 unfolding applied
-reading-answered f x h = let b = toBits binary32 x in none-refuses (conditions f b (raised f b (secondOf f b))) (numbered f b) h
+reading-answered f x h = let b = toBits binary32 x in none-refuses (conditions f b (productExponent f b (secondOf f b))) (numbered f b) h

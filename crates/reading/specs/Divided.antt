@@ -3,24 +3,24 @@ use Prim.Native.Nat.{ℕ}
 use lib.IntN.{ℤ, _+ℤ_, _-ℤ_}
 use lib.Ieee.{Float, binary32, toBits}
 use Rattle.marks.specs.Answers.{Outcome}
-use Rattle.floats.specs.Fields.{plusZero, signOf, significandOf, exponentOf}
+use Rattle.floats.specs.Fields.{plusZero, significandOf, exponentOf}
 use Rattle.factor.specs.declared.Factor.{Factor}
 use Rattle.factor.specs.SetUp.{intact}
 use Rattle.quotient.specs.declared.Quotient.{Quotient}
 use Rattle.quotient.specs.Quotient.{quotient, quotientBy}
-use Rattle.reading.specs.Reading.{numberOf, Made, answerTo}
+use Rattle.reading.specs.Reading.{numberOf, signedLike, Made, answerTo}
 
 -- the exponent of a quotient: the reading's, plus the binade less k
-abbrev pub lowered : Factor → ℕ → Quotient → ℤ
-lowered f b v = exponentOf binary32 b +ℤ (v .binade -ℤ f .applied .scale)
+abbrev pub quotientExponent : Factor → ℕ → Quotient → ℤ
+quotientExponent f b v = exponentOf binary32 b +ℤ (v .binade -ℤ f .applied .scale)
 
 -- a zero, of either sign, gives plus zero; any other reading the quotient with its sign, and no mark
 abbrev pub quotientOf : Factor → ℕ → Made Float
 quotientOf f b =
     let v = quotientBy f (significandOf binary32 b) in
-    record { of-zero = plusZero; exponent = lowered f b v; value = numberOf binary32 (signOf binary32 b) (v .significand) (lowered f b v) }
+    record { of-zero = plusZero; exponent = quotientExponent f b v; value = signedLike b (v .significand) (quotientExponent f b v) }
 
 -- the answer to a reading x
-unfoldable pub divided : Factor → Float → Outcome Float
+unfoldable pub dividedReading : Factor → Float → Outcome Float
 unfolding intact quotient numberOf
-divided f x = let b = toBits binary32 x in answerTo f b (quotientOf f b)
+dividedReading f x = let b = toBits binary32 x in answerTo f b (quotientOf f b)

@@ -1,4 +1,4 @@
--- Figures: document 01's two readings at scale 100, one reading of every kind, and one on which a fused step in binary64 would fail; request W1's girth, and quotients of every kind. All by computation.
+-- Figures: document 01's two readings at scale 100, one reading of every kind, and one on which a fused step in binary64 would fail; request W1's girth, quotients of every kind of reading, and both limits of 23 in both binades. All by computation. Assumes nothing.
 use mathlib.Core.Path.{_≡_, refl}
 use mathlib.Core.Bool.{true, false}
 use Prim.Native.Nat.{ℕ, _+_, _*_, _^_}
@@ -14,7 +14,7 @@ use Rattle.factor.specs.Parts.{partsAt}
 use Rattle.factor.specs.SetUp.{appliedOf, factorOf}
 use Rattle.factor.specs.declared.Description.{Description}
 use Rattle.reading.specs.Reading.{applied}
-use Rattle.reading.specs.Divided.{divided}
+use Rattle.reading.specs.Divided.{dividedReading}
 
 -- both ends at c / 2 ^ 62, and what is right
 abbrev at : (n : ℕ) → ℤ → (c : ℕ) → Description
@@ -64,25 +64,32 @@ fused-once = refl
 
 -- ---- divided
 -- 1/π, n = 24, scale -2: a diameter of 1/2 gives the girth 1.5707964, whose bits are 3FC90FDB
-girth : divided (factorOf (record { precision = 24; scale = negsuc 1; lower = 0x517CC1B727220A94; upper = 0x517CC1B727220A95 })) (fin false 1 (negsuc 0)) ≡ accepted (fin false 13176795 (negsuc 22))
-unfolding scaleOf tieRule partsAt appliedOf divided answer judged Ieee.toBits
+girth : dividedReading (factorOf (record { precision = 24; scale = negsuc 1; lower = 0x517CC1B727220A94; upper = 0x517CC1B727220A95 })) (fin false 1 (negsuc 0)) ≡ accepted (fin false 13176795 (negsuc 22))
+unfolding scaleOf tieRule partsAt appliedOf dividedReading answer judged Ieee.toBits
 girth = refl
 
--- C = 3/2: a zero of either sign, an infinity, a subnormal, and a negative reading
+-- C = 3/2: a zero of either sign, an infinity, a NaN, a subnormal, and a negative reading; n = 23, and a factor that no set-up gives
 kinds-divided :
-    (divided (threeHalves (pos 0)) (fin true 0 (pos 0)) ≡ accepted (fin false 0 (pos 0)))
-    × (divided (threeHalves (pos 0)) (fin false 0 (pos 0)) ≡ accepted (fin false 0 (pos 0)))
-    × (divided (threeHalves (pos 0)) (inf true) ≡ refused 21)
-    × (divided (threeHalves (pos 0)) (fin false 1 (negsuc 148)) ≡ refused 22)
-    × (divided (threeHalves (pos 0)) (fin true 3 (pos 0)) ≡ accepted (fin true 1 (pos 1)))
-unfolding threeHalves divided answer judged Ieee.toBits
-kinds-divided = (refl, refl, refl, refl, refl)
+    (dividedReading (threeHalves (pos 0)) (fin true 0 (pos 0)) ≡ accepted (fin false 0 (pos 0)))
+    × (dividedReading (threeHalves (pos 0)) (fin false 0 (pos 0)) ≡ accepted (fin false 0 (pos 0)))
+    × (dividedReading (threeHalves (pos 0)) (inf true) ≡ refused 21)
+    × (dividedReading (threeHalves (pos 0)) nan ≡ refused 21)
+    × (dividedReading (threeHalves (pos 0)) (fin false 1 (negsuc 148)) ≡ refused 22)
+    × (dividedReading (threeHalves (pos 0)) (fin true 3 (pos 0)) ≡ accepted (fin true 1 (pos 1)))
+    × (dividedReading (factorOf (at 23 (pos 0) (3 * 2 ^ 61))) nan ≡ refused 20)
+    × (dividedReading (factorOf (at 3 (pos 0) (3 * 2 ^ 61))) nan ≡ refused 31)
+unfolding threeHalves dividedReading answer judged Ieee.toBits
+kinds-divided = (refl, refl, refl, refl, refl, refl, refl, refl)
 
--- k is taken off: at scale -100 the largest exponents, at scale 100 the least ones, each with the first that is refused
+-- k is taken off: at scale -100 the largest exponents, at scale 100 the least ones, each with the first that is refused; in binade 0 (3), and in binade -1 (1)
 borders-divided :
-    (divided (threeHalves (negsuc 99)) (fin false 3 (pos 26)) ≡ accepted (fin false 1 (pos 127)))
-    × (divided (threeHalves (negsuc 99)) (fin false 3 (pos 27)) ≡ refused 23)
-    × (divided (threeHalves (pos 100)) (fin false 3 (negsuc 26)) ≡ accepted (fin false 1 (negsuc 125)))
-    × (divided (threeHalves (pos 100)) (fin false 3 (negsuc 27)) ≡ refused 23)
-unfolding threeHalves divided answer judged Ieee.toBits
-borders-divided = (refl, refl, refl, refl)
+    (dividedReading (threeHalves (negsuc 99)) (fin false 3 (pos 26)) ≡ accepted (fin false 1 (pos 127)))
+    × (dividedReading (threeHalves (negsuc 99)) (fin false 3 (pos 27)) ≡ refused 23)
+    × (dividedReading (threeHalves (pos 100)) (fin false 3 (negsuc 26)) ≡ accepted (fin false 1 (negsuc 125)))
+    × (dividedReading (threeHalves (pos 100)) (fin false 3 (negsuc 27)) ≡ refused 23)
+    × (dividedReading (threeHalves (negsuc 99)) (fin false 1 (pos 28)) ≡ accepted (fin false 11184811 (pos 104)))
+    × (dividedReading (threeHalves (negsuc 99)) (fin false 1 (pos 29)) ≡ refused 23)
+    × (dividedReading (threeHalves (pos 100)) (fin false 1 (negsuc 24)) ≡ accepted (fin false 11184811 (negsuc 148)))
+    × (dividedReading (threeHalves (pos 100)) (fin false 1 (negsuc 25)) ≡ refused 23)
+unfolding threeHalves dividedReading answer judged Ieee.toBits
+borders-divided = (refl, refl, refl, refl, refl, refl, refl, refl)

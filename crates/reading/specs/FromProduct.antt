@@ -18,11 +18,11 @@ use Rattle.quotient.specs.declared.Quotient.{Quotient}
 use Rattle.quotient.specs.Quotient.{quotientBy}
 use Rattle.quotient.specs.Answer.{divided}
 use Rattle.reading.specs.Reading.{placed, ranged, finished}
-use Rattle.reading.specs.Divided.{lowered}
+use Rattle.reading.specs.Divided.{quotientExponent}
 
 -- sign and exponent put on a quotient, unless 23 refuses it
 abbrev pub rangedQuotient : Factor → ℕ → Quotient → Outcome Float
-rangedQuotient f b v = placed b (v .significand) (lowered f b v)
+rangedQuotient f b v = placed b (v .significand) (quotientExponent f b v)
 
 module _ (f : Factor) (b : ℕ) (i : intact f ≡ true) (n : f .precision .bits ≡ prec binary32) where
   abbrev X : ℕ

@@ -37,11 +37,11 @@ use Rattle.factor.specs.SetUpLaws.{intact-sound}
 use Rattle.factor.specs.StoredLaws.{high-number}
 use Rattle.product.specs.Product.{argument, high}
 use Rattle.quotient.specs.declared.Quotient.{Quotient}
-use Rattle.quotient.specs.Quotient.{exact, quotientBy, valueOf}
+use Rattle.quotient.specs.Quotient.{byHigh, quotientBy, valueOf}
 use Rattle.quotient.specs.QuotientLaws.{HighBits}
 use Rattle.quotient.specs.Tells.{Tells as TellsOf, sound-high, sound-positive, sound-near, sound-quotient, sound-range}
 use Rattle.reading.specs.Reading.{unreadable, exponentOut, numberOf, conditions}
-use Rattle.reading.specs.Divided.{lowered, quotientOf, divided}
+use Rattle.reading.specs.Divided.{quotientExponent, quotientOf, dividedReading}
 use Rattle.reading.specs.Exponents.{scale-size, let-through, from-least}
 use Rattle.reading.specs.ReadingLaws.{number-value, number-normal}
 use Rattle.reading.specs.AnswerLaws.{is-intact, precision-is, is-normal}
@@ -55,7 +55,7 @@ quotientAt f b = quotientBy f (significandOf binary32 b)
 
 -- with sign and exponent put on: sign * RN(x / Ch) * 2 ^ (e - k)
 abbrev pub answerAt : Factor → ℕ → Fraction
-answerAt f b = let v = quotientAt f b in record { minus = signOf binary32 b; num = v .significand * up (lowered f b v); den = hid binary32 * down (lowered f b v) }
+answerAt f b = let v = quotientAt f b in record { minus = signOf binary32 b; num = v .significand * up (quotientExponent f b v); den = hid binary32 * down (quotientExponent f b v) }
 
 -- Ch * 2 ^ k
 abbrev pub divisor : Factor → Fraction
@@ -90,7 +90,7 @@ AnswerTells f b (refused k) = Unit {0}
 AnswerTells f b (accepted y) = ((zeroBits binary32 b ≡ true) × (y ≡ plusZero)) ⊎ ((zeroBits binary32 b ≡ false) × Tells f b y)
 
 -- ---- a quotient with an exponent put on: p / g being x / Ch * 2 ^ w, it rounds to the quotient times 2 ^ w; over a format r
-module _ (r : Format) (f : Factor) (s : Sound f) (n : f .precision .bits ≡ prec r) (X : ℕ) (xb : HasBits (prec r) X) (w z : ℤ) (at : z ≡ w +ℤ quotientBy f X .binade) (p g : Fraction) (P : 0 < p .den) (G : Positive g) (along : Scaled w (exact (prec r) (f .parts) X) (ratio p g)) where
+module _ (r : Format) (f : Factor) (s : Sound f) (n : f .precision .bits ≡ prec r) (X : ℕ) (xb : HasBits (prec r) X) (w z : ℤ) (at : z ≡ w +ℤ quotientBy f X .binade) (p g : Fraction) (P : 0 < p .den) (G : Positive g) (along : Scaled w (byHigh (prec r) (f .parts) X) (ratio p g)) where
   abbrev v : Quotient
   v = quotientBy f X
 
@@ -107,7 +107,7 @@ module _ (r : Format) (f : Factor) (s : Sound f) (n : f .precision .bits ≡ pre
   put-on : (S : ℕ) → Scaled w (valueOf (prec r) (record { significand = S; binade = v .binade })) (numberAt r S z)
   put-on S = subst (λ (z : ℤ). Scaled w (valueOf (prec r) (record { significand = S; binade = v .binade })) (numberAt r S z)) (sym at) (number-scaled r S w (v .binade))
 
-  exact-some : 0 < exact (prec r) (f .parts) X .den
+  exact-some : 0 < byHigh (prec r) (f .parts) X .den
   exact-some = mul-pos (pow-pos (prec r - 1)) (le-trans (pow-pos (f .precision .bits - 1)) (sound-high f s .least))
 
   number-some : 0 < down (v .binade) * hid r
@@ -115,8 +115,8 @@ module _ (r : Format) (f : Factor) (s : Sound f) (n : f .precision .bits ≡ pre
 
   rounds : let e = RN toEven (prec r) q in e .num * (hid r * down z) ≡ v .significand * up z * e .den
   rounds =
-      let y = exact (prec r) (f .parts) X in
-      let is = subst (λ (m : ℕ). Same (RN toEven m (exact m (f .parts) X)) (valueOf m v)) n (sound-quotient f s X x-bits .value toEven) in
+      let y = byHigh (prec r) (f .parts) X in
+      let is = subst (λ (m : ℕ). Same (RN toEven m (byHigh m (f .parts) X)) (valueOf m v)) n (sound-quotient f s X x-bits .value toEven) in
       same-scaled w (RN toEven (prec r) y) (valueOf (prec r) v) (RN toEven (prec r) q) (numberAt r (v .significand) z) (RN-some toEven (prec r) y) number-some
       (RN-scaled toEven (prec r) some y q (mul-pos (le-trans (pow-pos (prec r - 1)) (xb .least)) (pow-pos (prec r - 1))) exact-some (mul-pos P (G .above)) w along) (put-on (v .significand)) (is .1)
 
@@ -124,16 +124,16 @@ module _ (r : Format) (f : Factor) (s : Sound f) (n : f .precision .bits ≡ pre
   divides : exponentOut r z ≡ false → (x y : Float) → HasValue x (p .minus) (p .num) (p .den) → HasValue y (g .minus) (g .num) (g .den) → HasValue (div r x y) (q .minus) (v .significand * up z) (hid r * down z)
   divides o x y h k =
       let t = let-through r z o in
-      let e = exact (prec r) (f .parts) X in
+      let e = byHigh (prec r) (f .parts) X in
       let c = RN toEven (prec r) q in
-      let i = subst (λ (m : ℕ). AtMost (valueOf m (record { significand = 2 ^ (m - 1); binade = v .binade })) (exact m (f .parts) X) × AtMost (exact m (f .parts) X) (valueOf m (record { significand = 2 ^ m - 1; binade = v .binade }))) n (sound-range f s X x-bits) in
+      let i = subst (λ (m : ℕ). AtMost (valueOf m (record { significand = 2 ^ (m - 1); binade = v .binade })) (byHigh m (f .parts) X) × AtMost (byHigh m (f .parts) X) (valueOf m (record { significand = 2 ^ m - 1; binade = v .binade }))) n (sound-range f s X x-bits) in
       revalue (div r x y) (q .minus) (c .num) (c .den) (v .significand * up z) (hid r * down z) (RN-some toEven (prec r) q) rounds
       (div-in-binade r z (t .0 - 1) (from-least r z (t .0) (t .1) (t .2)) (omega (arith, t .3)) x y p g P (G .above) (G .some) h k
       (at-most-scaled w (valueOf (prec r) (record { significand = hid r; binade = v .binade })) e (numberAt r (hid r) z) q number-some exact-some (put-on (hid r)) along (i .0))
       (at-most-scaled w e (valueOf (prec r) (record { significand = 2 ^ prec r - 1; binade = v .binade })) q (numberAt r (2 ^ prec r - 1) z) exact-some number-some along (put-on (2 ^ prec r - 1)) (i .1)))
 
 -- ---- a reading that is let through, and not a zero
-module _ (f : Factor) (b : ℕ) (h : NoneHolds (unreadable f b)) (nonzero : zeroBits binary32 b ≡ false) (o : exponentOut binary32 (lowered f b (quotientAt f b)) ≡ false) where
+module _ (f : Factor) (b : ℕ) (h : NoneHolds (unreadable f b)) (nonzero : zeroBits binary32 b ≡ false) (o : exponentOut binary32 (quotientExponent f b (quotientAt f b)) ≡ false) where
   abbrev X : ℕ
   X = significandOf binary32 b
 
@@ -147,7 +147,7 @@ module _ (f : Factor) (b : ℕ) (h : NoneHolds (unreadable f b)) (nonzero : zero
   u = quotientAt f b
 
   abbrev c : ℤ
-  c = lowered f b u
+  c = quotientExponent f b u
 
   abbrev y : Float
   y = numberOf binary32 (signOf binary32 b) (u .significand) c
@@ -202,7 +202,7 @@ module _ (f : Factor) (b : ℕ) (h : NoneHolds (unreadable f b)) (nonzero : zero
   reading-some : 0 < readingAt b .den
   reading-some = mul-pos hid-some (down-pos e)
 
-  along : Scaled (e -ℤ k) (exact (prec binary32) (f .parts) X) (ratio (readingAt b) (divisor f))
+  along : Scaled (e -ℤ k) (byHigh (prec binary32) (f .parts) X) (ratio (readingAt b) (divisor f))
   along = ratio-scaled (argument (prec binary32) X) (high (prec binary32) (f .parts)) e k
 
   turned : c ≡ e -ℤ k +ℤ u .binade
@@ -277,8 +277,8 @@ module _ (f : Factor) (b : ℕ) (h : NoneHolds (unreadable f b)) (nonzero : zero
       }
 
 -- every answer to a reading tells the truth, whatever the factor and the reading
-pub quotient-tells : (f : Factor) (x : Float) → AnswerTells f (toBits binary32 x) (divided f x)
-unfolding divided
+pub quotient-tells : (f : Factor) (x : Float) → AnswerTells f (toBits binary32 x) (dividedReading f x)
+unfolding dividedReading
 quotient-tells f x = of-answer (AnswerTells f b) (conditions f b (quotientOf f b .exponent)) (numbered f b) (λ k. tt) (λ h. go (zeroBits binary32 b) refl h)
   where
     b : ℕ
@@ -292,6 +292,6 @@ quotient-tells f x = of-answer (AnswerTells f b) (conditions f b (quotientOf f b
         rw z (inr (refl, tells f b (t .0) z o))
 
 -- and a reading that none of 31 and 20 to 23 refuses is answered, with plus zero or the number
-pub quotient-answered : (f : Factor) (x : Float) → let b = toBits binary32 x in NoneHolds (conditions f b (quotientOf f b .exponent)) → divided f x ≡ accepted (numbered f b)
-unfolding divided
+pub quotient-answered : (f : Factor) (x : Float) → let b = toBits binary32 x in NoneHolds (conditions f b (quotientOf f b .exponent)) → dividedReading f x ≡ accepted (numbered f b)
+unfolding dividedReading
 quotient-answered f x h = let b = toBits binary32 x in none-refuses (conditions f b (quotientOf f b .exponent)) (numbered f b) h

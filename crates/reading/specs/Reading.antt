@@ -38,14 +38,18 @@ kindOf b = cond (zeroBits binary32 b) zero (normal b)
 abbrev pub exponentOut : Format → ℤ → Bool
 exponentOut f e = ltZ e (negsuc (emax f - 2)) || ltZ (pos (emax f)) e
 
--- S / 2 ^ (prec - 1) * 2 ^ e with a sign
+-- S / 2 ^ (prec - 1) * 2 ^ e with a sign, rounded, which changes nothing where 23 lets e through (`number-value`)
 unfoldable pub numberOf : Format → Bool → (S : ℕ) → ℤ → Float
 unfolding Ieee.round
 numberOf f s S e = Ieee.round f s (S * up e) (hid f * down e)
 
--- with the reading's sign, unless 23 refuses the exponent
-abbrev pub placed : ℕ → (S : ℕ) → ℤ → Outcome Float
-placed b S e = answer ((23, exponentOut binary32 e) ∷ []) (numberOf binary32 (signOf binary32 b) S e)
+-- the binary32 number of a significand S, an exponent e and the sign of the reading b
+abbrev pub signedLike : (b S : ℕ) → ℤ → Float
+signedLike b S e = numberOf binary32 (signOf binary32 b) S e
+
+-- or 23
+abbrev pub placed : (b S : ℕ) → ℤ → Outcome Float
+placed b S e = answer ((23, exponentOut binary32 e) ∷ []) (signedLike b S e)
 
 -- ---- an answer to a reading, whatever is made of it
 -- what is made of a zero, and of any other reading, with the exponent that this gets
@@ -54,7 +58,7 @@ pub record Made (A : Type 0) : Type 0 where
   pub exponent : ℤ
   pub value : A
 
--- all conditions that refuse a reading, e being the exponent that it would get; a zero has none
+-- all conditions that refuse a reading, e being the exponent that its product or quotient would get; a zero has none
 abbrev pub conditions : Factor → ℕ → ℤ → List (ℕ × Bool)
 conditions f b e = unreadable f b ++ (23, not (zeroBits binary32 b) && exponentOut binary32 e) ∷ []
 
@@ -63,16 +67,16 @@ answerTo f b m = answer (conditions f b (m .exponent)) (cond (zeroBits binary32 
 
 -- ---- a product, of the reading's significand, whoever made it
 -- its exponent: the reading's, plus k and the binade
-abbrev pub raised : Factor → ℕ → Product → ℤ
-raised f b v = exponentOf binary32 b +ℤ (f .applied .scale +ℤ pos (v .binade))
+abbrev pub productExponent : Factor → ℕ → Product → ℤ
+productExponent f b v = exponentOf binary32 b +ℤ (f .applied .scale +ℤ pos (v .binade))
 
 -- sign and exponent put on a value with its mark
 abbrev pub putOn : Factor → ℕ → Marked Product → Marked Float
-putOn f b a = record { mark = a .mark; value = numberOf binary32 (signOf binary32 b) (a .value .significand) (raised f b (a .value)) }
+putOn f b a = record { mark = a .mark; value = signedLike b (a .value .significand) (productExponent f b (a .value)) }
 
 -- unless 23 refuses it
 abbrev pub ranged : Factor → ℕ → Marked Product → Outcome (Marked Float)
-ranged f b a = answer ((23, exponentOut binary32 (raised f b (a .value))) ∷ []) (putOn f b a)
+ranged f b a = answer ((23, exponentOut binary32 (productExponent f b (a .value))) ∷ []) (putOn f b a)
 
 -- what becomes of a normal reading's value: 23, or the number with its mark
 unfoldable pub finished : Factor → ℕ → Product → Outcome (Marked Float)
@@ -81,7 +85,7 @@ finished f b v = ranged f b (marked f (significandOf binary32 b) v)
 
 -- a zero gives plus zero, right; any other reading the number with its mark
 abbrev pub productOf : Factor → ℕ → Product → Made (Marked Float)
-productOf f b v = record { of-zero = record { mark = Mark.Right; value = plusZero }; exponent = raised f b v; value = putOn f b (marked f (significandOf binary32 b) v) }
+productOf f b v = record { of-zero = record { mark = Mark.Right; value = plusZero }; exponent = productExponent f b v; value = putOn f b (marked f (significandOf binary32 b) v) }
 
 -- that of the two-step device
 abbrev pub twoSteps : Factor → ℕ → Made (Marked Float)

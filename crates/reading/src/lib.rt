@@ -15,7 +15,7 @@ ghost use Rattle.factor.specs.SetUp.{Sound};
 ghost use Rattle.product.specs.Product.{productBy};
 ghost use Rattle.product.specs.Units.{firstUnits};
 ghost use Rattle.reading.specs.Reading.{unreadable, kindOf, placed, finished, applied, outcomeOf, numberSays, takenOf};
-ghost use Rattle.reading.specs.Divided.{divided};
+ghost use Rattle.reading.specs.Divided.{dividedReading};
 
 // The biased exponents of normal numbers.
 const LEAST_EXPONENT: i32 = 1;
@@ -30,7 +30,7 @@ pub enum ReadingAnswer {
     Refused(u32),
 }
 
-// The answer to a division: the quotient, which has no mark, as a binary32 number, or a refusal: 31, 20, 21, 22 or 23.
+// A binary32 number without a mark, or a refusal: what a division answers (31, 20, 21, 22 or 23), and what `place` makes (23).
 pub enum NumberAnswer {
     Number(f32),
     Refused(u32),
@@ -147,7 +147,7 @@ pub fn read(f: Factor, reading: f32) -> ReadingAnswer
 
 // Divides a reading: the quotient, or the first of the refusals 31, 20, 21, 22 and 23 whose condition holds. A zero of either sign gives plus zero.
 pub fn divide(f: Factor, reading: f32) -> NumberAnswer
-    ensures { λ r. ⌜ numberSays r ≡ divided f reading ⌝ }
+    ensures { λ r. ⌜ numberSays r ≡ dividedReading f reading ⌝ }
 {
     match take(f, reading) {
         Taken::Refused(number) => NumberAnswer::Refused(number),

@@ -1,5 +1,5 @@
-// Rounding numbers of one word and of two words to n bits: where the number lies between its neighbours, which of them is taken, and the carry.
-// Each contract is an equation with RN (`rounded` of the crate `rounding`).
+// Rounding numbers of one word and of two words to n bits, and quotients of words to whole numbers: where the number lies between its neighbours, which of them is taken, and the carry.
+// Contracts are equations with RN (`rounded` of the crate `rounding`), or with `nearest`, `location` and `choose`, of which it is made.
 use rounding::Location;
 use rounding::Rounded;
 use rounding::RoundedSigned;
@@ -15,7 +15,7 @@ ghost use Rattle.rounding.specs.ByDigits.{padded};
 ghost use Rattle.wide.specs.Value.{wordBits, halfWord, valueOf};
 ghost use Rattle.round.specs.Neighbour.{neighbourAt, neighbour};
 
-// Where r / (2 * half) lies between 0 and 1.
+// Where r / (2 * half) lies between 0 and 1, for an r below 2 * half.
 pub fn locate(r: Wide, half: Wide) -> Location
     ensures { λ l. ⌜ l ≡ location (valueOf r) (valueOf half * 2) ⌝ }
 {
@@ -41,7 +41,7 @@ pub fn tie_up(q: u64, rule: TieRule) -> bool
     }
 }
 
-// The neighbour of q + r / (2 * half) that is taken, q or q + 1: the upper one past half, and at half where the rule says so. By a comparison and no branch, since which one it is cannot be foreseen.
+// The neighbour of q + r / (2 * half) that is taken, q or q + 1, for an r below 2 * half: the upper one past half, and at half where the rule says so. By a comparison and no branch, since which one it is cannot be foreseen.
 pub fn choose_neighbour(q: u64, r: Wide, half: Wide, rule: TieRule) -> u64
     requires { ⌜ (q + 1 < 2 ^ wordBits) × (r .hi + 1 < 2 ^ wordBits) × (0 < valueOf half) ⌝ }
     ensures { λ v. ⌜ v ≡ choose (ruleOf rule) q (location (valueOf r) (valueOf half * 2)) ⌝ }

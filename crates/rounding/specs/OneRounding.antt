@@ -39,6 +39,6 @@ module _ (n : ℕ) (C h : Fraction) (c : Positive C) (k : Positive h) (close : A
         (distance-in-units S A B (ratio x h) (ratio x C) a b) (times-in-units (2 ^ n) S 1 B false (over 1 n) (ratio x C) (over-in-units 1 n) b)
         (omega (arith, mul-le-mul-right S far, mul-le-mul-right (C .den * x .num * S) one))
 
-    -- |RN(x / h) - x / C| < 3/2 ulp(x / C) (source document 003, Property 3.1)
+    -- |RN(x / h) - x / C| < 3/2 ulp(x / C) (request W1; source document 003, Property 3.1, is a little sharper)
     pub ratio-error : (rule : Rule) → 0 < n → Below (distance (RN rule n (ratio x h)) (ratio x C)) (times (over 3 1) (ulp n (ratio x C)))
     ratio-error rule P = ulp-near rule n P (ratio x C) (ratio-positive x C p c) (ratio x h) (ratio-positive x h p k) ratio-near

@@ -1,8 +1,8 @@
 // Sweeps: a range of significands searched for those that fail, in calls of bounded work (document 01, "A sweep").
 use factor::Factor;
 use factor::Precision;
+use marks::Judgement;
 use marks::Mark;
-use marks::Verdict;
 use search::Found;
 use search::Place;
 use suspects::Window;
@@ -119,26 +119,26 @@ fn state_out(s: SweepState) -> bool
 }
 
 // The first refusal of a call whose condition holds: state before input, the smaller number first.
-fn refusal_of(s: SweepState, cap: u64, size: usize, free: usize) -> Verdict
+fn refusal_of(s: SweepState, cap: u64, size: usize, free: usize) -> Judgement
     ensures { λ r. ⌜ First (conditions engine (viewOf s) (termsBy cap size free)) (refusalOf r) ⌝ }
 {
     let f = s.factor;
     if !factor::is_intact(f) {
-        return Verdict::Refused(31);
+        return Judgement::Refused(31);
     }
     if state_out(s) {
-        return Verdict::Refused(32);
+        return Judgement::Refused(32);
     }
     if s.finished {
-        return Verdict::Refused(33);
+        return Judgement::Refused(33);
     }
     if cap == 0 {
-        return Verdict::Refused(18);
+        return Judgement::Refused(18);
     }
     if size <= free {
-        return Verdict::Refused(19);
+        return Judgement::Refused(19);
     }
-    Verdict::Taken
+    Judgement::Passed
 }
 
 // None found, after some rounds.
@@ -379,8 +379,8 @@ pub fn sweep_call(state: SweepState, cap: u64, list: &mut [u32], free: usize) ->
     let size = list.len();
     let verdict = refusal_of(state, cap, size, free);
     match verdict {
-        Verdict::Refused(number) => refused(state, number),
-        Verdict::Taken => {
+        Judgement::Refused(number) => refused(state, number),
+        Judgement::Passed => {
             let swept = sweep_on(state, cap, &mut list[free..]);
             let mut moved = swept;
             moved.place = free + swept.place;

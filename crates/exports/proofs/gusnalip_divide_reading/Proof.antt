@@ -6,7 +6,7 @@ use borrow.Author.Needs.{needs}
 use lib.Ieee.{binary32, ofBits}
 use Rattle.reading.specs.declared.NumberAnswer.{NumberAnswer}
 use Rattle.reading.specs.Reading.{numberSays}
-use Rattle.reading.specs.Divided.{divided}
+use Rattle.reading.specs.Divided.{dividedReading}
 use Rattle.exports.specs.Answers.{Answer, plainAnswer, readingWords, divideReadingTo}
 use Rattle.exports.specs.AnswerLaws.{enough, answered, not-taken, gives}
 use Rattle.exports.proofs.gusnalip_divide_reading.Statement.{statement}
@@ -21,8 +21,8 @@ unfolding divideReadingTo
 answer s =
     let told = s .before .before .before in
     let a = told .before .before .before .before .before .args in
-    answered (plainAnswer readingWords) (λ f. divided f (ofBits binary32 (a .reading))) (told .before .before .take-factor .ensures) (told .f .given .1)
-    (s .divide .ensures ∙ ap (divided (told .f .given .0 .0)) (s .before .float-from .ensures))
+    answered (plainAnswer readingWords) (λ f. dividedReading f (ofBits binary32 (a .reading))) (told .before .before .take-factor .ensures) (told .f .given .1)
+    (s .divide .ensures ∙ ap (dividedReading (told .f .given .0 .0)) (s .before .float-from .ensures))
 
 -- there is room for the quotient
 roomy : (s : tie.After-divide) → 1 ≤ length (s .before .before .before .before .before .before .before .before .args .out .now)
@@ -35,7 +35,7 @@ refused c =
     let told = c .before in
     let take = told .before .before in
     let a = take .before .before .before .args in
-    gives _ (refl, refl) (not-taken (plainAnswer readingWords) (λ f. divided f (ofBits binary32 (a .reading))) (take .take-factor .ensures) (told .k2 .given .1))
+    gives _ (refl, refl) (not-taken (plainAnswer readingWords) (λ f. dividedReading f (ofBits binary32 (a .reading))) (take .take-factor .ensures) (told .k2 .given .1))
 
 pub gusnalip-divide-reading-spec : {M : Type 1} → statement M
 gusnalip-divide-reading-spec =

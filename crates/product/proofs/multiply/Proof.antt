@@ -3,7 +3,7 @@ use mathlib.Core.Path.{sym, ap, _∙_}
 use Prim.Native.Nat.{ℕ}
 use borrow.Author.Needs.{needs}
 use Rattle.marks.specs.Answers.{NoneHolds, accepted}
-use Rattle.marks.specs.AnswerLaws.{verdict-taken, verdict-refuses, none-refuses}
+use Rattle.marks.specs.AnswerLaws.{judged-passed, judged-refused, none-refuses}
 use Rattle.rounding.specs.Round.{HasBits}
 use Rattle.factor.specs.declared.Factor.{Factor}
 use Rattle.factor.specs.SetUp.{Sound}
@@ -23,7 +23,7 @@ module _ (c : tie.After-enum-told) where
   x = c .before .before .before .args .x
 
   none : NoneHolds (conditions f x)
-  none = verdict-taken (c .before .before .refusal-of .ensures) (c .enum-told .given .1)
+  none = judged-passed (c .before .before .refusal-of .ensures) (c .enum-told .given .1)
 
   through : Sound f × HasBits (f .precision .bits) x
   through = let-through f x none
@@ -40,7 +40,7 @@ mark-of-requires c κs =
 
 returns : tie.Need-returns
 unfolding multiplied
-returns c = verdict-refuses (c .before .before .before .refusal-of .ensures) (c .before .number .given .1) _
+returns c = judged-refused (c .before .before .before .refusal-of .ensures) (c .before .number .given .1) _
 
 returns-2 : tie.Need-returns-2
 unfolding multiplied

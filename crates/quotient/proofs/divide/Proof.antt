@@ -2,7 +2,7 @@
 use mathlib.Core.Path.{sym, ap, _∙_}
 use borrow.Author.Needs.{needs}
 use Rattle.marks.specs.Answers.{NoneHolds, accepted}
-use Rattle.marks.specs.AnswerLaws.{verdict-taken, verdict-refuses, none-refuses}
+use Rattle.marks.specs.AnswerLaws.{judged-passed, judged-refused, none-refuses}
 use Rattle.product.specs.Answer.{conditions}
 use Rattle.product.specs.AnswerLaws.{let-through}
 use Rattle.quotient.specs.Answer.{divided}
@@ -11,14 +11,14 @@ use Rattle.quotient.proofs.divide.Tie as tie
 
 -- nothing refuses it
 none : (c : tie.After-enum-told) → let a = c .before .before .before .args in NoneHolds (conditions (a .f) (a .x))
-none c = verdict-taken (c .before .before .refusal-of .ensures) (c .enum-told .given .1)
+none c = judged-passed (c .before .before .refusal-of .ensures) (c .enum-told .given .1)
 
 quotient-of-requires : tie.Need-quotient-of-requires
 quotient-of-requires c κs = let a = c .before .before .before .args in let-through (a .f) (a .x) (none c)
 
 returns : tie.Need-returns
 unfolding divided
-returns c = verdict-refuses (c .before .before .before .refusal-of .ensures) (c .before .number .given .1) _
+returns c = judged-refused (c .before .before .before .refusal-of .ensures) (c .before .number .given .1) _
 
 returns-2 : tie.Need-returns-2
 unfolding divided

@@ -15,7 +15,8 @@ use Rattle.round.specs.declared.Neighbour.{Neighbour}
 use Rattle.rounding.specs.Grid.{nearest}
 use Rattle.factor.specs.Context.{tieRule, contextOf}
 use Rattle.product.specs.SoundLaws.{sound-fine}
-use Rattle.quotient.specs.QuotientLaws.{lowered, quotient-is}
+use Rattle.quotient.specs.Quotient.{binadesBelow}
+use Rattle.quotient.specs.QuotientLaws.{quotient-is}
 use Rattle.quotient.specs.Tells.{sound-high}
 use Rattle.quotient.proofs.quotient_of.Statement.{statement}
 use Rattle.quotient.proofs.quotient_of.Tie as tie
@@ -91,7 +92,7 @@ returns c =
     let f = a k .args .f in
     let s = a k .pre .0 in
     let e = k .before .binades-below .ensures in
-    let taken : c .nearest-quotient .result .taken ≡ nearest tieRule (X k * 2 ^ (n k - 1 + lowered (H k) (X k))) (H k) =
+    let taken : c .nearest-quotient .result .taken ≡ nearest tieRule (X k * 2 ^ (n k - 1 + binadesBelow (X k) (H k))) (H k) =
     ap (λ (m : Neighbour). m .taken) (c .nearest-quotient .ensures) ∙ ap (λ (z : ℕ). nearest tieRule z (H k)) (word-is k ∙ ap (λ (z : ℕ). X k * 2 ^ (n k - 1 + z)) e) in
     ap₂ (λ (S : ℕ) (z : ℤ). record { significand = S; binade = z }) taken (ap (λ (z : ℕ). toZ w32 (ofZ w32 (pos 0 -ℤ toZ w32 z))) e ∙ minus-is (ltb (X k) (H k)))
     ∙ sym (quotient-is (contextOf f) (sound-fine f s .some) (f .parts) (X k) (sound-high f s) (a k .pre .1))

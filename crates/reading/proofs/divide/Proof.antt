@@ -15,7 +15,7 @@ use Rattle.quotient.specs.declared.Quotient.{Quotient}
 use Rattle.quotient.specs.Quotient.{quotientBy}
 use Rattle.quotient.specs.Tells.{sound-quotient, sound-binade}
 use Rattle.reading.specs.Reading.{placed}
-use Rattle.reading.specs.Divided.{lowered, quotientOf, divided}
+use Rattle.reading.specs.Divided.{quotientExponent, quotientOf, dividedReading}
 use Rattle.reading.specs.Exponents.{size-sum, scale-size, size-negated}
 use Rattle.reading.specs.AnswerLaws.{Ready, ready, normal-answered, zero-answered, refused-answered}
 use Rattle.reading.proofs.Laws.{kept}
@@ -80,24 +80,24 @@ place-requires : tie.Need-place-requires
 place-requires c κs = let q = c .before .before .before .before in (subst (λ (z : ℤ). natAbs z ≤ 101) (sym (is-kept q .1)) (omega (arith, few q)), v-bits q)
 
 returns : tie.Need-returns
-unfolding divided
+unfolding dividedReading
 returns c = let t = c .before .before .before in let a = t .before .args in refused-answered (a .f) (a .reading) (t .take .result) (t .take .ensures) (quotientOf (a .f)) (c .before .number .given .1)
 
 returns-2 : tie.Need-returns-2
-unfolding divided
+unfolding dividedReading
 returns-2 c =
     let t = c .before .before .before in
     let a = t .before .args in
     ap accepted (c .plus-zero .ensures) ∙ zero-answered (a .f) (a .reading) (t .take .result) (t .take .ensures) (quotientOf (a .f)) (c .before .enum-told .given .1)
 
 returns-3 : tie.Need-returns-3
-unfolding divided
+unfolding dividedReading
 returns-3 c =
     let q = c .before .before .before .before .before in
     let n = k q in
     c .place .ensures
     ∙ ap (λ (z : ℤ). placed (b n) (v q .significand) (exponentOf binary32 (b n) +ℤ z)) (is-kept q .1)
-    ∙ ap (λ (w : Quotient). placed (b n) (w .significand) (lowered (f n) (b n) w)) (v-is q)
+    ∙ ap (λ (w : Quotient). placed (b n) (w .significand) (quotientExponent (f n) (b n) w)) (v-is q)
     ∙ normal-answered (f n) (x n) (n .before .before .before .take .result) (n .before .before .before .take .ensures) (quotientOf (f n)) (n .before .bits .given .1)
 
 pub divide-spec : {M : Type 1} → statement M

@@ -16,7 +16,7 @@ use Rattle.rounding.specs.Round.{HasBits}
 use Rattle.floats.specs.Fields.{exponentOf}
 use Rattle.floats.specs.Pattern.{significand-bits}
 use Rattle.product.specs.Marks.{markBy}
-use Rattle.reading.specs.Reading.{raised, placed, finished, numberSays}
+use Rattle.reading.specs.Reading.{productExponent, placed, finished, numberSays}
 use Rattle.reading.specs.Exponents.{size-sum, scale-size}
 use Rattle.reading.proofs.Laws.{kept}
 use Rattle.reading.proofs.finish.Statement.{statement}
@@ -48,7 +48,7 @@ place-requires : tie.Need-place-requires
 place-requires c κs = (rw (is-kept c .1) (omega (arith, few c)), a c .pre .2)
 
 -- ---- what the number is, or its refusal
-placed-is : (c : tie.After-place) → let s = a (c .before) .args in numberSays (c .place .result) ≡ placed (s .bits) (s .v .significand) (raised (s .f) (s .bits) (s .v))
+placed-is : (c : tie.After-place) → let s = a (c .before) .args in numberSays (c .place .result) ≡ placed (s .bits) (s .v .significand) (productExponent (s .f) (s .bits) (s .v))
 placed-is c =
     let s = a (c .before) .args in
     c .place .ensures ∙ ap (λ (z : ℤ). placed (s .bits) (s .v .significand) (exponentOf binary32 (s .bits) +ℤ z)) (is-kept (c .before) .1)
