@@ -1,4 +1,4 @@
--- Laws of quotients: powers of two in one; and of two floats it is the exact quotient, rounded, which is RN where it lies in one binade of the format's normal numbers. Assumes nothing.
+-- Laws of quotients: powers of two in them; and the quotient of two floats, which is RN of the exact one where that lies in one binade of the format's normal numbers. Assumes nothing.
 use mathlib.Core.Path.{_≡_, sym, ap, ap₂, _∙_, subst}
 use mathlib.Core.Bool.{Bool, false}
 use Prim.Native.Nat.{ℕ, _-_, _*_, _^_, _≤_, _<_}
@@ -44,7 +44,7 @@ div-value f (fin u m e) (fin v n g) s t a c b d C B D h k =
 abbrev pub numberAt : Format → (S : ℕ) → ℤ → Fraction
 numberAt f S z = record { minus = false; num = S * up z; den = hid f * down z }
 
--- it is 2 ^ e times what it is without 2 ^ e
+-- S / hid * 2 ^ (e + b) is 2 ^ e times S / hid * 2 ^ b
 pub number-scaled : (f : Format) (S : ℕ) (e b : ℤ) → Scaled e (times (power b) (over S (prec f - 1))) (numberAt f S (e +ℤ b))
 number-scaled f S e b = omega (arith, ap (λ (t : ℕ). t * (S * hid f)) (powers-add e b))
 
@@ -65,7 +65,7 @@ module _ (f : Format) (z : ℤ) (j : ℕ) (at : z +ℤ pos (emax f - 1) ≡ pos 
       upper : (S u c N d L J I : ℕ) → 0 < c → N * c ≤ S * u * d → S * u * L ≡ S * J * c → J ≤ I → N * L ≤ S * I * d
       upper S u c N d L J I C h e o = le-of-mul-le-mul-right {k = c} (omega (arith, mul-le-mul-right L h, ap (λ (z : ℕ). z * d) e, mul-le-mul-left (S * c * d) o)) C
 
--- where the exact quotient of two floats is one, their quotient in the format is RN of it
+-- where the exact quotient of two floats lies in such a binade, their quotient in the format is RN of it
 pub div-in-binade : (f : Format) (z : ℤ) (j : ℕ) → z +ℤ pos (emax f - 1) ≡ pos j → j ≤ 2 * emax f - 1 → (x y : Float) (p q : Fraction) → 0 < p .den → 0 < q .num → 0 < q .den
     → HasValue x (p .minus) (p .num) (p .den) → HasValue y (q .minus) (q .num) (q .den) → AtMost (numberAt f (hid f) z) (ratio p q) → AtMost (ratio p q) (numberAt f (2 ^ prec f - 1) z)
     → let r = RN toEven (prec f) (ratio p q) in HasValue (div f x y) (r .minus) (r .num) (r .den)

@@ -34,7 +34,7 @@ three-halves :
 unfolding factorAt divided answer judged Ieee.toBits size
 three-halves = (refl, refl, refl)
 
--- C just below 2, whose high part is 2: 1 gives exactly 1/2, and no x more than 1; C = 1: the least x and the largest give themselves
+-- C just below 2, whose high part is 2: 1 gives exactly 1/2, and the largest x a quotient below 1; C = 1: the least x and the largest give themselves
 ends-of-the-high-part :
     (divided (factorAt 4 (2 ^ 63 - 1)) 8 ≡ is 8 (negsuc 0))
     × (divided (factorAt 4 (2 ^ 63 - 1)) 15 ≡ is 15 (negsuc 0))

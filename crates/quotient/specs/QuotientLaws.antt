@@ -40,14 +40,14 @@ odd-multiple (suc m) Y q H h e =
     omega (arith, odd-multiple m Y q (H / 2) (omega arith) f, pow-succ' 2 m)
 
 -- X * 2 ^ t / H has n digits before the point, and rounding it carries nothing into another
-pub record HasDigits (n H X t : ℕ) : Type 0 where
-  pub least : 2 ^ (n - 1) * H ≤ X * 2 ^ t
-  pub most : X * 2 ^ t ≤ (2 ^ n - 1) * H
+record HasDigits (n H X t : ℕ) : Type 0 where
+  least : 2 ^ (n - 1) * H ≤ X * 2 ^ t
+  most : X * 2 ^ t ≤ (2 ^ n - 1) * H
   -- and is half way between no two whole numbers
-  pub untied : (q : ℕ) → 2 * (X * 2 ^ t) ≡ 2 * (q * H) + H → ⊥
+  untied : (q : ℕ) → 2 * (X * 2 ^ t) ≡ 2 * (q * H) + H → ⊥
 
 module _ (n : ℕ) (P : 0 < n) (H X : ℕ) (h : HighBits n H) (x : HasBits n X) where
-  pub high-some : 0 < H
+  high-some : 0 < H
   high-some = le-trans (pow-pos (n - 1)) (h .least)
 
   -- below 1: in the unit 2 ^ - n
@@ -74,7 +74,7 @@ module _ (n : ℕ) (P : 0 < n) (H X : ℕ) (h : HighBits n H) (x : HasBits n X) 
       }
 
   -- by one test
-  pub scaled : HasDigits n H X (n - 1 + binadesBelow X H)
+  scaled : HasDigits n H X (n - 1 + binadesBelow X H)
   scaled = go (ltb X H) refl
     where
       go : (b : Bool) → ltb X H ≡ b → HasDigits n H X (n - 1 + cond b 1 0)
@@ -104,7 +104,7 @@ module _ (K : Context) (P : 0 < K .n) (p : Parts) (X : ℕ) (h : HighBits (K .n)
   s = scaled n P H X h x
 
   module _ (rule : Rule) where
-    pub nearest-bits : HasBits n (nearest rule N H)
+    nearest-bits : HasBits n (nearest rule N H)
     nearest-bits = record { least = nearest-ge rule N H (2 ^ (n - 1)) some (s .least); most = omega (arith, nearest-le rule N H (2 ^ n - 1) some (s .most), pow-pos n) }
 
     rounded-exact : rounded rule n (byHigh n p X .num) (byHigh n p X .den) ≡ record { significand = nearest rule N H; exponent = minus 0 t; location = location (N % H) H }
@@ -172,8 +172,8 @@ module _ (K : Context) (P : 0 < K .n) (p : Parts) (X : ℕ) (h : HighBits (K .n)
       rw quotient-is (omega (arith, d, e, mul-le-mul-right (u * g) (s .least)), omega (arith, d, e, mul-le-mul-right (u * g) (s .most)))
 
   -- its binade is -1 below 1, and 0 from there on
-  pub quotient-low : X < H → quotient K p X .binade ≡ minus 0 1
-  quotient-low l = ap (λ (v : Quotient). v .binade) quotient-is ∙ ap (λ (z : Bool). minus 0 (cond z 1 0)) (lt-ltb X H l)
+  pub quotient-below-one : X < H → quotient K p X .binade ≡ minus 0 1
+  quotient-below-one l = ap (λ (v : Quotient). v .binade) quotient-is ∙ ap (λ (z : Bool). minus 0 (cond z 1 0)) (lt-ltb X H l)
 
-  pub quotient-high : H ≤ X → quotient K p X .binade ≡ minus 0 0
-  quotient-high l = ap (λ (v : Quotient). v .binade) quotient-is ∙ ap (λ (z : Bool). minus 0 (cond z 1 0)) (le-ltb X H l)
+  pub quotient-from-one : H ≤ X → quotient K p X .binade ≡ minus 0 0
+  quotient-from-one l = ap (λ (v : Quotient). v .binade) quotient-is ∙ ap (λ (z : Bool). minus 0 (cond z 1 0)) (le-ltb X H l)

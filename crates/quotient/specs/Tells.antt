@@ -31,7 +31,7 @@ use Rattle.product.specs.SoundLaws.{sound-fine}
 use Rattle.quotient.specs.declared.Quotient.{Quotient}
 use Rattle.quotient.specs.Quotient.{byHigh, once, quotientBy, valueOf}
 use Rattle.quotient.specs.Answer.{divided}
-use Rattle.quotient.specs.QuotientLaws.{HighBits, never-tied, quotient-any-rule, quotient-bits, quotient-value, quotient-range, quotient-low, quotient-high}
+use Rattle.quotient.specs.QuotientLaws.{HighBits, never-tied, quotient-any-rule, quotient-bits, quotient-value, quotient-range, quotient-below-one, quotient-from-one}
 
 -- ---- what is said
 -- x / C, for a significand X
@@ -41,7 +41,7 @@ exactBy n X C = ratio (argument n X) C
 pub record Tells (f : Factor) (X : ℕ) (v : Quotient) : Type 0 where
   -- a significand of n bits, in binade -1 below 1, where X is below the high significand, and in binade 0 from there on
   pub bits : HasBits (f .precision .bits) (v .significand)
-  pub low : X < f .parts .high → v .binade ≡ negsuc 0
+  pub below-one : X < f .parts .high → v .binade ≡ negsuc 0
   pub from-one : f .parts .high ≤ X → v .binade ≡ pos 0
   -- it is RN(x / Ch), by whatever tie rule, since x / Ch is never half way between two numbers of n bits
   pub value : (rule : Rule) → Same (RN rule (f .precision .bits) (byHigh (f .precision .bits) (f .parts) X)) (valueOf (f .precision .bits) v)
@@ -107,8 +107,8 @@ module _ (f : Factor) (s : Sound f) where
     sound-quotient =
         record {
           bits = quotient-bits K (ok .some) (f .parts) X sound-high x;
-          low = quotient-low K (ok .some) (f .parts) X sound-high x;
-          from-one = quotient-high K (ok .some) (f .parts) X sound-high x;
+          below-one = quotient-below-one K (ok .some) (f .parts) X sound-high x;
+          from-one = quotient-from-one K (ok .some) (f .parts) X sound-high x;
           value = value;
           untied = never-tied K (ok .some) (f .parts) X sound-high x;
           near = near;
@@ -123,7 +123,7 @@ module _ (f : Factor) (s : Sound f) where
     sound-binade = go (decLt X (f .parts .high))
       where
         go : Dec (X < f .parts .high) → natAbs (quotientBy f X .binade) ≤ 1
-        go (yes l) = rw (sound-quotient .low l) (omega arith)
+        go (yes l) = rw (sound-quotient .below-one l) (omega arith)
         go (no l) = rw (sound-quotient .from-one (omega arith)) (omega arith)
 
 -- every answer tells the truth, whatever the factor and the number

@@ -26,7 +26,11 @@ module _ (f : Factor) (b : ℕ) (h : NoneHolds (unreadable f b)) where
   pub precision-is : f .precision .bits ≡ prec binary32
   precision-is = eqb-true (f .precision .bits) (prec binary32) (not-false _ (h .1 .0))
 
-  -- it is a normal number, unless it is a zero
+  -- unless it is a zero, it is answered with what is made of it, if 23 does not refuse that
+  pub others-answered : {A : Type 0} (m : Made A) → zeroBits binary32 b ≡ false → answer ((23, exponentOut binary32 (m .exponent)) ∷ []) (m .value) ≡ answerTo f b m
+  others-answered m z = rw z (sym (rest-answers (unreadable f b) _ h _))
+
+  -- and it is a normal number
   pub is-normal : zeroBits binary32 b ≡ false → Normal binary32 b
   is-normal z = normal-others binary32 b (h .1 .1 .0) z (h .1 .1 .1 .0)
 
@@ -73,8 +77,7 @@ module _ (f : Factor) (x : Float) (t : Taken) (is : takenOf t ≡ answer (unread
     pub normal-answered : {b : ℕ} → t ≡ Taken.Normal b → answer ((23, exponentOut binary32 (g b .exponent)) ∷ []) (g b .value) ≡ answerTo f c (g c)
     normal-answered {b} e =
         let k = taken-normal e in
-        let here : answer ((23, exponentOut binary32 (g b .exponent)) ∷ []) (g b .value) ≡ answerTo f b (g b) = rw (k .1) (sym (rest-answers (unreadable f b) _ (k .0) _)) in
-        here ∙ ap (λ (b : ℕ). answerTo f b (g b)) (k .2)
+        others-answered f b (k .0) (g b) (k .1) ∙ ap (λ (b : ℕ). answerTo f b (g b)) (k .2)
 
     -- a zero with what is made of a zero
     pub zero-answered : t ≡ Taken.Zero → accepted (g c .of-zero) ≡ answerTo f c (g c)

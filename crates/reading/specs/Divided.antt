@@ -8,11 +8,15 @@ use Rattle.factor.specs.declared.Factor.{Factor}
 use Rattle.factor.specs.SetUp.{intact}
 use Rattle.quotient.specs.declared.Quotient.{Quotient}
 use Rattle.quotient.specs.Quotient.{quotient, quotientBy}
-use Rattle.reading.specs.Reading.{numberOf, signedLike, Made, answerTo}
+use Rattle.reading.specs.Reading.{numberOf, signedLike, placed, Made, answerTo}
 
 -- the exponent of a quotient: the reading's, plus the binade less k
 abbrev pub quotientExponent : Factor → ℕ → Quotient → ℤ
 quotientExponent f b v = exponentOf binary32 b +ℤ (v .binade -ℤ f .applied .scale)
+
+-- sign and exponent put on a quotient, unless 23 refuses it
+abbrev pub placedQuotient : Factor → ℕ → Quotient → Outcome Float
+placedQuotient f b v = placed b (v .significand) (quotientExponent f b v)
 
 -- a zero, of either sign, gives plus zero; any other reading the quotient with its sign, and no mark
 abbrev pub quotientOf : Factor → ℕ → Made Float

@@ -14,7 +14,7 @@ use Rattle.floats.specs.Powers.{sub-pos, sub-le, emax-two}
 use Rattle.factor.specs.SetUp.{scaleOut}
 use Rattle.reading.specs.Reading.{exponentOut}
 
--- ---- an exponent by its biased exponent F, productExponent
+-- ---- an exponent by its biased exponent F, with r put on
 pub biased-is : (f : Format) (F : ℕ) (r : ℤ) → minus F (emax f) +ℤ r +ℤ pos (emax f) ≡ pos F +ℤ r
 biased-is f F r =
     +ℤ-assoc (minus F (emax f)) r (pos (emax f)) ∙ ap (λ (z : ℤ). minus F (emax f) +ℤ z) (+ℤ-comm r (pos (emax f))) ∙ sym (+ℤ-assoc (minus F (emax f)) (pos (emax f)) r)

@@ -1,4 +1,4 @@
--- What an answer to a reading's division tells, for every factor and every reading (`quotient-answered`, `quotient-tells`): it is RN(x / Ch) with sign and exponent put on, exactly; one division of the standard,
+-- What an answer to a reading's division tells, for every factor and every reading (`divided-reading-answered`, `divided-reading-tells`): plus zero for a zero, which is left out of what follows; else RN(x / Ch) with sign and exponent put on, exactly; one division of the standard,
 -- of significands and of the reading itself by Ch * 2 ^ k, gives the same; and it is less than 3/2 units in the last place from the reading / (C * 2 ^ k) for every fraction C between the ends. Assumes nothing.
 use mathlib.Core.Path.{_≡_, refl, sym, ap, _∙_, subst}
 use mathlib.Core.Bool.{Bool, true, false, not, _&&_, cond}
@@ -76,12 +76,12 @@ pub record Tells (f : Factor) (b : ℕ) (y : Float) : Type 0 where
   -- y is sign * RN(x / Ch) * 2 ^ (e - k), exactly, and a normal number
   pub value : Is y (answerAt f b)
   pub normal : Normal binary32 (toBits binary32 y)
-  -- one binary32 division of the significand x by the stored high part is RN(x / Ch)
-  pub significands : T (fits binary32 (f .applied .high)) → (u : Float) → HasValue u false (significandOf binary32 b) (hid binary32) → Is (div binary32 u (f .applied .high)) (valueOf (prec binary32) (quotientAt f b))
+  -- one binary32 division of x, as a float, by the stored high part, which as every f32 fits the format, is RN(x / Ch)
+  pub significands : T (fits binary32 (f .applied .high)) → (x : Float) → HasValue x false (significandOf binary32 b) (hid binary32) → Is (div binary32 x (f .applied .high)) (valueOf (prec binary32) (quotientAt f b))
   -- and one of the reading itself by Ch * 2 ^ k, which is a binary32 number, is y
   pub held : Is (floatIn binary32 (divisor f)) (divisor f)
   pub standard : (x g : Float) → Is x (readingAt b) → Is g (divisor f) → div binary32 x g ≡ y
-  -- and, y being its value, |y - reading / (C * 2 ^ k)| < 3/2 ulp(reading / (C * 2 ^ k)) for every C between the ends, with signs; the ulp is that of the size
+  -- and, y being its value, |y - reading / (C * 2 ^ k)| < 3/2 ulp(reading / (C * 2 ^ k)) for every C between the ends, with signs; the ulp is that of the size, exponents unbounded
   pub near : (C : Fraction) → Between (contextOf f) (lowerOf f) (upperOf f) C → Below (distance (answerAt f b) (exactBy f b C)) (times (over 3 1) (ulp (prec binary32) (exactBy f b C)))
 
 -- of every answer: a zero is answered with plus zero; a refusal tells nothing
@@ -222,7 +222,7 @@ module _ (f : Factor) (b : ℕ) (h : NoneHolds (unreadable f b)) (nonzero : zero
   significand-in = go (decLt X (f .parts .high))
     where
       go : Dec (X < f .parts .high) → exponentOut binary32 (u .binade) ≡ false
-      go (yes l) = rw (told .low l)
+      go (yes l) = rw (told .below-one l)
       go (no l) = rw (told .from-one (omega arith))
 
   significands : T (fits binary32 (f .applied .high)) → (x : Float) → HasValue x false X (hid binary32) → Is (div binary32 x (f .applied .high)) (valueOf (prec binary32) u)
@@ -277,9 +277,9 @@ module _ (f : Factor) (b : ℕ) (h : NoneHolds (unreadable f b)) (nonzero : zero
       }
 
 -- every answer to a reading tells the truth, whatever the factor and the reading
-pub quotient-tells : (f : Factor) (x : Float) → AnswerTells f (toBits binary32 x) (dividedReading f x)
+pub divided-reading-tells : (f : Factor) (x : Float) → AnswerTells f (toBits binary32 x) (dividedReading f x)
 unfolding dividedReading
-quotient-tells f x = of-answer (AnswerTells f b) (conditions f b (quotientOf f b .exponent)) (numbered f b) (λ k. tt) (λ h. go (zeroBits binary32 b) refl h)
+divided-reading-tells f x = of-answer (AnswerTells f b) (conditions f b (quotientOf f b .exponent)) (numbered f b) (λ k. tt) (λ h. go (zeroBits binary32 b) refl h)
   where
     b : ℕ
     b = toBits binary32 x
@@ -292,6 +292,6 @@ quotient-tells f x = of-answer (AnswerTells f b) (conditions f b (quotientOf f b
         rw z (inr (refl, tells f b (t .0) z o))
 
 -- and a reading that none of 31 and 20 to 23 refuses is answered, with plus zero or the number
-pub quotient-answered : (f : Factor) (x : Float) → let b = toBits binary32 x in NoneHolds (conditions f b (quotientOf f b .exponent)) → dividedReading f x ≡ accepted (numbered f b)
+pub divided-reading-answered : (f : Factor) (x : Float) → let b = toBits binary32 x in NoneHolds (conditions f b (quotientOf f b .exponent)) → dividedReading f x ≡ accepted (numbered f b)
 unfolding dividedReading
-quotient-answered f x h = let b = toBits binary32 x in none-refuses (conditions f b (quotientOf f b .exponent)) (numbered f b) h
+divided-reading-answered f x h = let b = toBits binary32 x in none-refuses (conditions f b (quotientOf f b .exponent)) (numbered f b) h

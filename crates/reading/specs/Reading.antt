@@ -103,7 +103,7 @@ outcomeOf (ReadingAnswer.Open y) = accepted (record { mark = Mark.Open; value = 
 outcomeOf (ReadingAnswer.Wrong y) = accepted (record { mark = Mark.Wrong; value = y })
 outcomeOf (ReadingAnswer.Refused k) = refused k
 
--- of a number alone: a refusal its number, or the number
+-- of an answer without a mark: a refusal its number, or the float
 abbrev pub numberSays : NumberAnswer → Outcome Float
 numberSays (NumberAnswer.Number y) = accepted y
 numberSays (NumberAnswer.Refused k) = refused k

@@ -14,7 +14,7 @@ pub record InBinade (e : ℤ) (v : Fraction) : Type 0 where
 unfoldable pub binadeOf : Fraction → ℤ
 binadeOf v = let t = 1 + size (v .den) in minus (drop 1 (v .num * 2 ^ t) (v .den)) t
 
--- ulp(v) = 2 ^ (e - n + 1) for that e, with n > 0
+-- ulp(v) = 2 ^ (e - n + 1) for that e, with n > 0; of a negative v it is that of its size, as the sign is not looked at
 unfoldable pub ulp : (n : ℕ) → Fraction → Fraction
 unfolding binadeOf
 ulp n v = power (binadeOf v -ℤ pos (n - 1))
