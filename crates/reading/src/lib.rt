@@ -20,7 +20,7 @@ ghost use Rattle.reading.specs.Divided.{dividedReading};
 // The biased exponents of normal numbers.
 const LEAST_EXPONENT: i32 = 1;
 
-const MOST_EXPONENT: i32 = 254;
+const MOST_EXPONENT: i32 = floats::INFINITE_OR_NAN as i32 - 1;
 
 // The answer to a reading: the product as a binary32 number in the case of its mark, or a refusal: 31, 20, 21, 22 or 23.
 pub enum ReadingAnswer {
