@@ -14,11 +14,12 @@ use Rattle.search.specs.declared.Place.{Place}
 use Rattle.search.specs.declared.Place.the-variants.{At, Nowhere}
 use Rattle.factor.specs.declared.Factor.{Factor}
 use Rattle.factor.specs.declared.Description.{Description}
+use Rattle.factor.specs.Precision.{rangeOut}
 use Rattle.factor.specs.SetUp.{setUp, intact}
 use Rattle.calls.specs.State.{State, fresh, Call, termsOf, wordList}
 use Rattle.calls.specs.Call.{newState, Result, Reply, Run, conditions, handed, replied, runOf, sweepCall}
 use Rattle.sweep.specs.declared.SweepAnswer.{SweepAnswer}
-use Rattle.sweep.specs.Engine.{engine, rangeOut}
+use Rattle.sweep.specs.Engine.{engine}
 use Rattle.sweep.specs.Answers.{callOf, replyOf, codeOf}
 use Rattle.sweep.specs.Demand3.{set-up-begins, Made, replyIn, Kept, askedIn, lastIn, Demand3, demand-3}
 use Rattle.exports.specs.Words.{factorLength, factorFrom, factorWords, stateLength, stateOf, stateFrom, stateWords}

@@ -53,3 +53,7 @@ precisionSays (Refused k) = refused k
 -- refusal 17: a significand outside 2 ^ (n - 1) to 2 ^ n - 1
 abbrev pub significandOut : (n X : ℕ) → Bool
 significandOut n X = ltb X (2 ^ (n - 1)) || leb (2 ^ n) X
+
+-- of a range: "a significand outside 2^(n−1) to 2^n − 1, or a range's first above its last"
+abbrev pub rangeOut : (n first last : ℕ) → Bool
+rangeOut n first last = significandOut n first || significandOut n last || ltb last first

@@ -10,7 +10,7 @@ use lib.Pow.{pow-pos}
 use lib.IntN.{natAbs}
 use lib.Ieee.{up}
 use Rattle.marks.specs.declared.Mark.{Mark}
-use Rattle.marks.specs.Answers.{accepted}
+use Rattle.marks.specs.Answers.{accepted, answer}
 use Rattle.marks.specs.AnswerLaws.{of-answer, pass, end, accepts}
 use Rattle.rounding.specs.Round.{rounded, HasBits}
 use Rattle.rounding.specs.Standard.{RoundsTo, rounds-to}
@@ -35,6 +35,7 @@ use Rattle.product.specs.ProductLaws.{fused-some, product-is, product-va
 use Rattle.product.specs.MarkLaws.{mark-says, mark-only}
 use Rattle.product.specs.Answer.{conditions, marked, multiplied, Tells}
 use Rattle.product.specs.AnswerLaws.{significand-in, let-through}
+use Rattle.product.specs.SoundLaws.{sound-fine}
 
 -- RN of x is x rounded to nearest in the sense of IEEE 754-2019, 4.3.1: it has n bits, no number of n bits is nearer, and half way between two the rule decides
 abbrev pub ToNearest : Context → Fraction → Type 0
@@ -119,34 +120,30 @@ module _ (K : Context) where
       of-zero : (N d : ℕ) → N ≡ 0 → rounded rule n N d .significand * up (rounded rule n N d .exponent) ≡ 0
       of-zero N d e = ap (λ (z : ℕ). rounded rule n z d .significand * up (rounded rule n z d .exponent)) e ∙ unfold rounded in omega arith
 
-module _ (f : Factor) (s : Sound f) (X : ℕ) (x : HasBits (f .precision .bits) X) where
-  abbrev K : Context
-  K = contextOf f
+-- both steps of a factor's product
+pub two-steps : (f : Factor) → Sound f → (X : ℕ) → HasBits (f .precision .bits) X → TwoSteps (contextOf f) (f .parts) X
+two-steps f s X x = let K = contextOf f in subst (λ (p : Parts). TwoSteps K p X) (sym (s .parts)) (at-end K (fine-at (s .precision)) (lowerOf f) (s .lower-end) X x)
 
-  ok : Fine K
-  ok = fine-at (s .precision)
-
-  abbrev v : Product
-  v = productBy f X
-
-  -- both steps of its product
-  pub two-steps : TwoSteps K (f .parts) X
-  two-steps = subst (λ (p : Parts). TwoSteps K p X) (sym (s .parts)) (at-end K ok (lowerOf f) (s .lower-end) X x)
-
-  -- the mark of its product is what demand 2 has it say: right, every fraction between the ends gives it; wrong, none does; open, one does and another does not
+-- ---- the mark, of a value v of n bits, whoever made it
+module _ (f : Factor) (s : Sound f) (X : ℕ) (x : HasBits (f .precision .bits) X) (v : Product) (bits : HasBits (f .precision .bits) (v .significand)) where
+  -- it is what demand 2 has it say: right, every fraction between the ends gives v; wrong, none does; open, one does and another does not
   pub mark-tells : SaysBy f X v (markBy f X v)
-  mark-tells = mark-says K (ok .some) (lowerOf f) (upperOf f) X v (s .lower-end .from) (s .ordered) (x .least) (le-of-lt (two-steps .bits .most))
+  mark-tells = mark-says (contextOf f) (sound-fine f s .some) (lowerOf f) (upperOf f) X v (s .lower-end .from) (s .ordered) (x .least) (le-of-lt (bits .most))
 
   -- and no other mark would be true
   pub mark-alone : (m : Mark) → SaysBy f X v m → markBy f X v ≡ m
-  mark-alone = mark-only K (ok .some) (lowerOf f) (upperOf f) X v (s .lower-end .from) (s .ordered) (x .least) (le-of-lt (two-steps .bits .most))
+  mark-alone = mark-only (contextOf f) (sound-fine f s .some) (lowerOf f) (upperOf f) X v (s .lower-end .from) (s .ordered) (x .least) (le-of-lt (bits .most))
 
--- so every answer to a multiplication tells the truth, whatever the factor and the significand
+-- so every answer of marked values tells the truth, whatever the factor and the significand, if values of sound factors and significands in range have n bits
+pub marked-tells : (f : Factor) (X : ℕ) (v : Product) → (Sound f → HasBits (f .precision .bits) X → HasBits (f .precision .bits) (v .significand)) → Tells f X (answer (conditions f X) (marked f X v))
+marked-tells f X v bits =
+    of-answer (Tells f X) (conditions f X) (marked f X v) (λ k. tt)
+    (λ h. let t = let-through f X h in mark-tells f (t .0) X (t .1) v (bits (t .0) (t .1)))
+
+-- those of the two-step device
 pub answer-tells : (f : Factor) (X : ℕ) → Tells f X (multiplied f X)
 unfolding multiplied
-answer-tells f X =
-    of-answer (Tells f X) (conditions f X) (marked f X (productBy f X)) (λ k. tt)
-    (λ h. let t = let-through f X h in mark-tells f (t .0) X (t .1))
+answer-tells f X = marked-tells f X (productBy f X) (λ s x. two-steps f s X x .bits)
 
 -- ---- demand 2, from the entry points
 pub record Demand2 (f : Factor) : Type 0 where
@@ -167,8 +164,8 @@ demand-2 f i =
       parts = parts-tell f s;
       answers = λ X h. unfold multiplied in sym (accepts (pass (ap not i) (pass h end)) (marked f X (productBy f X)));
       steps = λ X h. two-steps f s X (significand-in (f .precision .bits) X h);
-      marks = λ X h. mark-tells f s X (significand-in (f .precision .bits) X h);
-      alone = λ X h. mark-alone f s X (significand-in (f .precision .bits) X h);
+      marks = λ X h. let x = significand-in (f .precision .bits) X h in mark-tells f s X x (productBy f X) (two-steps f s X x .bits);
+      alone = λ X h. let x = significand-in (f .precision .bits) X h in mark-alone f s X x (productBy f X) (two-steps f s X x .bits);
     }
 
 -- and so of every one that set-up accepted

@@ -35,13 +35,15 @@ module _ (K : Context) where
   abbrev pub second : Parts → ℕ → Fraction
   second p X = RN rule n (fused p X)
 
-  -- u2 as a significand of n bits and a binade: significand * 2 ^ binade / 2 ^ (n - 1)
-  unfoldable pub product : Parts → ℕ → Product
+  -- RN(y) of a y from 1 to below 4, as a significand of n bits and a binade: significand * 2 ^ binade / 2 ^ (n - 1)
+  unfoldable pub roundedProduct : Fraction → Product
   unfolding rounded
-  product p X =
-      let y = fused p X in
-      let r = rounded rule n (y .num) (y .den) in
-      record { significand = r .significand; binade = natAbs (r .exponent +ℤ pos (n - 1)) }
+  roundedProduct y = let r = rounded rule n (y .num) (y .den) in record { significand = r .significand; binade = natAbs (r .exponent +ℤ pos (n - 1)) }
+
+  -- u2 in this form
+  unfoldable pub product : Parts → ℕ → Product
+  unfolding roundedProduct
+  product p X = roundedProduct (fused p X)
 
 -- the product of a factor, by its own precision and parts
 abbrev pub productBy : Factor → ℕ → Product

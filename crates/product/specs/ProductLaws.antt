@@ -15,7 +15,7 @@ use Rattle.rounding.specs.Unit.{rn}
 use Rattle.rounding.specs.UnitLaws.{rn-error, rn-le, rn-ge, rn-below}
 use Rattle.rounding.specs.Round.{rounded, roundedIn, HasBits}
 use Rattle.rounding.specs.RoundLaws.{rounded-at, rounded-bits, roundedIn-exponent, minus-shift, minus-le}
-use Rattle.rounding.specs.Fraction.{Fraction, times, Same}
+use Rattle.rounding.specs.Fraction.{Fraction, times, RN, Same}
 use Rattle.rounding.specs.FractionLaws.{InUnits, sumSign, sumSize, over-in-units, units-finer, RN-in-units, times-in-units, plus-in-units, units-same}
 use Rattle.factor.specs.declared.Parts.{Parts}
 use Rattle.factor.specs.Context.{Context, Fine}
@@ -25,7 +25,7 @@ use Rattle.factor.specs.Ends.{End}
 use Rattle.rounding.specs.Signed.{negative}
 use Rattle.factor.specs.PartsLaws.{width-is, step-is, bottom-is, high-from, low-most, width-le, worth-near, units-of-parts, high-kept, low-kept}
 use Rattle.product.specs.declared.Product.{Product}
-use Rattle.product.specs.Product.{argument, high, low, first, fused, second, product, valueOf}
+use Rattle.product.specs.Product.{argument, high, low, first, fused, second, roundedProduct, product, valueOf}
 use Rattle.product.specs.Units.{firstUnits, fusedUnits, secondUnits, units}
 
 -- ---- of two numbers with significands of n bits the one with the larger exponent is larger
@@ -67,6 +67,10 @@ module _ (K : Context) (P : 0 < K .n) (N : ℕ) where
       let s : u .significand ≡ v .significand = eq-of-mul-eq-mul-right (2 ^ (E + v .binade)) (pow-pos (E + v .binade)) (u .significand) (v .significand) (ap (λ (z : ℕ). u .significand * 2 ^ (E + z)) (sym b) ∙ e) in
       λ i. record { significand = s i; binade = b i }
 
+  -- at least 1, it rounds to no less
+  pub rn-from : 2 ^ (n - 1) * 2 ^ E ≤ N → 2 ^ (n - 1) * 2 ^ E ≤ rn rule n N 1
+  rn-from from = rn-ge rule n P N 1 (2 ^ (n - 1)) E (omega arith) (omega (arith, pow-half n P)) (omega (arith, from))
+
   -- and the exponent of a significand of n bits tells it
   module _ (from : 2 ^ (n - 1) * 2 ^ E ≤ N) (s i : ℕ) (bits : HasBits n s) (v : s * 2 ^ i ≡ N) where
     pub exponent-from : E ≤ i
@@ -77,6 +81,48 @@ module _ (K : Context) (P : 0 < K .n) (N : ℕ) where
         let lo = exponent-from in
         let hi : i ≤ suc E = exponent-le n P (2 ^ n - 1) (suc E) s i (omega (arith, pow-pos n)) (bits .least) (le-trans (le-of-eq v) to) in
         record { bits = bits; binade = omega arith; value = ap (λ (z : ℕ). s * 2 ^ z) (omega arith) ∙ v }
+
+-- ---- RN(y) as a product, y being N of the unit and at least 1
+module _ (K : Context) (P : 0 < K .n) (N : ℕ) (y : Fraction) (counts : InUnits (2 ^ (K .E + (K .n - 1))) false N y) (from : 2 ^ (K .n - 1) * 2 ^ K .E ≤ N) where
+  open Context K using (rule, n, E)
+
+  abbrev T : ℕ
+  T = E + (n - 1)
+
+  pub num-some : 0 < y .num
+  num-some = go (y .num) (y .den) (counts .count) (counts .some)
+    where
+      go : (a d : ℕ) → a * 2 ^ (E + (n - 1)) ≡ N * d → 0 < d → 0 < a
+      go zero d e D = absurd (omega (arith, mul-pos (le-trans (mul-pos (pow-pos (n - 1)) (pow-pos E)) from) D))
+      go (suc a) d e D = omega arith
+
+  abbrev r : Rounded
+  r = rounded rule n (y .num) (y .den)
+
+  r-at : r ≡ roundedIn rule n T N 1
+  r-at = rounded-at rule n P (y .num) (y .den) T N 1 (counts .some) (omega arith) (omega (arith, counts .count)) (omega (arith, from, mul-le-mul-left (2 ^ (n - 1)) (pow-pos E), pow-half n P))
+
+  module _ (to : rn rule n N 1 ≤ (2 ^ n - 1) * 2 ^ suc E) where
+    pub rounded-product-is : IsProduct K (rn rule n N 1) (roundedProduct K y)
+    unfolding roundedProduct
+    rounded-product-is = of (roundedIn-exponent rule n P T N 1)
+      where
+        bits : HasBits n (r .significand)
+        bits = rounded-bits rule n P (y .num) (y .den) num-some (counts .some)
+
+        of : (i : ℕ) × (roundedIn rule n T N 1 .exponent ≡ minus i T) × (roundedIn rule n T N 1 .significand * 2 ^ i ≡ rn rule n N 1)
+            → IsProduct K (rn rule n N 1) (record { significand = r .significand; binade = natAbs (r .exponent +ℤ pos (n - 1)) })
+        of (i, e, v) =
+            let v' : r .significand * 2 ^ i ≡ rn rule n N 1 = ap (λ (z : Rounded). z .significand * 2 ^ i) r-at ∙ v in
+            let lo = exponent-from K P (rn rule n N 1) (rn-from K P N from) (r .significand) i bits v' in
+            let b : natAbs (r .exponent +ℤ pos (n - 1)) ≡ i - E = ap natAbs (ap (λ (z : ℤ). z +ℤ pos (n - 1)) (ap (λ (z : Rounded). z .exponent) r-at ∙ e) ∙ minus-shift i E (n - 1) ∙ minus-le i E lo) in
+            subst (λ (z : ℕ). IsProduct K (rn rule n N 1) (record { significand = r .significand; binade = z })) (sym b) (is-product K P (rn rule n N 1) (rn-from K P N from) (r .significand) i bits v' to)
+
+    -- it is RN(y)
+    pub rounded-product-value : Same (RN rule n y) (valueOf n (roundedProduct K y))
+    rounded-product-value =
+        let v = roundedProduct K y in
+        units-same (2 ^ T) false (units K v) (RN rule n y) (valueOf n v) (subst (λ (z : ℕ). InUnits (2 ^ T) false z (RN rule n y)) (sym (rounded-product-is .value)) (RN-in-units rule n P T false N y counts)) (value-in-units K v)
 
 module _ (K : Context) (ok : Fine K) (c : ℕ) (ce : End K c) where
   open Context K using (rule, n, E)
@@ -179,18 +225,13 @@ module _ (K : Context) (ok : Fine K) (c : ℕ) (ce : End K c) where
         go true k = record { unit = k .unit; some = k .some; sign = k .sign ∙ le-ltb (w .high * G * X) (firstUnits K w X) first-under; count = k .count ∙ ap (λ (z : ℕ). z * fused K p X .den) (omega (arith, first-under)) }
         go false k = k
 
-    pub second-in-units : InUnits (2 ^ t) false (secondUnits K w X) (second K p X)
-    unfolding secondUnits
-    second-in-units = RN-in-units rule n P t false (fusedUnits K w X) (fused K p X) fused-in-units
-
     -- ---- the product is from 1 to below 4
     module _ (x1 : 2 ^ (n - 1) ≤ X) where
       abbrev y : ℕ
       y = fusedUnits K w X
 
-      pub second-least : 2 ^ (n - 1) * 2 ^ E ≤ secondUnits K w X
-      unfolding secondUnits
-      second-least = rn-ge rule n P y 1 (2 ^ (n - 1)) E (omega arith) (omega (arith, pow-half n P)) (omega (arith, fused-least, mul-le-mul-right (2 ^ E) x1))
+      y-least : 2 ^ (n - 1) * 2 ^ E ≤ y
+      y-least = omega (arith, fused-least, mul-le-mul-right (2 ^ E) x1)
 
       y-most : y < (2 ^ n - 1) * 2 ^ suc E + 2 ^ E
       y-most =
@@ -206,42 +247,14 @@ module _ (K : Context) (ok : Fine K) (c : ℕ) (ce : End K c) where
           let e = ap (λ (z : ℕ). (2 ^ n - 1) * z) (pow-succ' 2 E) in
           rn-below rule n P y 1 (2 ^ n - 1) (suc E) (omega arith) (omega arith) (omega arith) (rw (pow-succ' 2 E) (omega (arith, m, e)))
 
-      fine : 2 ^ n * 1 ≤ 2 * y
-      fine = omega (arith, fused-least, mul-le-mul-left (2 ^ E) x1, mul-le-mul-right (2 ^ (n - 1)) (pow-pos E), pow-half n P)
-
-      y-pos : 0 < y
-      y-pos = omega (arith, fine, pow-pos n)
-
       pub fused-some : (0 < fused K p X .num) × (0 < fused K p X .den)
-      fused-some = let k = fused-in-units in (num-pos (fused K p X .num) (fused K p X .den) (k .count) (k .some), k .some)
-        where
-          num-pos : (a d : ℕ) → a * 2 ^ t ≡ y * d → 0 < d → 0 < a
-          num-pos zero d e D = absurd (omega (arith, mul-pos y-pos D))
-          num-pos (suc a) d e D = omega arith
-
-      abbrev r : Rounded
-      r = rounded rule n (fused K p X .num) (fused K p X .den)
-
-      r-at : r ≡ roundedIn rule n t y 1
-      r-at = let k = fused-in-units in rounded-at rule n P (fused K p X .num) (fused K p X .den) t y 1 (k .some) (omega arith) (omega (arith, k .count)) fine
+      fused-some = (num-some K P y (fused K p X) fused-in-units y-least, fused-in-units .some)
 
       pub product-is : IsProduct K (secondUnits K w X) (product K p X)
       unfolding product secondUnits
-      product-is = of (roundedIn-exponent rule n P t y 1)
-        where
-          bits : HasBits n (r .significand)
-          bits = rounded-bits rule n P (fused K p X .num) (fused K p X .den) (fused-some .0) (fused-some .1)
-
-          of : (i : ℕ) × (roundedIn rule n t y 1 .exponent ≡ minus i t) × (roundedIn rule n t y 1 .significand * 2 ^ i ≡ rn rule n y 1)
-              → IsProduct K (rn rule n y 1) (record { significand = r .significand; binade = natAbs (r .exponent +ℤ pos (n - 1)) })
-          of (i, e, v) =
-              let v' : r .significand * 2 ^ i ≡ rn rule n y 1 = ap (λ (z : Rounded). z .significand * 2 ^ i) r-at ∙ v in
-              let lo = exponent-from K P (rn rule n y 1) second-least (r .significand) i bits v' in
-              let b : natAbs (r .exponent +ℤ pos (n - 1)) ≡ i - E = ap natAbs (ap (λ (z : ℤ). z +ℤ pos (n - 1)) (ap (λ (z : Rounded). z .exponent) r-at ∙ e) ∙ minus-shift i E (n - 1) ∙ minus-le i E lo) in
-              subst (λ (z : ℕ). IsProduct K (rn rule n y 1) (record { significand = r .significand; binade = z })) (sym b) (is-product K P (rn rule n y 1) second-least (r .significand) i bits v' second-most)
+      product-is = rounded-product-is K P y (fused K p X) fused-in-units y-least second-most
 
       -- it is u2
       pub product-value : Same (second K p X) (valueOf n (product K p X))
-      product-value =
-          let v = product K p X in
-          units-same (2 ^ t) false (units K v) (second K p X) (valueOf n v) (subst (λ (z : ℕ). InUnits (2 ^ t) false z (second K p X)) (sym (product-is .value)) second-in-units) (value-in-units K v)
+      unfolding product secondUnits
+      product-value = rounded-product-value K P y (fused K p X) fused-in-units y-least second-most

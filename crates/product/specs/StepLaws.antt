@@ -15,11 +15,12 @@ use Rattle.rounding.specs.declared.Rounded.{Rounded}
 use Rattle.rounding.specs.Grid.{nearest}
 use Rattle.rounding.specs.Digits.{pow-half}
 use Rattle.rounding.specs.Unit.{rn}
-use Rattle.rounding.specs.UnitLaws.{rn-le, rn-ge, rn-in-binade, rn-scale-whole, rn-whole-small}
+use Rattle.rounding.specs.UnitLaws.{rn-le, rn-in-binade, rn-scale-whole, rn-whole-small}
 use Rattle.rounding.specs.Round.{rounded, roundedIn, HasBits}
 use Rattle.rounding.specs.RoundLaws.{rounded-at, rounded-bits, roundedIn-exponent, minus-zero}
 use Rattle.rounding.specs.Signed.{signedOf}
 use Rattle.factor.specs.declared.Parts.{Parts}
+use Rattle.factor.specs.Precision.{mostPrecision, ValidPrecision}
 use Rattle.factor.specs.Context.{Context, Fine}
 use Rattle.factor.specs.Parts.{partsAt}
 use Rattle.factor.specs.UnitParts.{UnitParts, step, unitParts, unitPartsOf}
@@ -28,7 +29,15 @@ use Rattle.factor.specs.PartsLaws.{high-most, low-kept, low-tells, units-of-par
 use Rattle.factor.specs.LowForm.{top-is}
 use Rattle.product.specs.Product.{product}
 use Rattle.product.specs.Units.{firstUnits, fusedUnits, secondUnits, roundedUnits, Within, PartsAtEnd}
-use Rattle.product.specs.ProductLaws.{IsProduct, is-product, exponent-from, product-only, product-is, first-most, first-under, fused-least, second-most}
+use Rattle.product.specs.ProductLaws.{IsProduct, is-product, rn-from, exponent-from, product-only, product-is, first-most, first-under, fused-least, second-most}
+
+-- a significand is half a word
+pub significand-word : (n X : ℕ) → ValidPrecision n → HasBits n X → X < 2 ^ 32
+significand-word n X N x = lt-of-lt-of-le (x .most) (pow-mono {i = n} {j = 32} (omega (arith, N)))
+
+-- two numbers of at most n bits have a product of less than a word
+pub product-word : (n a b : ℕ) → ValidPrecision n → a ≤ 2 ^ n → b ≤ 2 ^ n → a * b ≤ 2 ^ 48
+product-word n a b N p q = let t : 2 ^ n ≤ 2 ^ mostPrecision = pow-mono (N .most) in mul-le-mul (le-trans p t) (le-trans q t)
 
 -- ---- RN of a whole number N of the unit, at least 1
 module _ (K : Context) (P : 0 < K .n) (N : ℕ) (from : 2 ^ (K .n - 1) * 2 ^ K .E ≤ N) where
@@ -42,9 +51,6 @@ module _ (K : Context) (P : 0 < K .n) (N : ℕ) (from : 2 ^ (K .n - 1) * 2 ^ K .
 
   bits : HasBits n (r .significand)
   bits = rounded-bits rule n P N 1 some (omega arith)
-
-  rn-from : 2 ^ (n - 1) * 2 ^ E ≤ rn rule n N 1
-  rn-from = rn-ge rule n P N 1 (2 ^ (n - 1)) E (omega arith) (omega (arith, pow-half n P)) (omega (arith, from))
 
   -- at least E digits are dropped
   pub record Dropped : Type 0 where
@@ -69,7 +75,7 @@ module _ (K : Context) (P : 0 < K .n) (N : ℕ) (from : 2 ^ (K .n - 1) * 2 ^ K .
             count = i;
             exponent = ap (λ (z : Rounded). z .exponent) at ∙ e ∙ minus-zero i;
             value = v';
-            least = exponent-from K P (rn rule n N 1) rn-from (r .significand) i bits v';
+            least = exponent-from K P (rn rule n N 1) (rn-from K P N from) (r .significand) i bits v';
           }
 
   -- so the form of `roundedUnits` is the number's
@@ -77,7 +83,7 @@ module _ (K : Context) (P : 0 < K .n) (N : ℕ) (from : 2 ^ (K .n - 1) * 2 ^ K .
   unfolding roundedUnits
   rounded-units-is to =
       let d = dropped in
-      subst (λ (z : ℤ). IsProduct K (rn rule n N 1) (record { significand = r .significand; binade = natAbs z - E })) (sym (d .exponent)) (is-product K P (rn rule n N 1) rn-from (r .significand) (d .count) bits (d .value) to)
+      subst (λ (z : ℤ). IsProduct K (rn rule n N 1) (record { significand = r .significand; binade = natAbs z - E })) (sym (d .exponent)) (is-product K P (rn rule n N 1) (rn-from K P N from) (r .significand) (d .count) bits (d .value) to)
 
 -- ---- and of one that is also below 4
 module _ (K : Context) (P : 0 < K .n) (N : ℕ) (N-in : Within K N) where

@@ -12,14 +12,14 @@ ghost use Rattle.marks.specs.Answers.{refusalOf, First, accepted};
 ghost use Rattle.rounding.specs.Unit.{rn};
 ghost use Rattle.rounding.specs.Round.{HasBits};
 ghost use Rattle.wide.specs.Value.{wordBits, valueOf};
-ghost use Rattle.factor.specs.Precision.{ValidPrecision, scaleOf, significandOut};
+ghost use Rattle.factor.specs.Precision.{ValidPrecision, scaleOf, significandOut, rangeOut};
 ghost use Rattle.factor.specs.Context.{tieRule, contextAt, contextOf};
 ghost use Rattle.factor.specs.UnitParts.{unitPartsOf};
 ghost use Rattle.factor.specs.SetUp.{Sound};
 ghost use Rattle.product.specs.Product.{productBy};
 ghost use Rattle.product.specs.Marks.{markBy};
 ghost use Rattle.product.specs.Units.{firstUnits, fusedUnits, roundedUnits, markUnits, Within, PartsAtEnd};
-ghost use Rattle.product.specs.Answer.{conditions, multiplied, outcomeOf};
+ghost use Rattle.product.specs.Answer.{conditions, marked as markedBy, multiplied, outcomeOf};
 
 // A product from 1 to below 4: a significand of n bits, and its binade, 0 for [1, 2) and 1 for [2, 4).
 pub struct Product {
@@ -159,11 +159,26 @@ pub fn significand_out(p: Precision, x: u64) -> bool
     p.most() < x
 }
 
-// A product in the case of its mark.
-fn answer(m: Mark, v: Product) -> ProductAnswer
-    ensures { λ r. ⌜ outcomeOf r ≡ accepted (record { mark = m; value = v }) ⌝ }
+// Refusal 17 of a range: a significand outside 2 ^ (n - 1) to 2 ^ n - 1, or the first above the last.
+pub fn range_out(p: Precision, first: u64, last: u64) -> bool
+    requires { ⌜ ValidPrecision (p .bits) ⌝ }
+    ensures { λ r. ⌜ r ≡ rangeOut (p .bits) first last ⌝ }
 {
-    match m {
+    if significand_out(p, first) {
+        return true;
+    }
+    if significand_out(p, last) {
+        return true;
+    }
+    last < first
+}
+
+// A value, whoever made it, in the case of its mark.
+pub fn marked(f: Factor, x: u64, v: Product) -> ProductAnswer
+    requires { ⌜ Sound f × HasBits (f .precision .bits) x × HasBits (f .precision .bits) (v .significand) × (v .binade ≤ 1) ⌝ }
+    ensures { λ r. ⌜ outcomeOf r ≡ accepted (markedBy f x v) ⌝ }
+{
+    match mark_of(f, x, v) {
         Mark::Right => ProductAnswer::Right(v),
         Mark::Open => ProductAnswer::Open(v),
         Mark::Wrong => ProductAnswer::Wrong(v),
@@ -190,9 +205,6 @@ pub fn multiply(f: Factor, x: u64) -> ProductAnswer
 {
     match refusal_of(f, x) {
         Judgement::Refused(number) => ProductAnswer::Refused(number),
-        Judgement::Passed => {
-            let v = product_of(f, x);
-            answer(mark_of(f, x, v), v)
-        }
+        Judgement::Passed => marked(f, x, product_of(f, x)),
     }
 }

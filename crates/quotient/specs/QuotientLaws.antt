@@ -22,13 +22,9 @@ use Rattle.rounding.specs.RoundLaws.{rounded-at, minus-shift}
 use Rattle.rounding.specs.Fraction.{Same, AtMost}
 use Rattle.factor.specs.declared.Parts.{Parts}
 use Rattle.factor.specs.Context.{Context}
+use Rattle.product.specs.SoundLaws.{HighBits}
 use Rattle.quotient.specs.declared.Quotient.{Quotient}
 use Rattle.quotient.specs.Quotient.{byHigh, once, quotient, valueOf, binadesBelow}
-
--- a high significand: Ch is from 1 to 2, both included
-pub record HighBits (n H : ℕ) : Type 0 where
-  pub least : 2 ^ (n - 1) ≤ H
-  pub most : H ≤ 2 ^ n
 
 -- where an odd multiple of H is a multiple of 2 ^ m, H is one: so it is not below 2 ^ m
 odd-multiple : (m Y q H : ℕ) → 0 < H → 2 ^ m * Y ≡ (2 * q + 1) * H → 2 ^ m ≤ H

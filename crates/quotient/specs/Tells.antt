@@ -1,6 +1,6 @@
 -- What an answer to a division tells, for every factor and every number as X (`quotient-tells`): its form, that it is RN(x / Ch) by every tie rule, and that it is less than 3/2 units in the last place from x / C for
 -- every fraction C between the ends: request W1's bound, of which source document 003 (Property 3.1) has a slightly sharper one. Assumes nothing.
-use mathlib.Core.Path.{_≡_, refl, sym, ap, _∙_, subst}
+use mathlib.Core.Path.{_≡_, refl, subst}
 use Prim.Native.Nat.{ℕ, _-_, _^_, _≤_, _<_}
 use native.Mathlib.Nat.{mul-pos, le-trans}
 use native.Mathlib.Decide.{decLt}
@@ -17,21 +17,18 @@ use Rattle.rounding.specs.Fraction.{Fraction, over, times, ratio, distance, RN,
 use Rattle.rounding.specs.FractionLaws.{RN-some, ratio-positive, distance-same}
 use Rattle.rounding.specs.Ulp.{ulp}
 use Rattle.rounding.specs.OneRounding.{ratio-error}
-use Rattle.factor.specs.declared.Parts.{Parts}
 use Rattle.factor.specs.declared.Factor.{Factor}
 use Rattle.factor.specs.Context.{Context, Fine, contextOf, lowerOf, upperOf}
 use Rattle.factor.specs.Ends.{Between}
-use Rattle.factor.specs.PartsLaws.{high-is, high-least, high-most}
-use Rattle.factor.specs.Accepted.{between-positive, high-close}
 use Rattle.factor.specs.SetUp.{Sound}
 use Rattle.product.specs.Product.{argument, high}
 use Rattle.product.specs.Answer.{conditions}
 use Rattle.product.specs.AnswerLaws.{let-through}
-use Rattle.product.specs.SoundLaws.{sound-fine}
+use Rattle.product.specs.SoundLaws.{sound-fine, sound-high, sound-high-positive, sound-positive, sound-close-high}
 use Rattle.quotient.specs.declared.Quotient.{Quotient}
 use Rattle.quotient.specs.Quotient.{byHigh, once, quotientBy, valueOf}
 use Rattle.quotient.specs.Answer.{divided}
-use Rattle.quotient.specs.QuotientLaws.{HighBits, never-tied, quotient-any-rule, quotient-bits, quotient-value, quotient-range, quotient-below-one, quotient-from-one}
+use Rattle.quotient.specs.QuotientLaws.{never-tied, quotient-any-rule, quotient-bits, quotient-value, quotient-range, quotient-below-one, quotient-from-one}
 
 -- ---- what is said
 -- x / C, for a significand X
@@ -71,22 +68,9 @@ module _ (f : Factor) (s : Sound f) where
   ok : Fine K
   ok = sound-fine f s
 
-  pub sound-high : HighBits n (f .parts .high)
-  sound-high =
-      let e : f .parts .high ≡ _ = ap (λ (p : Parts). p .high) (s .parts) ∙ high-is K ok L (s .lower-end) in
-      rw e (record { least = high-least K ok L (s .lower-end); most = high-most K ok L (s .lower-end) })
-
-  h-positive : Positive (high n (f .parts))
-  h-positive = record { sign = refl; above = le-trans (pow-pos (n - 1)) (sound-high .least); some = pow-pos (n - 1) }
-
-  pub sound-positive : (C : Fraction) → Between K L U C → Positive C
-  sound-positive C k = record { sign = k .sign; above = between-positive K L U (le-trans (pow-pos (K .E)) (s .lower-end .from)) C k; some = k .some }
-
   -- |RN(x / Ch) - x / C| < 3/2 ulp(x / C), of every x > 0 and by every tie rule
   pub sound-near : (rule : Rule) (x : Fraction) → Positive x → (C : Fraction) → Between K L U C → Below (distance (RN rule n (ratio x (high n (f .parts)))) (ratio x C)) (times (over 3 1) (ulp n (ratio x C)))
-  sound-near rule x p C k =
-      let close = subst (λ (p : Parts). AtMost (distance (high n p) C) (over 1 n)) (sym (s .parts)) (high-close K ok L U (s .lower-end) (s .upper-end) (s .same) C k) in
-      ratio-error n C (high n (f .parts)) (sound-positive C k) h-positive close x p (omega (arith, sound-high .least)) rule (ok .some)
+  sound-near rule x p C k = ratio-error n C (high n (f .parts)) (sound-positive f s C k) (sound-high-positive f s) (sound-close-high f s C k) x p (omega (arith, sound-high f s .least)) rule (ok .some)
 
   module _ (X : ℕ) (x : HasBits n X) where
     x-positive : Positive (argument n X)
@@ -95,28 +79,28 @@ module _ (f : Factor) (s : Sound f) where
     value : (rule : Rule) → Same (RN rule n (byHigh n (f .parts) X)) (valueOf n (quotientBy f X))
     value rule =
         let other : Context = record { rule = rule; n = n; E = K .E } in
-        subst (λ (v : Quotient). Same (once other (f .parts) X) (valueOf n v)) (quotient-any-rule K (ok .some) (f .parts) X sound-high x rule) (quotient-value other (ok .some) (f .parts) X sound-high x)
+        subst (λ (v : Quotient). Same (once other (f .parts) X) (valueOf n v)) (quotient-any-rule K (ok .some) (f .parts) X (sound-high f s) x rule) (quotient-value other (ok .some) (f .parts) X (sound-high f s) x)
 
     near : (C : Fraction) → Between K L U C → Below (distance (valueOf n (quotientBy f X)) (exactBy n X C)) (times (over 3 1) (ulp n (exactBy n X C)))
     near C k =
         let v = quotientBy f X in
         distance-same (once K (f .parts) X) (valueOf n v) (exactBy n X C) (times (over 3 1) (ulp n (exactBy n X C)))
-        (RN-some (K .rule) n (byHigh n (f .parts) X)) (mul-pos (down-pos (v .binade)) (pow-pos (n - 1))) (ratio-positive (argument n X) C x-positive (sound-positive C k) .some) (value (K .rule)) (sound-near (K .rule) (argument n X) x-positive C k)
+        (RN-some (K .rule) n (byHigh n (f .parts) X)) (mul-pos (down-pos (v .binade)) (pow-pos (n - 1))) (ratio-positive (argument n X) C x-positive (sound-positive f s C k) .some) (value (K .rule)) (sound-near (K .rule) (argument n X) x-positive C k)
 
     pub sound-quotient : Tells f X (quotientBy f X)
     sound-quotient =
         record {
-          bits = quotient-bits K (ok .some) (f .parts) X sound-high x;
-          below-one = quotient-below-one K (ok .some) (f .parts) X sound-high x;
-          from-one = quotient-from-one K (ok .some) (f .parts) X sound-high x;
+          bits = quotient-bits K (ok .some) (f .parts) X (sound-high f s) x;
+          below-one = quotient-below-one K (ok .some) (f .parts) X (sound-high f s) x;
+          from-one = quotient-from-one K (ok .some) (f .parts) X (sound-high f s) x;
           value = value;
-          untied = never-tied K (ok .some) (f .parts) X sound-high x;
+          untied = never-tied K (ok .some) (f .parts) X (sound-high f s) x;
           near = near;
         }
 
     -- x / Ch lies in the quotient's binade
     pub sound-range : let z = quotientBy f X .binade in AtMost (valueOf n (record { significand = 2 ^ (n - 1); binade = z })) (byHigh n (f .parts) X) × AtMost (byHigh n (f .parts) X) (valueOf n (record { significand = 2 ^ n - 1; binade = z }))
-    sound-range = quotient-range K (ok .some) (f .parts) X sound-high x
+    sound-range = quotient-range K (ok .some) (f .parts) X (sound-high f s) x
 
     -- its binade, -1 or 0, has at most the size 1
     pub sound-binade : natAbs (quotientBy f X .binade) ≤ 1

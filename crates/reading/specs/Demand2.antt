@@ -199,8 +199,8 @@ module _ (f : Factor) (b : ℕ) (h : NoneHolds (unreadable f b)) (nonzero : zero
         steps = λ i j y w. stored-steps f sound n X (significand-bits binary32 b) i j y w;
         value = y-value;
         normal = y-normal;
-        says = says-alike Ends (Gives (contextOf f) X v) (GivesNumber f b y) to from (markBy f X v) (mark-tells f sound X x-bits);
-        alone = λ m s. mark-alone f sound X x-bits m (says-alike Ends (GivesNumber f b y) (Gives (contextOf f) X v) from to m s);
+        says = says-alike Ends (Gives (contextOf f) X v) (GivesNumber f b y) to from (markBy f X v) (mark-tells f sound X x-bits v (sound-product f sound X x-bits .bits));
+        alone = λ m s. mark-alone f sound X x-bits v (sound-product f sound X x-bits .bits) m (says-alike Ends (GivesNumber f b y) (Gives (contextOf f) X v) from to m s);
       }
 
 -- every answer to a reading tells the truth, whatever the factor and the reading

@@ -36,10 +36,10 @@ use Rattle.factor.specs.SetUp.{floatIn, Sound}
 use Rattle.factor.specs.SetUpLaws.{intact-sound}
 use Rattle.factor.specs.StoredLaws.{high-number}
 use Rattle.product.specs.Product.{argument, high}
+use Rattle.product.specs.SoundLaws.{HighBits, sound-high, sound-positive}
 use Rattle.quotient.specs.declared.Quotient.{Quotient}
 use Rattle.quotient.specs.Quotient.{byHigh, quotientBy, valueOf}
-use Rattle.quotient.specs.QuotientLaws.{HighBits}
-use Rattle.quotient.specs.Tells.{Tells as TellsOf, sound-high, sound-positive, sound-near, sound-quotient, sound-range}
+use Rattle.quotient.specs.Tells.{Tells as TellsOf, sound-near, sound-quotient, sound-range}
 use Rattle.reading.specs.Reading.{unreadable, exponentOut, numberOf, conditions}
 use Rattle.reading.specs.Divided.{quotientExponent, quotientOf, dividedReading}
 use Rattle.reading.specs.Exponents.{scale-size, let-through, from-least}

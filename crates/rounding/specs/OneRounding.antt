@@ -8,7 +8,7 @@ use Rattle.rounding.specs.Apart.{apart}
 use Rattle.rounding.specs.ApartLaws.{apart-mul}
 use Rattle.rounding.specs.Grid.{Rule}
 use Rattle.rounding.specs.Fraction.{Fraction, over, times, ratio, distance, RN, Below, AtMost, Positive}
-use Rattle.rounding.specs.FractionLaws.{InUnits, over-in-units, ratio-positive, distance-in-units, times-in-units, units-at-most, at-most-units}
+use Rattle.rounding.specs.FractionLaws.{InUnits, over-in-units, times-positive, ratio-positive, distance-in-units, times-in-units, units-at-most, at-most-units}
 use Rattle.rounding.specs.Ulp.{ulp}
 use Rattle.rounding.specs.UlpLaws.{ulp-near}
 
@@ -24,6 +24,27 @@ module _ (n : ℕ) (C h : Fraction) (c : Positive C) (k : Positive h) (close : A
       let b : InUnits T false (C .num * h .den) C = record { unit = some; some = c .some; sign = c .sign; count = omega arith } in
       omega (arith, at-most-units T (2 ^ n) (apart (h .num * C .den) (C .num * h .den)) 1 (distance h C) (over 1 n) (distance-in-units T (h .num * C .den) (C .num * h .den) h C a b) (over-in-units 1 n) close)
 
+  -- ---- times x, where C is at least 1
+  module _ (x : Fraction) (p : Positive x) (one : AtMost (over 1 0) C) where
+    -- h * x is off by at most C * x / 2 ^ n: |h * x - C * x| = x * |h - C|
+    times-near : AtMost (distance (times h x) (times C x)) (times (over 1 n) (times C x))
+    times-near =
+        let S = T * x .den in
+        let some : 0 < S = mul-pos (mul-pos (k .some) (c .some)) (p .some) in
+        let A = h .num * C .den * x .num in
+        let B = C .num * h .den * x .num in
+        let a : InUnits S false A (times h x) = record { unit = some; some = mul-pos (k .some) (p .some); sign = times-positive h x k p .sign; count = omega arith } in
+        let b : InUnits S false B (times C x) = record { unit = some; some = mul-pos (c .some) (p .some); sign = times-positive C x c p .sign; count = omega arith } in
+        let far : apart A B * 2 ^ n ≤ T * x .num = omega (arith, mul-le-mul-right (x .num) apart-most, ap (λ (z : ℕ). z * 2 ^ n) (apart-mul (h .num * C .den) (C .num * h .den) (x .num))) in
+        units-at-most S (2 ^ n * S) (apart A B) (1 * B) (distance (times h x) (times C x)) (times (over 1 n) (times C x))
+        (distance-in-units S A B (times h x) (times C x) a b) (times-in-units (2 ^ n) S 1 B false (over 1 n) (times C x) (over-in-units 1 n) b)
+        (omega (arith, mul-le-mul-right S far, mul-le-mul-right (h .den * x .num * S) one))
+
+    -- |RN(h * x) - C * x| < 3/2 ulp(C * x) (request W2; source document 003, Property 2.1)
+    pub times-error : (rule : Rule) → 0 < n → Below (distance (RN rule n (times h x)) (times C x)) (times (over 3 1) (ulp n (times C x)))
+    times-error rule P = ulp-near rule n P (times C x) (times-positive C x c p) (times h x) (times-positive h x k p) times-near
+
+  -- ---- x divided by it, where h is at least 1
   module _ (x : Fraction) (p : Positive x) (one : AtMost (over 1 0) h) where
     -- x / h is off by at most x / C / 2 ^ n: |x / h - x / C| = x / C * |h - C| / h
     ratio-near : AtMost (distance (ratio x h) (ratio x C)) (times (over 1 n) (ratio x C))

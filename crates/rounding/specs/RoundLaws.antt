@@ -8,7 +8,7 @@ use native.Mathlib.Omega.{arith}
 use lib.Dec.{eqb}
 use lib.Arith.{lt-of-le-ne}
 use lib.Pow.{pow-add, pow-pos}
-use lib.IntN.{ℤ, pos, negsuc, negℤ, _+ℤ_}
+use lib.IntN.{pos, negsuc, negℤ, _+ℤ_}
 use lib.Ieee.{size, minus, up, down}
 use lib.Ieee.Digits.{minus-val}
 use lib.Ieee.Order.{drop}

@@ -4,10 +4,9 @@ use mathlib.Core.Bool.{true, false}
 use Prim.Native.Nat.{ℕ, suc, _+_, _-_, _^_, _≤_, _<_}
 use lib.ListN.{length}
 use Rattle.wide.specs.Value.{wordBits}
-use Rattle.factor.specs.Precision.{mostPrecision}
+use Rattle.factor.specs.Precision.{mostPrecision, rangeOut}
 use Rattle.factor.specs.SetUp.{intact}
 use Rattle.sweep.specs.declared.SweepState.{SweepState}
-use Rattle.sweep.specs.Engine.{rangeOut}
 use Rattle.stream.specs.declared.Tally.{Tally}
 use Rattle.stream.specs.declared.Task
 use Rattle.stream.specs.declared.Task.{Task}

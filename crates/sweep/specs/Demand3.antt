@@ -11,6 +11,7 @@ use Rattle.marks.specs.AnswerLaws.{only-accepted, pass, end, accepts}
 use Rattle.rounding.specs.Round.{HasBits}
 use Rattle.factor.specs.declared.Description.{Description}
 use Rattle.factor.specs.declared.Factor.{Factor}
+use Rattle.factor.specs.Precision.{rangeOut}
 use Rattle.factor.specs.Context.{contextOf, lowerOf, upperOf}
 use Rattle.factor.specs.SetUp.{setUp, intact, Sound}
 use Rattle.factor.specs.SetUpLaws.{accepted-intact}
@@ -29,7 +30,7 @@ use Rattle.calls.specs.Demand3.{whole-sweep}
 use Rattle.sweep.specs.declared.SweepState.{SweepState}
 use Rattle.sweep.specs.declared.NewSweep.{NewSweep}
 use Rattle.sweep.specs.declared.SweepAnswer.{SweepAnswer}
-use Rattle.sweep.specs.Engine.{suspect, rangeOut, mostRounds, engine}
+use Rattle.sweep.specs.Engine.{suspect, mostRounds, engine}
 use Rattle.sweep.specs.EngineLaws.{sound-of, suspect-is, mark-is, lawful}
 use Rattle.sweep.specs.Answers.{viewOf, newOf, replyOf}
 

@@ -1,11 +1,10 @@
 -- Definitions: a factor as a sweep sees it (document 01, "Suspects and rounds" and "A sweep"). What stands in quotes is document 01's. Assumes nothing.
-use mathlib.Core.Bool.{Bool, not, _||_}
+use mathlib.Core.Bool.{Bool, not}
 use mathlib.Core.List.{[], _∷_}
 use Prim.Native.Nat.{ℕ, _-_, _^_}
-use lib.Dec.{ltb}
 use Rattle.search.specs.declared.Found.{Found}
 use Rattle.factor.specs.declared.Factor.{Factor}
-use Rattle.factor.specs.Precision.{roundsOf, significandOut}
+use Rattle.factor.specs.Precision.{roundsOf, rangeOut}
 use Rattle.factor.specs.Context.{contextOf, lowerOf, upperOf}
 use Rattle.factor.specs.SetUp.{intact}
 use Rattle.product.specs.Product.{productBy}
@@ -19,10 +18,6 @@ use Rattle.calls.specs.Engine.{Half, low, high, Engine}
 -- whether X is a suspect of a factor
 abbrev pub suspect : Factor → ℕ → Bool
 suspect f X = isSuspect (contextOf f) (lowerOf f) (upperOf f) X
-
--- 17: "a significand outside 2^(n−1) to 2^n − 1, or a range's first above its last"
-abbrev pub rangeOut : (n first last : ℕ) → Bool
-rangeOut n first last = significandOut n first || significandOut n last || ltb last first
 
 -- 32: "the range is one that 17 refuses, or the next significand lies outside it"
 abbrev pub stateOut : State Factor → Bool

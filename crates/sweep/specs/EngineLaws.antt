@@ -1,18 +1,16 @@
 -- The engine of all factors is lawful: each search finds the least suspect of its half, in few rounds, and every significand that is not right is a suspect.
 -- Assumes nothing.
 use mathlib.Core.Path.{_≡_, subst}
-use mathlib.Core.Bool.{true, false, not, _||_}
+use mathlib.Core.Bool.{true, false, not}
 use mathlib.Core.Logic.{_≢_, _↔_}
 use Prim.Native.Nat.{ℕ, suc, _≤_}
 use native.Mathlib.Omega.{arith}
-use lib.Dec.{ltb}
-use borrow.Author.Tests.{ltb-false, not-false}
+use borrow.Author.Tests.{not-false}
 use Rattle.marks.specs.declared.Mark.the-variants.{Right}
-use Rattle.marks.specs.AnswerLaws.{or-false}
 use Rattle.rounding.specs.Round.{HasBits}
 use Rattle.factor.specs.declared.Parts.{Parts}
 use Rattle.factor.specs.declared.Factor.{Factor}
-use Rattle.factor.specs.Precision.{significandOut}
+use Rattle.factor.specs.Precision.{rangeOut}
 use Rattle.factor.specs.Context.{Context, Fine, contextOf, lowerOf, upperOf}
 use Rattle.factor.specs.ContextLaws.{fine-at}
 use Rattle.factor.specs.Parts.{partsAt}
@@ -20,35 +18,19 @@ use Rattle.factor.specs.SetUp.{intact, Sound}
 use Rattle.factor.specs.SetUpLaws.{intact-sound}
 use Rattle.product.specs.Product.{product, productBy}
 use Rattle.product.specs.Marks.{mark, SaysBy}
-use Rattle.product.specs.Demand2.{mark-tells}
-use Rattle.product.specs.AnswerLaws.{significand-in}
+use Rattle.product.specs.Demand2.{two-steps, mark-tells}
+use Rattle.product.specs.AnswerLaws.{in-range}
 use Rattle.suspects.specs.Suspects.{Suspect}
 use Rattle.suspects.specs.SuspectLaws.{suspect-iff, not-right-suspect}
 use Rattle.suspects.specs.NextLaws as next
 use Rattle.calls.specs.Engine.{Half, low, high, halfOf, Lawful}
 use Rattle.calls.specs.RefusalLaws as calls
 use Rattle.calls.specs.ListLaws.{word-laws}
-use Rattle.sweep.specs.Engine.{suspect, rangeOut, findIn, mostRounds, engine}
+use Rattle.sweep.specs.Engine.{suspect, findIn, mostRounds, engine}
 
 -- A factor that 31 does not refuse is sound.
 pub sound-of : (f : Factor) → not (intact f) ≡ false → Sound f
 sound-of f q = intact-sound f (not-false _ q)
-
--- What a range has that 17 does not refuse.
-pub record InRange (n first last : ℕ) : Type 0 where
-  pub first-bits : HasBits n first
-  pub last-bits : HasBits n last
-  pub ordered : first ≤ last
-
-pub in-range : (n first last : ℕ) → rangeOut n first last ≡ false → InRange n first last
-in-range n first last q =
-    let outer = or-false (significandOut n first || significandOut n last) (ltb last first) q in
-    let inner = or-false (significandOut n first) (significandOut n last) (outer .0) in
-    record {
-      first-bits = significand-in n first (inner .0);
-      last-bits = significand-in n last (inner .1);
-      ordered = ltb-false last first (outer .1);
-    }
 
 module _ (f : Factor) (s : Sound f) where
   abbrev n : ℕ
@@ -75,7 +57,7 @@ module _ (f : Factor) (s : Sound f) where
 
   -- The mark of a significand in range says what demand 2 has it say of every fraction between the ends.
   pub mark-is : (X : ℕ) → HasBits n X → SaysBy f X (productBy f X) (engine .mark f X)
-  mark-is = mark-tells f s
+  mark-is X x = mark-tells f s X x (productBy f X) (two-steps f s X x .bits)
 
   -- A search takes few rounds.
   pub few : (h : Half) (a : ℕ) → findIn f h a .rounds ≤ mostRounds f

@@ -23,13 +23,14 @@ use Rattle.suspects.specs.declared.Windows.{Windows}
 use Rattle.suspects.specs.Next.{nextIn, Askable}
 use Rattle.suspects.specs.WindowLaws.{low-askable, high-askable}
 use Rattle.factor.specs.Precision.{mostPrecision}
+use Rattle.product.specs.AnswerLaws.{in-range}
 use Rattle.calls.specs.Engine.{low, high}
 use Rattle.calls.specs.Call.{within, orElse, highStart, ahead}
 use Rattle.calls.specs.RunLaws.{ahead-found}
 use Rattle.sweep.specs.declared.SweepState.{SweepState}
 use Rattle.sweep.specs.declared.Work.{Work}
 use Rattle.sweep.specs.Engine.{windowsOf, mostRounds, engine}
-use Rattle.sweep.specs.EngineLaws.{sound-of, in-range, few, lawful}
+use Rattle.sweep.specs.EngineLaws.{sound-of, few, lawful}
 use Rattle.sweep.specs.Steps.{cutAt, soughtBefore, aheadIn, Searchable, mustStop, haltedAt, triedAt, stepAt, aheadOf, stepOf, Room, Stepping}
 
 -- ---- a place that is cut

@@ -17,7 +17,7 @@ ghost use Rattle.suspects.specs.Next.{Askable};
 ghost use Rattle.marks.specs.Answers.{refusalOf, First};
 ghost use Rattle.calls.specs.Call.{newState, conditions, sweepCall};
 ghost use Rattle.calls.specs.Call;
-ghost use Rattle.sweep.specs.Engine.{rangeOut, stateOut, engine};
+ghost use Rattle.sweep.specs.Engine.{stateOut, engine};
 ghost use Rattle.sweep.specs.Answers.{viewOf, newOf, callOf, termsBy, resultOf, replyOf};
 ghost use Rattle.sweep.specs.Steps.{cutAt, soughtBefore, aheadIn, Searchable, mustStop, begunAt, haltedAt, withWord, triedAt, stepOf, resultIn, Room, Stepping, Taken};
 
@@ -68,20 +68,6 @@ struct Work {
     left: Place,
 }
 
-// Refusal 17 of a range: a significand outside 2 ^ (n - 1) to 2 ^ n - 1, or the first above the last.
-fn range_out(p: Precision, first: u64, last: u64) -> bool
-    requires { ⌜ ValidPrecision (p .bits) ⌝ }
-    ensures { λ r. ⌜ r ≡ rangeOut (p .bits) first last ⌝ }
-{
-    if product::significand_out(p, first) {
-        return true;
-    }
-    if product::significand_out(p, last) {
-        return true;
-    }
-    last < first
-}
-
 // A new sweep over a range: 31 by the factor, then 17 by the range.
 pub fn new_state(f: Factor, first: u64, last: u64) -> NewSweep
     ensures { λ r. ⌜ newOf r ≡ newState engine f first last ⌝ }
@@ -90,7 +76,7 @@ pub fn new_state(f: Factor, first: u64, last: u64) -> NewSweep
         return NewSweep::Refused(31);
     }
     let p = f.precision;
-    if range_out(p, first, last) {
+    if product::range_out(p, first, last) {
         return NewSweep::Refused(17);
     }
     NewSweep::Accepted(SweepState {
@@ -109,7 +95,7 @@ fn state_out(s: SweepState) -> bool
 {
     let f = s.factor;
     let p = f.precision;
-    if range_out(p, s.first, s.last) {
+    if product::range_out(p, s.first, s.last) {
         return true;
     }
     if s.next < s.first {

@@ -14,8 +14,7 @@ use Rattle.factor.specs.Context.{tieRule, contextAt}
 use Rattle.factor.specs.Precision.{ValidPrecision, scaleOf}
 use Rattle.factor.specs.UnitParts.{unitPartsOf}
 use Rattle.product.specs.Units.{firstUnits}
-use Rattle.product.specs.StepLaws.{FirstStep, low-lt, first-lt, first-none, first-some}
-use Rattle.product.proofs.Laws.{product-word}
+use Rattle.product.specs.StepLaws.{product-word, FirstStep, low-lt, first-lt, first-none, first-some}
 use Rattle.product.proofs.first_units.Statement.{statement}
 use Rattle.product.proofs.first_units.Tie as tie
 

@@ -18,8 +18,7 @@ use Rattle.factor.specs.Context.{contextAt}
 use Rattle.factor.specs.Precision.{ValidPrecision, scaleOf}
 use Rattle.factor.specs.UnitParts.{step, plusOrMinus, unitPartsOf}
 use Rattle.product.specs.Units.{firstUnits, fusedUnits}
-use Rattle.product.specs.StepLaws.{high-le, first-lt, first-le}
-use Rattle.product.proofs.Laws.{product-word}
+use Rattle.product.specs.StepLaws.{product-word, high-le, first-lt, first-le}
 use Rattle.product.proofs.fused_units.Statement.{statement}
 use Rattle.product.proofs.fused_units.Tie as tie
 

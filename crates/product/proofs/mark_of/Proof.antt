@@ -9,21 +9,17 @@ use Rattle.rounding.specs.Unit.{rn}
 use Rattle.wide.specs.Value.{wordBits, halfWord, valueOf}
 use Rattle.wide.specs.OrderLaws.{high-lt}
 use Rattle.factor.specs.Context.{tieRule, contextOf, lowerOf, upperOf}
-use Rattle.factor.specs.Precision.{ValidPrecision, scaleOf}
+use Rattle.factor.specs.Precision.{scaleOf}
 use Rattle.product.specs.Units.{markUnits, Within}
 use Rattle.product.specs.SoundLaws.{sound-fine, sound-close, sound-upper}
-use Rattle.product.specs.StepLaws.{end-within}
+use Rattle.product.specs.StepLaws.{significand-word, end-within}
 use Rattle.product.specs.MarkLaws.{mark-steps}
 use Rattle.product.proofs.Laws.{steps-word}
 use Rattle.product.proofs.mark_of.Statement.{statement}
 use Rattle.product.proofs.mark_of.Tie as tie
 
--- a significand is one digit
-digit : (n X : ℕ) → ValidPrecision n → X < 2 ^ n → X < 2 ^ 32
-digit n X N x = lt-of-lt-of-le x (pow-mono {i = n} {j = 32} (omega (arith, N)))
-
 product-by-digit-requires : tie.Need-product-by-digit-requires
-product-by-digit-requires c κs = let a = c .before in digit (a .args .f .precision .bits) (a .args .x) (a .pre .0 .precision) (a .pre .1 .most)
+product-by-digit-requires c κs = let a = c .before in significand-word (a .args .f .precision .bits) (a .args .x) (a .pre .0 .precision) (a .pre .1)
 
 -- what U * x has more is one word
 more : (c : tie.After-product-by-digit) → let a = c .before .before in (a .args .f .upper - a .args .f .lower) * a .args .x < 2 ^ 64
@@ -43,7 +39,7 @@ sum-requires c κs =
     let n = a .args .f .precision .bits in
     let N = a .pre .0 .precision in
     let L : a .args .f .lower < halfWord = lt-of-lt-of-le (a .pre .0 .lower-end .to) (pow-mono {i = suc (scaleOf n)} {j = wordBits - 1} (omega (arith, N))) in
-    let X : a .args .x ≤ 2 ^ wordBits = omega (arith, digit n (a .args .x) N (a .pre .1 .most)) in
+    let X : a .args .x ≤ 2 ^ wordBits = omega (arith, significand-word n (a .args .x) N (a .pre .1)) in
     let hi : d .product-by-digit .result .hi < halfWord =
     high-lt (2 ^ wordBits) (d .product-by-digit .result .hi) (d .product-by-digit .result .lo) halfWord
     (rw (d .product-by-digit .ensures) (lt-of-le-of-lt (mul-le-mul-left (a .args .f .lower) X) (mul-lt-mul-of-pos-right L (pow-pos wordBits)))) in

@@ -31,8 +31,8 @@ module _ (c : tie.After-enum-told) where
 product-of-requires : tie.Need-product-of-requires
 product-of-requires c κs = through c
 
-mark-of-requires : tie.Need-mark-of-requires
-mark-of-requires c κs =
+marked-requires : tie.Need-marked-requires
+marked-requires c κs =
     let k = c .before in
     let t = through k in
     let is = sound-product (f k) (t .0) (x k) (t .1) in
@@ -45,11 +45,10 @@ returns c = judged-refused (c .before .before .before .refusal-of .ensures) (c .
 returns-2 : tie.Need-returns-2
 unfolding multiplied
 returns-2 c =
-    let product = c .before .before in
-    let k = product .before in
-    c .answer .ensures
-    ∙ rw (c .before .mark-of .ensures) (ap (λ (v : Product). accepted (marked (f k) (x k) v)) (product .product-of .ensures))
+    let k = c .before .before in
+    c .marked .ensures
+    ∙ ap (λ (v : Product). accepted (marked (f k) (x k) v)) (c .before .product-of .ensures)
     ∙ sym (none-refuses (conditions (f k) (x k)) _ (none k))
 
 pub multiply-spec : {M : Type 1} → statement M
-multiply-spec = tie.close (tie.spec (λ c κs. search needs) (λ c. search needs) (λ c. search needs) product-of-requires mark-of-requires (λ c κs. search needs) returns returns-2)
+multiply-spec = tie.close (tie.spec (λ c κs. search needs) (λ c. search needs) (λ c. search needs) product-of-requires marked-requires returns returns-2)

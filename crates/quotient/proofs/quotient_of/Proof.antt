@@ -14,10 +14,9 @@ use borrow.Author.Needs.{needs}
 use Rattle.round.specs.declared.Neighbour.{Neighbour}
 use Rattle.rounding.specs.Grid.{nearest}
 use Rattle.factor.specs.Context.{tieRule, contextOf}
-use Rattle.product.specs.SoundLaws.{sound-fine}
+use Rattle.product.specs.SoundLaws.{sound-fine, sound-high}
 use Rattle.quotient.specs.Quotient.{binadesBelow}
 use Rattle.quotient.specs.QuotientLaws.{quotient-is}
-use Rattle.quotient.specs.Tells.{sound-high}
 use Rattle.quotient.proofs.quotient_of.Statement.{statement}
 use Rattle.quotient.proofs.quotient_of.Tie as tie
 

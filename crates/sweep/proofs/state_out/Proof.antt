@@ -3,7 +3,7 @@ use mathlib.Core.Path.{_≡_, sym, _∙_}
 use mathlib.Core.Bool.{true, false}
 use borrow.Author.Needs.{needs}
 use borrow.Author.Tests.{lt-ltb, le-ltb}
-use Rattle.sweep.specs.Engine.{rangeOut}
+use Rattle.factor.specs.Precision.{rangeOut}
 use Rattle.sweep.proofs.state_out.Statement.{statement}
 use Rattle.sweep.proofs.state_out.Tie as tie
 

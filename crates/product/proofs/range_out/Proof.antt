@@ -1,10 +1,10 @@
--- `sweep::range_out` is refusal 17 of a range. Assumes nothing.
+-- `product::range_out` is refusal 17 of a range. Assumes nothing.
 use mathlib.Core.Path.{_≡_, sym, _∙_}
 use mathlib.Core.Bool.{true, false}
 use borrow.Author.Needs.{needs}
 use Rattle.factor.specs.Precision.{significandOut}
-use Rattle.sweep.proofs.range_out.Statement.{statement}
-use Rattle.sweep.proofs.range_out.Tie as tie
+use Rattle.product.proofs.range_out.Statement.{statement}
+use Rattle.product.proofs.range_out.Tie as tie
 
 returns : tie.Need-returns
 returns c =

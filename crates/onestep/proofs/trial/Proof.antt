@@ -1,0 +1,23 @@
+-- `onestep::trial` meets its contract: the product has n bits, in binade 0 or 1. Assumes nothing.
+use mathlib.Core.Path.{ap, _∙_}
+use borrow.Author.Needs.{needs}
+use Rattle.product.specs.Marks.{markBy}
+use Rattle.onestep.specs.Tally.{markOnce}
+use Rattle.onestep.specs.OneStepLaws.{sound-one-step}
+use Rattle.onestep.proofs.trial.Statement.{statement}
+use Rattle.onestep.proofs.trial.Tie as tie
+
+mark-of-requires : tie.Need-mark-of-requires
+mark-of-requires c κs =
+    let a = c .before in
+    let is = sound-one-step (a .args .f) (a .pre .0) (a .args .x) (a .pre .1) in
+    (a .pre .0, a .pre .1, rw (c .product-of .ensures) (is .bits), rw (c .product-of .ensures) (is .binade))
+
+returns : tie.Need-returns
+unfolding markOnce
+returns c =
+    let a = c .before .before in
+    c .mark-of .ensures ∙ ap (markBy (a .args .f) (a .args .x)) (c .before .product-of .ensures)
+
+pub trial-spec : {M : Type 1} → statement M
+trial-spec = tie.close (tie.spec (λ c κs. search needs) mark-of-requires returns)
