@@ -16,6 +16,7 @@ use Rattle.product.specs.declared.Product.{Product}
 use Rattle.product.specs.Product.{product, productBy}
 use Rattle.product.specs.Marks.{mark}
 use Rattle.product.specs.Answer.{marked}
+use Rattle.onestep.specs.OneStep.{oneStep, oneStepBy}
 use Rattle.reading.specs.declared.ReadingAnswer.{ReadingAnswer}
 use Rattle.reading.specs.declared.NumberAnswer.{NumberAnswer}
 use Rattle.reading.specs.declared.Taken.{Taken}
@@ -91,10 +92,19 @@ productOf f b v = record { of-zero = record { mark = Mark.Right; value = plusZer
 abbrev pub twoSteps : Factor → ℕ → Made (Marked Float)
 twoSteps f b = productOf f b (productBy f (significandOf binary32 b))
 
--- the answer to a reading x
+-- and that of the one-step device (request W2)
+abbrev pub oneStepOf : Factor → ℕ → Made (Marked Float)
+oneStepOf f b = productOf f b (oneStepBy f (significandOf binary32 b))
+
+-- the answer to a reading x, on the two-step device
 unfoldable pub applied : Factor → Float → Outcome (Marked Float)
 unfolding intact product mark numberOf
 applied f x = let b = toBits binary32 x in answerTo f b (twoSteps f b)
+
+-- and on the one-step device
+unfoldable pub appliedOnce : Factor → Float → Outcome (Marked Float)
+unfolding intact oneStep mark numberOf
+appliedOnce f x = let b = toBits binary32 x in answerTo f b (oneStepOf f b)
 
 -- what each case of the answer says: a refusal its number; any other its mark and the product as a binary32 number
 abbrev pub outcomeOf : ReadingAnswer → Outcome (Marked Float)

@@ -1,4 +1,4 @@
-// A binary32 reading times a factor (document 01, "Binary32"): the product with its mark, or a refusal; and divided by it (request W1): the quotient, or a refusal.
+// A binary32 reading times a factor (document 01, "Binary32"), on the two-step device and on the one-step device (request W2): the product with its mark, or a refusal; and divided by it (request W1): the quotient, or a refusal.
 use factor::Factor;
 use marks::Mark;
 use product::Product;
@@ -14,7 +14,7 @@ ghost use Rattle.factor.specs.UnitParts.{unitPartsOf};
 ghost use Rattle.factor.specs.SetUp.{Sound};
 ghost use Rattle.product.specs.Product.{productBy};
 ghost use Rattle.product.specs.Units.{firstUnits};
-ghost use Rattle.reading.specs.Reading.{unreadable, kindOf, placed, finished, applied, outcomeOf, numberSays, takenOf};
+ghost use Rattle.reading.specs.Reading.{unreadable, kindOf, placed, finished, applied, appliedOnce, outcomeOf, numberSays, takenOf};
 ghost use Rattle.reading.specs.Divided.{dividedReading};
 
 // The biased exponents of normal numbers.
@@ -142,6 +142,20 @@ pub fn read(f: Factor, reading: f32) -> ReadingAnswer
         Taken::Refused(number) => ReadingAnswer::Refused(number),
         Taken::Zero => ReadingAnswer::Right(floats::plus_zero()),
         Taken::Normal(bits) => finish(f, bits, two_steps(f, bits)),
+    }
+}
+
+// Multiplies a reading on the one-step device: refused as on the other, a zero gives plus zero, right, and any other reading RN(Ch * x) with its mark.
+pub fn read_once(f: Factor, reading: f32) -> ReadingAnswer
+    ensures { λ r. ⌜ outcomeOf r ≡ appliedOnce f reading ⌝ }
+{
+    match take(f, reading) {
+        Taken::Refused(number) => ReadingAnswer::Refused(number),
+        Taken::Zero => ReadingAnswer::Right(floats::plus_zero()),
+        Taken::Normal(bits) => {
+            let x = floats::significand_of(bits);
+            finish(f, bits, onestep::product_of(f, x as u64))
+        }
     }
 }
 
