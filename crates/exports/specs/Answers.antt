@@ -13,9 +13,12 @@ use Rattle.factor.specs.declared.Factor.{Factor}
 use Rattle.factor.specs.SetUp.{setUp}
 use Rattle.product.specs.declared.Product.{Product}
 use Rattle.product.specs.Answer.{multiplied}
+use Rattle.onestep.specs.declared.Counts.{Counts}
+use Rattle.onestep.specs.Answer.{multipliedOnce}
+use Rattle.onestep.specs.Tally.{tallied}
 use Rattle.quotient.specs.declared.Quotient.{Quotient}
 use Rattle.quotient.specs.Answer.{divided}
-use Rattle.reading.specs.Reading.{applied}
+use Rattle.reading.specs.Reading.{applied, appliedOnce}
 use Rattle.reading.specs.Divided.{dividedReading}
 use Rattle.words.specs.Words.{unsigned}
 use Rattle.calls.specs.State.{State}
@@ -84,17 +87,41 @@ setUpTo d out = setUpAnswer (andThen (answer (tooShort (length out) factorLength
 abbrev pub productWords : Product → List ℕ
 productWords v = v .significand ∷ v .binade ∷ []
 
+abbrev pub productAnswer : Outcome (Marked Product) → Answer
+productAnswer o = markedAnswer productWords o
+
 unfoldable pub multiplyTo : (factor : List ℕ) (X : ℕ) (out : List ℕ) → Answer
 unfolding multiplied taken
-multiplyTo factor X out = markedAnswer productWords (andThen (taken factor factorLength (length out) 2) (λ f. multiplied f X))
+multiplyTo factor X out = productAnswer (andThen (taken factor factorLength (length out) 2) (λ f. multiplied f X))
+
+-- on the one-step device
+unfoldable pub multiplyOnceTo : (factor : List ℕ) (X : ℕ) (out : List ℕ) → Answer
+unfolding multipliedOnce taken
+multiplyOnceTo factor X out = productAnswer (andThen (taken factor factorLength (length out) 2) (λ f. multipliedOnce f X))
 
 -- ---- a reading: 1 right, 2 open, 3 wrong, with the product's bits, or the refusal
 abbrev pub readingWords : Float → List ℕ
 readingWords y = toBits binary32 y ∷ []
 
+abbrev pub readingAnswer : Outcome (Marked Float) → Answer
+readingAnswer o = markedAnswer readingWords o
+
 unfoldable pub readTo : (factor : List ℕ) (reading : ℕ) (out : List ℕ) → Answer
 unfolding applied taken toBits ofBits
-readTo factor reading out = markedAnswer readingWords (andThen (taken factor factorLength (length out) 1) (λ f. applied f (ofBits binary32 reading)))
+readTo factor reading out = readingAnswer (andThen (taken factor factorLength (length out) 1) (λ f. applied f (ofBits binary32 reading)))
+
+-- on the one-step device
+unfoldable pub readOnceTo : (factor : List ℕ) (reading : ℕ) (out : List ℕ) → Answer
+unfolding appliedOnce taken toBits ofBits
+readOnceTo factor reading out = readingAnswer (andThen (taken factor factorLength (length out) 1) (λ f. appliedOnce f (ofBits binary32 reading)))
+
+-- ---- a tally: 0 with how many significands are right, wrong and open, or the refusal
+abbrev pub tallyWords : Counts → List ℕ
+tallyWords t = t .rights ∷ t .wrongs ∷ t .opens ∷ []
+
+unfoldable pub tallyTo : (factor : List ℕ) (first last : ℕ) (out : List ℕ) → Answer
+unfolding tallied taken
+tallyTo factor first last out = plainAnswer tallyWords (andThen (taken factor factorLength (length out) 3) (λ f. tallied f first last))
 
 -- ---- a quotient: 0 with significand and binade, which is a word in two's complement, or the refusal
 abbrev pub quotientWords : Quotient → List ℕ

@@ -5,6 +5,8 @@ use factor::Factor;
 use factor::Parts;
 use factor::Precision;
 use factor::SetUp;
+use onestep::Counts;
+use onestep::TallyAnswer;
 use product::Product;
 use product::ProductAnswer;
 use quotient::Quotient;
@@ -21,11 +23,13 @@ ghost use lib.ListN.{length};
 ghost use lib.Seq.{sets};
 ghost use lib.Ieee.{binary32, toBits};
 ghost use Rattle.words.specs.Words.{unsigned};
+ghost use Rattle.product.specs.Answer.{outcomeOf};
+ghost use Rattle.reading.specs.Reading.{outcomeOf as readingSays};
 ghost use Rattle.sweep.specs.Answers.{viewOf};
 ghost use Rattle.exports.specs.Words.{factorFrom, factorWords, damaged, stateOf, stateWords};
-ghost use Rattle.exports.specs.Answers.{taken, takenOf, leaves, setUpTo, multiplyTo, readTo, divideTo, divideReadingTo, newSweepTo, sweepTo};
+ghost use Rattle.exports.specs.Answers.{taken, takenOf, leaves, setUpTo, productAnswer, multiplyTo, multiplyOnceTo, readingAnswer, readTo, readOnceTo, tallyTo, divideTo, divideReadingTo, newSweepTo, sweepTo};
 
-// So many words have a factor, a product, a quotient, what a reading is answered with, a sweep's state, and what a sweep call counts.
+// So many words have a factor, a product, a quotient, what a reading is answered with, a tally, a sweep's state, and what a sweep call counts.
 const FACTOR_WORDS: usize = 9;
 
 const PRODUCT_WORDS: usize = 2;
@@ -33,6 +37,8 @@ const PRODUCT_WORDS: usize = 2;
 const QUOTIENT_WORDS: usize = 2;
 
 const READING_WORDS: usize = 1;
+
+const TALLY_WORDS: usize = 3;
 
 const STATE_WORDS: usize = 13;
 
@@ -132,6 +138,20 @@ fn put_product(mark: u32, v: Product, out: &mut [u64]) -> u32
     mark
 }
 
+// What either device answers to a significand: a product's words and its mark, or the refusal.
+fn tell_product(a: ProductAnswer, out: &mut [u64]) -> u32
+    requires { ⌜ 2 ≤ length (now out) ⌝ }
+    ensures { λ r. ⌜ r ≡ productAnswer (outcomeOf a) .number ⌝ }
+    ensures { λ _. ⌜ now (out .exit) ≡ leaves (productAnswer (outcomeOf a)) (now (out .entry)) ⌝ }
+{
+    match a {
+        ProductAnswer::Right(v) => put_product(1, v, out),
+        ProductAnswer::Open(v) => put_product(2, v, out),
+        ProductAnswer::Wrong(v) => put_product(3, v, out),
+        ProductAnswer::Refused(k) => k,
+    }
+}
+
 // The words of a quotient, and 0 as the answer: it has no mark.
 fn put_quotient(v: Quotient, out: &mut [u64]) -> u32
     requires { ⌜ 2 ≤ length (now out) ⌝ }
@@ -151,6 +171,32 @@ fn put_reading(number: u32, y: f32, out: &mut [u32]) -> u32
 {
     out[0] = floats::bits_of(y);
     number
+}
+
+// What either device answers to a reading: a product's bits and its mark, or the refusal.
+fn tell_reading(a: ReadingAnswer, out: &mut [u32]) -> u32
+    requires { ⌜ 1 ≤ length (now out) ⌝ }
+    ensures { λ r. ⌜ r ≡ readingAnswer (readingSays a) .number ⌝ }
+    ensures { λ _. ⌜ now (out .exit) ≡ leaves (readingAnswer (readingSays a)) (now (out .entry)) ⌝ }
+{
+    match a {
+        ReadingAnswer::Right(y) => put_reading(1, y, out),
+        ReadingAnswer::Open(y) => put_reading(2, y, out),
+        ReadingAnswer::Wrong(y) => put_reading(3, y, out),
+        ReadingAnswer::Refused(k) => k,
+    }
+}
+
+// The words of a tally's counts, and 0 as the answer.
+fn put_counts(t: Counts, out: &mut [u64]) -> u32
+    requires { ⌜ 3 ≤ length (now out) ⌝ }
+    ensures { λ r. ⌜ r ≡ 0 ⌝ }
+    ensures { λ _. ⌜ now (out .exit) ≡ sets (now (out .entry)) 0 (t .rights ∷ t .wrongs ∷ t .opens ∷ []) ⌝ }
+{
+    out[0] = t.rights;
+    out[1] = t.wrongs;
+    out[2] = t.opens;
+    0
 }
 
 // A sweep's state over a factor, from the words behind the factor's: the first, last and next significand, and whether it is finished.
@@ -217,12 +263,7 @@ pub extern "C" fn gusnalip_multiply(factor: &[u64], x: u64, out: &mut [u64]) -> 
     ensures { λ _. ⌜ now (out .exit) ≡ leaves (multiplyTo (now (factor .entry)) x (now (out .entry))) (now (out .entry)) ⌝ }
 {
     match take_factor(factor, FACTOR_WORDS, out.len(), PRODUCT_WORDS) {
-        TakenFactor::Accepted(f) => match product::multiply(f, x) {
-            ProductAnswer::Right(v) => put_product(1, v, out),
-            ProductAnswer::Open(v) => put_product(2, v, out),
-            ProductAnswer::Wrong(v) => put_product(3, v, out),
-            ProductAnswer::Refused(k) => k,
-        },
+        TakenFactor::Accepted(f) => tell_product(product::multiply(f, x), out),
         TakenFactor::Refused(k) => k,
     }
 }
@@ -234,11 +275,49 @@ pub extern "C" fn gusnalip_read(factor: &[u64], reading: u32, out: &mut [u32]) -
     ensures { λ _. ⌜ now (out .exit) ≡ leaves (readTo (now (factor .entry)) reading (now (out .entry))) (now (out .entry)) ⌝ }
 {
     match take_factor(factor, FACTOR_WORDS, out.len(), READING_WORDS) {
-        TakenFactor::Accepted(f) => match reading::read(f, floats::float_from(reading)) {
-            ReadingAnswer::Right(y) => put_reading(1, y, out),
-            ReadingAnswer::Open(y) => put_reading(2, y, out),
-            ReadingAnswer::Wrong(y) => put_reading(3, y, out),
-            ReadingAnswer::Refused(k) => k,
+        TakenFactor::Accepted(f) => {
+            tell_reading(reading::read(f, floats::float_from(reading)), out)
+        }
+        TakenFactor::Refused(k) => k,
+    }
+}
+
+// Multiplies a significand on the one-step device: answered as by gusnalip_multiply.
+#[no_mangle]
+pub extern "C" fn gusnalip_multiply_once(factor: &[u64], x: u64, out: &mut [u64]) -> u32
+    ensures { λ r. ⌜ r ≡ multiplyOnceTo (now (factor .entry)) x (now (out .entry)) .number ⌝ }
+    ensures { λ _. ⌜ now (out .exit) ≡ leaves (multiplyOnceTo (now (factor .entry)) x (now (out .entry))) (now (out .entry)) ⌝ }
+{
+    match take_factor(factor, FACTOR_WORDS, out.len(), PRODUCT_WORDS) {
+        TakenFactor::Accepted(f) => tell_product(onestep::multiply(f, x), out),
+        TakenFactor::Refused(k) => k,
+    }
+}
+
+// Multiplies a reading on the one-step device: answered as by gusnalip_read.
+#[no_mangle]
+pub extern "C" fn gusnalip_read_once(factor: &[u64], reading: u32, out: &mut [u32]) -> u32
+    ensures { λ r. ⌜ r ≡ readOnceTo (now (factor .entry)) reading (now (out .entry)) .number ⌝ }
+    ensures { λ _. ⌜ now (out .exit) ≡ leaves (readOnceTo (now (factor .entry)) reading (now (out .entry))) (now (out .entry)) ⌝ }
+{
+    match take_factor(factor, FACTOR_WORDS, out.len(), READING_WORDS) {
+        TakenFactor::Accepted(f) => {
+            tell_reading(reading::read_once(f, floats::float_from(reading)), out)
+        }
+        TakenFactor::Refused(k) => k,
+    }
+}
+
+// Tallies a range on the one-step device: 0 with how many significands are right, wrong and open, or the refusal; 255 where a list is too short, 31 where the factor's words are damaged.
+#[no_mangle]
+pub extern "C" fn gusnalip_tally(factor: &[u64], first: u64, last: u64, out: &mut [u64]) -> u32
+    ensures { λ r. ⌜ r ≡ tallyTo (now (factor .entry)) first last (now (out .entry)) .number ⌝ }
+    ensures { λ _. ⌜ now (out .exit) ≡ leaves (tallyTo (now (factor .entry)) first last (now (out .entry))) (now (out .entry)) ⌝ }
+{
+    match take_factor(factor, FACTOR_WORDS, out.len(), TALLY_WORDS) {
+        TakenFactor::Accepted(f) => match onestep::tally(f, first, last) {
+            TallyAnswer::Accepted(t) => put_counts(t, out),
+            TallyAnswer::Refused(k) => k,
         },
         TakenFactor::Refused(k) => k,
     }

@@ -1,45 +1,34 @@
 -- `exports::gusnalip_multiply` meets its contract: the engine's answer as a number and words. Assumes nothing.
-use mathlib.Core.Path.{_≡_, refl, ap, _∙_}
-use Prim.Native.Nat.{_≤_}
-use lib.ListN.{length}
+use mathlib.Core.Path.{refl}
 use borrow.Author.Needs.{needs}
-use Rattle.product.specs.declared.ProductAnswer.{ProductAnswer}
-use Rattle.product.specs.Answer.{multiplied, outcomeOf}
-use Rattle.exports.specs.Answers.{Answer, markedAnswer, productWords, multiplyTo}
+use Rattle.product.specs.Answer.{multiplied}
+use Rattle.exports.specs.Answers.{productAnswer, multiplyTo}
 use Rattle.exports.specs.AnswerLaws.{enough, answered, not-taken, gives}
 use Rattle.exports.proofs.gusnalip_multiply.Statement.{statement}
 use Rattle.exports.proofs.gusnalip_multiply.Tie as tie
 
--- what the engine answers, and so what is answered
-abbrev says : ProductAnswer → Answer
-says r = markedAnswer productWords (outcomeOf r)
-
-answer : (s : tie.After-multiply) → let a = s .before .before .before .before .before .before .before .args in multiplyTo (a .factor .now) (a .x) (a .out .now) ≡ says (s .multiply .result)
-unfolding multiplyTo
-answer s =
-    let told = s .before .before in
-    let a = told .before .before .before .before .before .args in
-    answered (markedAnswer productWords) (λ f. multiplied f (a .x)) (told .before .before .take-factor .ensures) (told .f .given .1) (s .multiply .ensures)
-
 -- there is room for the product
-roomy : (s : tie.After-multiply) → 2 ≤ length (s .before .before .before .before .before .before .before .args .out .now)
-roomy s = let told = s .before .before in enough (told .before .before .take-factor .ensures) (told .f .given .1) .roomy
+roomy : tie.Need-tell-product-requires
+roomy c κs = let told = c .before .before .before in enough (told .before .before .take-factor .ensures) (told .f .given .1) .roomy
+
+-- the engine's answer
+returns : tie.Need-returns
+unfolding multiplyTo
+returns c =
+    let told = c .before .before in
+    let s = told .before .before in
+    let f = s .before .before in
+    let a = f .before .before .before .before .before .args in
+    gives _ (told .tell-product .ensures) (answered productAnswer (λ f. multiplied f (a .x)) (f .before .before .take-factor .ensures) (f .f .given .1) (s .multiply .ensures))
 
 -- the words were not taken
-refused : tie.Need-returns-5
+returns-2 : tie.Need-returns-2
 unfolding multiplyTo
-refused c =
+returns-2 c =
     let told = c .before in
     let take = told .before .before in
     let a = take .before .before .before .args in
-    gives _ (refl, refl) (not-taken (markedAnswer productWords) (λ f. multiplied f (a .x)) (take .take-factor .ensures) (told .k2 .given .1))
+    gives _ (refl, refl) (not-taken productAnswer (λ f. multiplied f (a .x)) (take .take-factor .ensures) (told .k .given .1))
 
 pub gusnalip-multiply-spec : {M : Type 1} → statement M
-gusnalip-multiply-spec =
-    tie.close (tie.spec (λ c κs. search needs) (λ c. search needs) (λ c κs. search needs) (λ c. search needs) (λ c κs. roomy (c .before .before .before .before)) (λ c. search needs) (λ c κs. roomy (c .before .before .before .before)) (λ c. search needs)
-    (λ c κs. roomy (c .before .before .before .before))
-    (λ c. search needs) (λ c. search needs) (λ c. search needs)
-    (λ c. gives _ (c .before .before .put-product .ensures) (answer (c .before .before .before .before .before .before .before) ∙ ap says (c .before .before .before .before .before .v .given .1))) (λ c. search needs)
-    (λ c. gives _ (c .before .before .put-product2 .ensures) (answer (c .before .before .before .before .before .before .before) ∙ ap says (c .before .before .before .before .before .v2 .given .1))) (λ c. search needs)
-    (λ c. gives _ (c .before .before .put-product3 .ensures) (answer (c .before .before .before .before .before .before .before) ∙ ap says (c .before .before .before .before .before .v3 .given .1)))
-    (λ c. gives _ (refl, refl) (answer (c .before .before .before) ∙ ap says (c .before .k .given .1))) refused)
+gusnalip-multiply-spec = tie.close (tie.spec (λ c κs. search needs) (λ c. search needs) (λ c κs. search needs) roomy (λ c. search needs) (λ c. search needs) returns returns-2)
