@@ -5,3 +5,4 @@ pub mod OneStepLaws
 pub mod Tells
 pub mod Tally
 pub mod TallyLaws
+pub mod Examples

@@ -59,17 +59,17 @@ abbrev pub mostTallied : ℕ
 mostTallied = 65536
 
 -- how many significands a range has
-abbrev pub spanOf : (first last : ℕ) → ℕ
-spanOf first last = suc last - first
+abbrev pub spanLength : (first last : ℕ) → ℕ
+spanLength first last = suc last - first
 
 -- 31 by the factor, then 17 by the range, then 41: "tally range longer than 65,536"
 abbrev pub conditions : Factor → (first last : ℕ) → List (ℕ × Bool)
-conditions f first last = (31, not (intact f)) ∷ (17, rangeOut (f .precision .bits) first last) ∷ (41, ltb mostTallied (spanOf first last)) ∷ []
+conditions f first last = (31, not (intact f)) ∷ (17, rangeOut (f .precision .bits) first last) ∷ (41, ltb mostTallied (spanLength first last)) ∷ []
 
 -- the tally of a range, unless one of them holds
 unfoldable pub tallied : Factor → (first last : ℕ) → Outcome Counts
 unfolding intact markOnce
-tallied f first last = answer (conditions f first last) (countsOf (markOnce f) first (spanOf first last))
+tallied f first last = answer (conditions f first last) (countsOf (markOnce f) first (spanLength first last))
 
 -- what each case of the answer says
 abbrev pub tallySays : TallyAnswer → Outcome Counts

@@ -16,7 +16,7 @@ use Rattle.factor.specs.SetUp.{intact, Sound}
 use Rattle.factor.specs.SetUpLaws.{intact-sound}
 use Rattle.product.specs.AnswerLaws.{InRange, in-range, range-in}
 use Rattle.onestep.specs.declared.Counts.{Counts}
-use Rattle.onestep.specs.Tally.{one, howMany, countsOf, nothing, together, markOnce, mostTallied, spanOf, conditions, tallied}
+use Rattle.onestep.specs.Tally.{one, howMany, countsOf, nothing, together, markOnce, mostTallied, spanLength, conditions, tallied}
 
 -- ---- whoever marks
 module _ (marks : ℕ → Mark) where
@@ -50,17 +50,17 @@ range-through f first last h = (intact-sound f (not-false _ (h .0)), in-range (f
 pub record Told (f : Factor) (first last : ℕ) (t : Counts) : Type 0 where
   pub sound : Sound f
   pub range : InRange (f .precision .bits) first last
-  pub short : spanOf first last ≤ mostTallied
-  pub counts : t ≡ countsOf (markOnce f) first (spanOf first last)
+  pub short : spanLength first last ≤ mostTallied
+  pub counts : t ≡ countsOf (markOnce f) first (spanLength first last)
   -- which add up to its length
-  pub sum : t .rights + t .wrongs + t .opens ≡ spanOf first last
+  pub sum : t .rights + t .wrongs + t .opens ≡ spanLength first last
 
 pub told : (f : Factor) (first last : ℕ) (t : Counts) → tallied f first last ≡ accepted t → Told f first last t
 unfolding tallied
 told f first last t e =
-    let o = only-accepted (conditions f first last) (countsOf (markOnce f) first (spanOf first last)) t e in
+    let o = only-accepted (conditions f first last) (countsOf (markOnce f) first (spanLength first last)) t e in
     let r = range-through f first last (o .0) in
-    record { sound = r .0; range = r .1; short = ltb-false mostTallied (spanOf first last) (o .0 .1 .1 .0); counts = sym (o .1); sum = rw (sym (o .1)) (adds-up (markOnce f) first (spanOf first last)) }
+    record { sound = r .0; range = r .1; short = ltb-false mostTallied (spanLength first last) (o .0 .1 .1 .0); counts = sym (o .1); sum = rw (sym (o .1)) (adds-up (markOnce f) first (spanLength first last)) }
 
 -- ---- adjoining calls
 -- calls, all accepted, each over the range right behind that of the one before, from `first` to below `end`, and their counts added up
@@ -74,7 +74,7 @@ tallies-add f first end t (none-left _) = let none : 0 ≡ end - end = omega ari
 tallies-add f first end t (call _ last _ one others answered rest) =
     let a = told f first last one answered in
     let b = tallies-add f (suc last) end others rest in
-    let i = spanOf first last in
+    let i = spanLength first last in
     let j = end - suc last in
     let next : first + i ≡ suc last = omega (arith, a .range .ordered) in
     let whole : i + j ≡ end - first = omega (arith, a .range .ordered, b .0) in (
@@ -87,15 +87,15 @@ module _ (f : Factor) (good : intact f ≡ true) (last : ℕ) where
   abbrev Covered : ℕ → Type 0
   Covered first = (t : Counts) × Adjoining f first (suc last) t
 
-  one-call : (first to : ℕ) → InRange (f .precision .bits) first to → spanOf first to ≤ mostTallied → tallied f first to ≡ accepted (countsOf (markOnce f) first (spanOf first to))
+  one-call : (first to : ℕ) → InRange (f .precision .bits) first to → spanLength first to ≤ mostTallied → tallied f first to ≡ accepted (countsOf (markOnce f) first (spanLength first to))
   unfolding tallied
   one-call first to r short =
-      sym (accepts (pass (ap not good) (pass (range-in (f .precision .bits) first to r) (pass (le-ltb mostTallied (spanOf first to) short) end))) (countsOf (markOnce f) first (spanOf first to)))
+      sym (accepts (pass (ap not good) (pass (range-in (f .precision .bits) first to r) (pass (le-ltb mostTallied (spanLength first to) short) end))) (countsOf (markOnce f) first (spanLength first to)))
 
-  last-call : (first : ℕ) → InRange (f .precision .bits) first last → spanOf first last ≤ mostTallied → Covered first
+  last-call : (first : ℕ) → InRange (f .precision .bits) first last → spanLength first last ≤ mostTallied → Covered first
   last-call first r short = (_, call first last (suc last) _ nothing (one-call first last r short) (none-left (suc last)))
 
-  full-call : (first : ℕ) → InRange (f .precision .bits) first last → mostTallied < spanOf first last → Covered (suc (first + 65535)) → Covered first
+  full-call : (first : ℕ) → InRange (f .precision .bits) first last → mostTallied < spanLength first last → Covered (suc (first + 65535)) → Covered first
   full-call first r long (t, rest) =
       let to = first + 65535 in
       let r' : InRange (f .precision .bits) first to = record { first-bits = r .first-bits; last-bits = record { least = omega (arith, r .first-bits .least); most = omega (arith, r .last-bits .most) }; ordered = omega arith } in
@@ -104,12 +104,12 @@ module _ (f : Factor) (good : intact f ≡ true) (last : ℕ) where
   -- from `first` on, where so many calls are enough
   covered : (calls first : ℕ) → InRange (f .precision .bits) first last → last ≤ calls + first → Covered first
   covered zero first r enough = last-call first r (omega arith)
-  covered (suc calls) first r enough = by (decLe (spanOf first last) mostTallied) (λ long. covered calls (suc (first + 65535)) (after long) (omega arith))
+  covered (suc calls) first r enough = by (decLe (spanLength first last) mostTallied) (λ long. covered calls (suc (first + 65535)) (after long) (omega arith))
     where
-      after : mostTallied < spanOf first last → InRange (f .precision .bits) (suc (first + 65535)) last
+      after : mostTallied < spanLength first last → InRange (f .precision .bits) (suc (first + 65535)) last
       after long = record { first-bits = record { least = omega (arith, r .first-bits .least); most = omega (arith, r .last-bits .most) }; last-bits = r .last-bits; ordered = omega arith }
 
-      by : Dec (spanOf first last ≤ mostTallied) → (mostTallied < spanOf first last → Covered (suc (first + 65535))) → Covered first
+      by : Dec (spanLength first last ≤ mostTallied) → (mostTallied < spanLength first last → Covered (suc (first + 65535))) → Covered first
       by (yes short) rest = last-call first r short
       by (no long) rest = full-call first r (lt-of-not-le long) (rest (lt-of-not-le long))
 

@@ -14,7 +14,7 @@ ghost use Rattle.product.specs.Answer.{outcomeOf};
 ghost use Rattle.product.specs.AnswerLaws.{InRange};
 ghost use Rattle.onestep.specs.OneStep.{oneStepBy};
 ghost use Rattle.onestep.specs.Answer.{multipliedOnce};
-ghost use Rattle.onestep.specs.Tally.{withOne, countsOf, markOnce, spanOf, conditions, tallied, tallySays};
+ghost use Rattle.onestep.specs.Tally.{withOne, countsOf, markOnce, spanLength, conditions, tallied, tallySays};
 
 // So many significands go into one tally.
 const MOST_TALLIED: u64 = 65536;
@@ -90,7 +90,7 @@ fn counted(t: Counts, m: Mark) -> Counts
 // The tally of a range in which all significands are of a factor that was accepted.
 fn count(f: Factor, first: u64, last: u64) -> Counts
     requires { ⌜ Sound f × InRange (f .precision .bits) first last ⌝ }
-    ensures { λ r. ⌜ r ≡ countsOf (markOnce f) first (spanOf first last) ⌝ }
+    ensures { λ r. ⌜ r ≡ countsOf (markOnce f) first (spanLength first last) ⌝ }
 {
     let mut t = Counts {
         rights: 0,

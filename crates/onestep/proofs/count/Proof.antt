@@ -1,13 +1,13 @@
 -- `onestep::count` meets its contract: before each significand the counts are those of the span up to it. Assumes nothing.
 use mathlib.Core.Path.{_≡_, sym, ap, ap₂, _∙_}
 use Prim.Native.Nat.{ℕ, suc, _+_, _-_, _^_, _≤_, _<_}
-use native.Mathlib.Nat.{le-trans, lt-of-le-of-lt}
+use native.Mathlib.Nat.{le-trans}
 use native.Mathlib.Omega.{arith}
 use Rattle.marks.specs.declared.Mark.{Mark}
 use Rattle.rounding.specs.Round.{HasBits}
 use Rattle.product.specs.StepLaws.{significand-word}
 use Rattle.onestep.specs.declared.Counts.{Counts}
-use Rattle.onestep.specs.Tally.{withOne, countsOf, markOnce, spanOf}
+use Rattle.onestep.specs.Tally.{withOne, countsOf, markOnce, spanLength}
 use Rattle.onestep.specs.TallyLaws.{adds-up}
 use Rattle.onestep.proofs.count.Statement.{statement}
 use Rattle.onestep.proofs.count.Tie as tie
@@ -32,7 +32,7 @@ module _ (marks : ℕ → Mark) (first last : ℕ) where
         counts = ap₂ (λ (t : Counts) (z : ℕ). withOne t (marks z)) (b .counts) (sym at) ∙ ap (countsOf marks first) (sym next);
       }
 
-  all-done : (t : Counts) (x : ℕ) → Begun marks first last t x → last < x → t ≡ countsOf marks first (spanOf first last)
+  all-done : (t : Counts) (x : ℕ) → Begun marks first last t x → last < x → t ≡ countsOf marks first (spanLength first last)
   all-done t x b h = let end : x ≡ suc last = omega (arith, b .within) in b .counts ∙ ap (λ (z : ℕ). countsOf marks first (z - first)) end
 
   -- no count is large
@@ -55,7 +55,7 @@ module _ (c : tie.In-loop Inv-loop μ-loop) where
   x-bits : HasBits (c .before .before .args .f .precision .bits) (c .before .loop .x)
   x-bits =
       let r = c .before .before .pre .1 in
-      record { least = le-trans (r .first-bits .least) (c .before .loop .inv .from); most = lt-of-le-of-lt (c .loop-test .taken) (r .last-bits .most) }
+      record { least = le-trans (r .first-bits .least) (c .before .loop .inv .from); most = omega (arith, c .loop-test .taken, r .last-bits .most) }
 
   x-small : c .before .loop .x < 2 ^ 32
   x-small = significand-word (c .before .before .args .f .precision .bits) (c .before .loop .x) (c .before .before .pre .0 .precision) x-bits
@@ -75,7 +75,7 @@ loop-less c = omega (arith, c .before .before .loop-test .taken)
 loop-again : tie.Need-loop-again Inv-loop μ-loop
 loop-again c =
     let k = c .before .before in
-    rw (c .counted .ensures, c .before .trial .ensures) (one-more _ _ _ _ _ (k .before .loop .inv) (k .loop-test .taken))
+    rw (c .counted .ensures, c .before .trial .ensures) (one-more _ _ _ _ _ (k .before .loop .inv) (omega (arith, k .loop-test .taken)))
 
 returns : tie.Need-returns Inv-loop μ-loop
 returns c = all-done _ _ _ _ _ (c .before .loop .inv) (omega (arith, c .loop-test .left))

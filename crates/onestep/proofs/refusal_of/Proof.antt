@@ -11,7 +11,7 @@ use Rattle.factor.specs.SetUp.{intact}
 use Rattle.factor.specs.SetUpLaws.{intact-sound}
 use Rattle.product.specs.AnswerLaws.{InRange, in-range}
 use Rattle.product.specs.StepLaws.{significand-word}
-use Rattle.onestep.specs.Tally.{mostTallied, spanOf}
+use Rattle.onestep.specs.Tally.{mostTallied, spanLength}
 use Rattle.onestep.proofs.refusal_of.Statement.{statement}
 use Rattle.onestep.proofs.refusal_of.Tie as tie
 
@@ -48,7 +48,7 @@ module _ (c : tie.Else2) where
   ordered : first ≤ last
   ordered = range .ordered
 
-  span-is : last - first + 1 ≡ spanOf first last
+  span-is : last - first + 1 ≡ spanLength first last
   span-is = omega (arith, ordered)
 
 sub-if3 : tie.Need-sub-if3
@@ -58,10 +58,10 @@ add-if3 : tie.Need-add-if3
 add-if3 c = let f = start c .args .f in record { fits = omega (arith, significand-word (f .precision .bits) (last c) (intact-sound f (not-false _ (through (c .before .before .before))) .precision) (range c .last-bits)) }
 
 returns-3 : tie.Need-returns-3
-returns-3 c = let k = c .before in pass (through (k .before .before .before)) (pass (range-in k) (stop (lt-ltb mostTallied (spanOf (first k) (last k)) (omega (arith, c .if3 .taken, span-is k)))))
+returns-3 c = let k = c .before in pass (through (k .before .before .before)) (pass (range-in k) (stop (lt-ltb mostTallied (spanLength (first k) (last k)) (omega (arith, c .if3 .taken, span-is k)))))
 
 returns-4 : tie.Need-returns-4
-returns-4 c = let k = c .before in pass (through (k .before .before .before)) (pass (range-in k) (pass (le-ltb mostTallied (spanOf (first k) (last k)) (omega (arith, c .if3 .left, span-is k))) end))
+returns-4 c = let k = c .before in pass (through (k .before .before .before)) (pass (range-in k) (pass (le-ltb mostTallied (spanLength (first k) (last k)) (omega (arith, c .if3 .left, span-is k))) end))
 
 pub refusal-of-spec : {M : Type 1} → statement M
 refusal-of-spec = tie.close (tie.spec (λ c κs. search needs) returns range-out-requires returns-2 sub-if3 add-if3 returns-3 returns-4)
