@@ -11,11 +11,9 @@ use Rattle.marks.specs.Answers.{Outcome, refused, accepted, answer, andThen, Ma
 use Rattle.factor.specs.declared.Description.{Description}
 use Rattle.factor.specs.declared.Factor.{Factor}
 use Rattle.factor.specs.SetUp.{setUp}
+use Rattle.product.specs.declared.Device.{Device}
 use Rattle.product.specs.declared.Product.{Product}
 use Rattle.product.specs.Answer.{multiplied}
-use Rattle.onestep.specs.declared.Counts.{Counts}
-use Rattle.onestep.specs.Answer.{multipliedOnce}
-use Rattle.onestep.specs.Tally.{tallied}
 use Rattle.quotient.specs.declared.Quotient.{Quotient}
 use Rattle.quotient.specs.Answer.{divided}
 use Rattle.reading.specs.Reading.{applied, appliedOnce}
@@ -25,6 +23,8 @@ use Rattle.calls.specs.State.{State}
 use Rattle.calls.specs.Call.{newState, Result, Reply, sweepCall}
 use Rattle.sweep.specs.Engine.{engine}
 use Rattle.sweep.specs.Answers.{callOf}
+use Rattle.tally.specs.declared.Counts.{Counts}
+use Rattle.tally.specs.Tally.{tallied}
 use Rattle.exports.specs.declared.TakenFactor.{TakenFactor}
 use Rattle.exports.specs.Words.{factorLength, factorFrom, factorWords, damaged, stateLength, stateOf, stateWords}
 
@@ -87,17 +87,10 @@ setUpTo d out = setUpAnswer (andThen (answer (tooShort (length out) factorLength
 abbrev pub productWords : Product → List ℕ
 productWords v = v .significand ∷ v .binade ∷ []
 
-abbrev pub productAnswer : Outcome (Marked Product) → Answer
-productAnswer o = markedAnswer productWords o
-
-unfoldable pub multiplyTo : (factor : List ℕ) (X : ℕ) (out : List ℕ) → Answer
+-- on a device
+unfoldable pub multiplyTo : Device → (factor : List ℕ) (X : ℕ) (out : List ℕ) → Answer
 unfolding multiplied taken
-multiplyTo factor X out = productAnswer (andThen (taken factor factorLength (length out) 2) (λ f. multiplied f X))
-
--- on the one-step device
-unfoldable pub multiplyOnceTo : (factor : List ℕ) (X : ℕ) (out : List ℕ) → Answer
-unfolding multipliedOnce taken
-multiplyOnceTo factor X out = productAnswer (andThen (taken factor factorLength (length out) 2) (λ f. multipliedOnce f X))
+multiplyTo d factor X out = markedAnswer productWords (andThen (taken factor factorLength (length out) 2) (λ f. multiplied d f X))
 
 -- ---- a reading: 1 right, 2 open, 3 wrong, with the product's bits, or the refusal
 abbrev pub readingWords : Float → List ℕ

@@ -5,8 +5,7 @@ use factor::Factor;
 use factor::Parts;
 use factor::Precision;
 use factor::SetUp;
-use onestep::Counts;
-use onestep::TallyAnswer;
+use product::Device;
 use product::Product;
 use product::ProductAnswer;
 use quotient::Quotient;
@@ -16,6 +15,8 @@ use reading::ReadingAnswer;
 use sweep::NewSweep;
 use sweep::SweepAnswer;
 use sweep::SweepState;
+use tally::Counts;
+use tally::TallyAnswer;
 ghost use mathlib.Core.Path.{_≡_};
 ghost use mathlib.Core.List.{[], _∷_};
 ghost use Prim.Native.Nat.{_≤_};
@@ -23,11 +24,11 @@ ghost use lib.ListN.{length};
 ghost use lib.Seq.{sets};
 ghost use lib.Ieee.{binary32, toBits};
 ghost use Rattle.words.specs.Words.{unsigned};
-ghost use Rattle.product.specs.Answer.{outcomeOf};
+ghost use Rattle.product.specs.declared.Device.{Device};
 ghost use Rattle.reading.specs.Reading.{outcomeOf as readingSays};
 ghost use Rattle.sweep.specs.Answers.{viewOf};
 ghost use Rattle.exports.specs.Words.{factorFrom, factorWords, damaged, stateOf, stateWords};
-ghost use Rattle.exports.specs.Answers.{taken, takenOf, leaves, setUpTo, productAnswer, multiplyTo, multiplyOnceTo, readingAnswer, readTo, readOnceTo, tallyTo, divideTo, divideReadingTo, newSweepTo, sweepTo};
+ghost use Rattle.exports.specs.Answers.{taken, takenOf, leaves, setUpTo, multiplyTo, readingAnswer, readTo, readOnceTo, tallyTo, divideTo, divideReadingTo, newSweepTo, sweepTo};
 
 // So many words have a factor, a product, a quotient, what a reading is answered with, a tally, a sweep's state, and what a sweep call counts.
 const FACTOR_WORDS: usize = 9;
@@ -138,20 +139,6 @@ fn put_product(mark: u32, v: Product, out: &mut [u64]) -> u32
     mark
 }
 
-// What either device answers to a significand: a product's words and its mark, or the refusal.
-fn tell_product(a: ProductAnswer, out: &mut [u64]) -> u32
-    requires { ⌜ 2 ≤ length (now out) ⌝ }
-    ensures { λ r. ⌜ r ≡ productAnswer (outcomeOf a) .number ⌝ }
-    ensures { λ _. ⌜ now (out .exit) ≡ leaves (productAnswer (outcomeOf a)) (now (out .entry)) ⌝ }
-{
-    match a {
-        ProductAnswer::Right(v) => put_product(1, v, out),
-        ProductAnswer::Open(v) => put_product(2, v, out),
-        ProductAnswer::Wrong(v) => put_product(3, v, out),
-        ProductAnswer::Refused(k) => k,
-    }
-}
-
 // The words of a quotient, and 0 as the answer: it has no mark.
 fn put_quotient(v: Quotient, out: &mut [u64]) -> u32
     requires { ⌜ 2 ≤ length (now out) ⌝ }
@@ -226,6 +213,22 @@ fn put_state(s: SweepState, out: &mut [u64])
     out[12] = s.finished as u64;
 }
 
+// A significand multiplied on a device, as a number and words.
+fn multiply_on(d: Device, factor: &[u64], x: u64, out: &mut [u64]) -> u32
+    ensures { λ r. ⌜ r ≡ multiplyTo d (now (factor .entry)) x (now (out .entry)) .number ⌝ }
+    ensures { λ _. ⌜ now (out .exit) ≡ leaves (multiplyTo d (now (factor .entry)) x (now (out .entry))) (now (out .entry)) ⌝ }
+{
+    match take_factor(factor, FACTOR_WORDS, out.len(), PRODUCT_WORDS) {
+        TakenFactor::Accepted(f) => match product::multiply(d, f, x) {
+            ProductAnswer::Right(v) => put_product(1, v, out),
+            ProductAnswer::Open(v) => put_product(2, v, out),
+            ProductAnswer::Wrong(v) => put_product(3, v, out),
+            ProductAnswer::Refused(k) => k,
+        },
+        TakenFactor::Refused(k) => k,
+    }
+}
+
 // Set-up: 0 and the factor's 9 words, or the refusal; 255 where the list is too short.
 #[no_mangle]
 pub extern "C" fn gusnalip_set_up(
@@ -259,13 +262,19 @@ pub extern "C" fn gusnalip_set_up(
 // Multiplies a significand: 1 right, 2 open, 3 wrong, with significand and binade, or the refusal; 255 where a list is too short, 31 where the factor's words are damaged.
 #[no_mangle]
 pub extern "C" fn gusnalip_multiply(factor: &[u64], x: u64, out: &mut [u64]) -> u32
-    ensures { λ r. ⌜ r ≡ multiplyTo (now (factor .entry)) x (now (out .entry)) .number ⌝ }
-    ensures { λ _. ⌜ now (out .exit) ≡ leaves (multiplyTo (now (factor .entry)) x (now (out .entry))) (now (out .entry)) ⌝ }
+    ensures { λ r. ⌜ r ≡ multiplyTo Device.TwoStep (now (factor .entry)) x (now (out .entry)) .number ⌝ }
+    ensures { λ _. ⌜ now (out .exit) ≡ leaves (multiplyTo Device.TwoStep (now (factor .entry)) x (now (out .entry))) (now (out .entry)) ⌝ }
 {
-    match take_factor(factor, FACTOR_WORDS, out.len(), PRODUCT_WORDS) {
-        TakenFactor::Accepted(f) => tell_product(product::multiply(f, x), out),
-        TakenFactor::Refused(k) => k,
-    }
+    multiply_on(Device::TwoStep, factor, x, out)
+}
+
+// The same on the one-step device.
+#[no_mangle]
+pub extern "C" fn gusnalip_multiply_once(factor: &[u64], x: u64, out: &mut [u64]) -> u32
+    ensures { λ r. ⌜ r ≡ multiplyTo Device.OneStep (now (factor .entry)) x (now (out .entry)) .number ⌝ }
+    ensures { λ _. ⌜ now (out .exit) ≡ leaves (multiplyTo Device.OneStep (now (factor .entry)) x (now (out .entry))) (now (out .entry)) ⌝ }
+{
+    multiply_on(Device::OneStep, factor, x, out)
 }
 
 // Multiplies a reading given by its bits: 1 right, 2 open, 3 wrong, with the product's bits, or the refusal; 255 where a list is too short, 31 where the factor's words are damaged.
@@ -278,18 +287,6 @@ pub extern "C" fn gusnalip_read(factor: &[u64], reading: u32, out: &mut [u32]) -
         TakenFactor::Accepted(f) => {
             tell_reading(reading::read(f, floats::float_from(reading)), out)
         }
-        TakenFactor::Refused(k) => k,
-    }
-}
-
-// Multiplies a significand on the one-step device: answered as by gusnalip_multiply.
-#[no_mangle]
-pub extern "C" fn gusnalip_multiply_once(factor: &[u64], x: u64, out: &mut [u64]) -> u32
-    ensures { λ r. ⌜ r ≡ multiplyOnceTo (now (factor .entry)) x (now (out .entry)) .number ⌝ }
-    ensures { λ _. ⌜ now (out .exit) ≡ leaves (multiplyOnceTo (now (factor .entry)) x (now (out .entry))) (now (out .entry)) ⌝ }
-{
-    match take_factor(factor, FACTOR_WORDS, out.len(), PRODUCT_WORDS) {
-        TakenFactor::Accepted(f) => tell_product(onestep::multiply(f, x), out),
         TakenFactor::Refused(k) => k,
     }
 }
@@ -315,7 +312,7 @@ pub extern "C" fn gusnalip_tally(factor: &[u64], first: u64, last: u64, out: &mu
     ensures { λ _. ⌜ now (out .exit) ≡ leaves (tallyTo (now (factor .entry)) first last (now (out .entry))) (now (out .entry)) ⌝ }
 {
     match take_factor(factor, FACTOR_WORDS, out.len(), TALLY_WORDS) {
-        TakenFactor::Accepted(f) => match onestep::tally(f, first, last) {
+        TakenFactor::Accepted(f) => match tally::tally_range(f, first, last) {
             TallyAnswer::Accepted(t) => put_counts(t, out),
             TallyAnswer::Refused(k) => k,
         },

@@ -9,6 +9,7 @@ use Rattle.factor.specs.declared.Parts.{Parts}
 use Rattle.factor.specs.Precision.{leastOf}
 use Rattle.factor.specs.Context.{contextFor}
 use Rattle.factor.specs.SetUp.{setUp}
+use Rattle.product.specs.declared.Device.{Device}
 use Rattle.product.specs.Answer.{multiplied}
 use Rattle.suspects.specs.Suspects.{isSuspect}
 use Rattle.calls.specs.Plain.{row}
@@ -40,7 +41,7 @@ Gives d given = andThen (setUp d) (λ f. accepted (f .parts)) ≡ given
 
 -- what a multiplication with the factor that is set up answers
 abbrev pub Multiplies : Description → Multiplied → Type 0
-Multiplies d m = andThen (setUp d) (λ f. multiplied f (m .X)) ≡ accepted (record { mark = m .mark; value = record { significand = m .S; binade = m .b } })
+Multiplies d m = andThen (setUp d) (λ f. multiplied Device.TwoStep f (m .X)) ≡ accepted (record { mark = m .mark; value = record { significand = m .S; binade = m .b } })
 
 abbrev pub Suspects : Description → Suspected → Type 0
 Suspects d unsaid = Unit {0}

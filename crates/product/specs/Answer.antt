@@ -7,9 +7,12 @@ use Rattle.marks.specs.Answers.{Outcome, refused, accepted, answer, Marked}
 use Rattle.factor.specs.declared.Factor.{Factor}
 use Rattle.factor.specs.Precision.{significandOut}
 use Rattle.factor.specs.SetUp.{intact}
+use Rattle.product.specs.declared.Device.{Device}
 use Rattle.product.specs.declared.Product.{Product}
 use Rattle.product.specs.declared.ProductAnswer.{ProductAnswer}
-use Rattle.product.specs.Product.{product, productBy}
+use Rattle.product.specs.Product.{product}
+use Rattle.product.specs.OneStep.{oneStep}
+use Rattle.product.specs.Devices.{productOn}
 use Rattle.product.specs.Marks.{mark, markBy, SaysBy}
 
 -- ---- the answer
@@ -21,10 +24,10 @@ conditions f X = (31, not (intact f)) ∷ (17, significandOut (f .precision .bit
 abbrev pub marked : Factor → ℕ → Product → Marked Product
 marked f X v = record { mark = markBy f X v; value = v }
 
--- the product with its mark, unless one of them holds
-unfoldable pub multiplied : Factor → ℕ → Outcome (Marked Product)
-unfolding intact product mark
-multiplied f X = answer (conditions f X) (marked f X (productBy f X))
+-- the product on a device with its mark, unless one of them holds
+unfoldable pub multiplied : Device → Factor → ℕ → Outcome (Marked Product)
+unfolding intact product oneStep mark
+multiplied d f X = answer (conditions f X) (marked f X (productOn d f X))
 
 -- what each case of the answer says: a refusal its number; any other its mark, and the product with the significand S and the binade b
 abbrev pub outcomeOf : ProductAnswer → Outcome (Marked Product)

@@ -10,7 +10,7 @@ use lib.Pow.{pow-pos}
 use lib.IntN.{natAbs}
 use lib.Ieee.{up}
 use Rattle.marks.specs.declared.Mark.{Mark}
-use Rattle.marks.specs.Answers.{accepted, answer}
+use Rattle.marks.specs.Answers.{accepted}
 use Rattle.marks.specs.AnswerLaws.{of-answer, pass, end, accepts}
 use Rattle.rounding.specs.Round.{rounded, HasBits}
 use Rattle.rounding.specs.Standard.{RoundsTo, rounds-to}
@@ -29,6 +29,7 @@ use Rattle.factor.specs.Ends.{End, Between}
 use Rattle.factor.specs.SetUp.{setUp, intact, Sound}
 use Rattle.factor.specs.SetUpLaws.{intact-sound, accepted-intact}
 use Rattle.product.specs.declared.Product.{Product}
+use Rattle.product.specs.declared.Device.{Device}
 use Rattle.product.specs.Product.{argument, high, low, first, fused, second, product, productBy, valueOf}
 use Rattle.product.specs.Marks.{markBy, SaysBy}
 use Rattle.product.specs.ProductLaws.{fused-some, product-is, product-value}
@@ -36,6 +37,8 @@ use Rattle.product.specs.MarkLaws.{mark-says, mark-only}
 use Rattle.product.specs.Answer.{conditions, marked, multiplied, Tells}
 use Rattle.product.specs.AnswerLaws.{significand-in, let-through}
 use Rattle.product.specs.SoundLaws.{sound-fine}
+use Rattle.product.specs.Devices.{productOn}
+use Rattle.product.specs.OneStepLaws.{formed}
 
 -- RN of x is x rounded to nearest in the sense of IEEE 754-2019, 4.3.1: it has n bits, no number of n bits is nearer, and half way between two the rule decides
 abbrev pub ToNearest : Context → Fraction → Type 0
@@ -134,23 +137,19 @@ module _ (f : Factor) (s : Sound f) (X : ℕ) (x : HasBits (f .precision .bits) 
   pub mark-alone : (m : Mark) → SaysBy f X v m → markBy f X v ≡ m
   mark-alone = mark-only (contextOf f) (sound-fine f s .some) (lowerOf f) (upperOf f) X v (s .lower-end .from) (s .ordered) (x .least) (le-of-lt (bits .most))
 
--- so every answer of marked values tells the truth, whatever the factor and the significand, if values of sound factors and significands in range have n bits
-pub marked-tells : (f : Factor) (X : ℕ) (v : Product) → (Sound f → HasBits (f .precision .bits) X → HasBits (f .precision .bits) (v .significand)) → Tells f X (answer (conditions f X) (marked f X v))
-marked-tells f X v bits =
-    of-answer (Tells f X) (conditions f X) (marked f X v) (λ k. tt)
-    (λ h. let t = let-through f X h in mark-tells f (t .0) X (t .1) v (bits (t .0) (t .1)))
-
--- those of the two-step device
-pub answer-tells : (f : Factor) (X : ℕ) → Tells f X (multiplied f X)
+-- so every answer to a multiplication tells the truth, whatever the device, the factor and the significand
+pub answer-tells : (d : Device) (f : Factor) (X : ℕ) → Tells f X (multiplied d f X)
 unfolding multiplied
-answer-tells f X = marked-tells f X (productBy f X) (λ s x. two-steps f s X x .bits)
+answer-tells d f X =
+    of-answer (Tells f X) (conditions f X) (marked f X (productOn d f X)) (λ k. tt)
+    (λ h. let t = let-through f X h in mark-tells f (t .0) X (t .1) (productOn d f X) (formed d f (t .0) X (t .1) .bits))
 
 -- ---- demand 2, from the entry points
 pub record Demand2 (f : Factor) : Type 0 where
   -- the parts are those of every fraction between the ends
   pub parts : (C : Fraction) → Between (contextOf f) (lowerOf f) (upperOf f) C → PartsTell (contextOf f) (f .parts) C
   -- every significand that 17 lets through is answered with its two steps' product and a mark
-  pub answers : (X : ℕ) → significandOut (f .precision .bits) X ≡ false → multiplied f X ≡ accepted (marked f X (productBy f X))
+  pub answers : (X : ℕ) → significandOut (f .precision .bits) X ≡ false → multiplied Device.TwoStep f X ≡ accepted (marked f X (productBy f X))
   pub steps : (X : ℕ) → significandOut (f .precision .bits) X ≡ false → TwoSteps (contextOf f) (f .parts) X
   -- which says what is true of every fraction between the ends, and no other mark does
   pub marks : (X : ℕ) → significandOut (f .precision .bits) X ≡ false → SaysBy f X (productBy f X) (markBy f X (productBy f X))

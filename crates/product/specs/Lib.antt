@@ -1,5 +1,7 @@
--- The two-step product, its marks and answers, with their laws.
+-- The two-step and the one-step product, their marks and answers, with their laws.
 pub mod Product
+pub mod OneStep
+pub mod Devices
 pub mod Marks
 pub mod Answer
 pub mod Units
@@ -7,6 +9,8 @@ pub mod ProductLaws
 pub mod Near
 pub mod StepLaws
 pub mod SoundLaws
+pub mod OneStepLaws
 pub mod MarkLaws
 pub mod AnswerLaws
 pub mod Demand2
+pub mod OneStepTells

@@ -1,4 +1,4 @@
-// The two-step product of a factor and a significand, and its mark (document 01, "The product").
+// The product of a factor and a significand on either device, the two-step one of document 01 ("The product") and the one-step one of request W2, and the mark of a value.
 use factor::Factor;
 use factor::Parts;
 use factor::Precision;
@@ -17,9 +17,19 @@ ghost use Rattle.factor.specs.Context.{tieRule, contextAt, contextOf};
 ghost use Rattle.factor.specs.UnitParts.{unitPartsOf};
 ghost use Rattle.factor.specs.SetUp.{Sound};
 ghost use Rattle.product.specs.Product.{productBy};
+ghost use Rattle.product.specs.OneStep.{oneStepBy};
+ghost use Rattle.product.specs.Devices.{productOn};
 ghost use Rattle.product.specs.Marks.{markBy};
 ghost use Rattle.product.specs.Units.{firstUnits, fusedUnits, roundedUnits, markUnits, Within, PartsAtEnd};
 ghost use Rattle.product.specs.Answer.{conditions, marked as markedBy, multiplied, outcomeOf};
+
+// The handheld that makes a product.
+pub enum Device {
+    // with the fused step: u1 = RN(Cl * x), then u2 = RN(Ch * x + u1)
+    TwoStep,
+    // without it: RN(Ch * x)
+    OneStep,
+}
 
 // A product from 1 to below 4: a significand of n bits, and its binade, 0 for [1, 2) and 1 for [2, 4).
 pub struct Product {
@@ -84,14 +94,38 @@ pub fn second_step(f: Factor, x: u64, u1: u64) -> Product
     rounded_units(p, fused_units(p, parts, x, u1))
 }
 
-// The product of a factor that was accepted and a significand in range.
-pub fn product_of(f: Factor, x: u64) -> Product
+// Both steps, of a factor that was accepted and a significand in range.
+fn two_steps(f: Factor, x: u64) -> Product
     requires { ⌜ Sound f × HasBits (f .precision .bits) x ⌝ }
     ensures { λ r. ⌜ r ≡ productBy f x ⌝ }
 {
     let p = f.precision;
     let parts = f.parts;
     second_step(f, x, first_units(p, parts, x))
+}
+
+// RN(Ch * x) of a factor that was accepted and a significand in range: in the unit 2 ^ - 2(n - 1), in which Ch * x is a whole number, n - 1 digits are dropped in binade 0.
+pub fn one_step(f: Factor, x: u64) -> Product
+    requires { ⌜ Sound f × HasBits (f .precision .bits) x ⌝ }
+    ensures { λ r. ⌜ r ≡ oneStepBy f x ⌝ }
+{
+    let n = f.precision.bits;
+    let r = round::round_word(f.parts.high * x, n, TieRule::ToEven);
+    Product {
+        significand: r.significand,
+        binade: r.exponent as u32 - (n - 1),
+    }
+}
+
+// The product on a device.
+fn product_of(d: Device, f: Factor, x: u64) -> Product
+    requires { ⌜ Sound f × HasBits (f .precision .bits) x ⌝ }
+    ensures { λ r. ⌜ r ≡ productOn d f x ⌝ }
+{
+    match d {
+        Device::TwoStep => two_steps(f, x),
+        Device::OneStep => one_step(f, x),
+    }
 }
 
 // A product as a whole number of 2 ^ (1 - n), the step of binade 0: so products are compared.
@@ -140,12 +174,12 @@ pub fn mark_of(f: Factor, x: u64, v: Product) -> Mark
     compared(end_steps(p, lower), end_steps(p, upper), steps_of(v))
 }
 
-// The mark of the product: what a sweep asks of a suspect.
-pub fn trial(f: Factor, x: u64) -> Mark
+// The mark of the product on a device: what a sweep asks of a suspect, and a tally of every significand.
+pub fn trial(d: Device, f: Factor, x: u64) -> Mark
     requires { ⌜ Sound f × HasBits (f .precision .bits) x ⌝ }
-    ensures { λ r. ⌜ r ≡ markBy f x (productBy f x) ⌝ }
+    ensures { λ r. ⌜ r ≡ markBy f x (productOn d f x) ⌝ }
 {
-    mark_of(f, x, product_of(f, x))
+    mark_of(f, x, product_of(d, f, x))
 }
 
 // Refusal 17: a significand outside 2 ^ (n - 1) to 2 ^ n - 1.
@@ -199,12 +233,12 @@ pub fn refusal_of(f: Factor, x: u64) -> Judgement
     Judgement::Passed
 }
 
-// Multiplies a significand: the product with its mark, or refusal 31 for the factor, or 17 for the significand.
-pub fn multiply(f: Factor, x: u64) -> ProductAnswer
-    ensures { λ r. ⌜ outcomeOf r ≡ multiplied f x ⌝ }
+// Multiplies a significand on a device: the product with its mark, or refusal 31 for the factor, or 17 for the significand.
+pub fn multiply(d: Device, f: Factor, x: u64) -> ProductAnswer
+    ensures { λ r. ⌜ outcomeOf r ≡ multiplied d f x ⌝ }
 {
     match refusal_of(f, x) {
         Judgement::Refused(number) => ProductAnswer::Refused(number),
-        Judgement::Passed => marked(f, x, product_of(f, x)),
+        Judgement::Passed => marked(f, x, product_of(d, f, x)),
     }
 }

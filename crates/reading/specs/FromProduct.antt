@@ -10,6 +10,7 @@ use Rattle.floats.specs.Fields.{zeroBits, significandOf}
 use Rattle.floats.specs.Pattern.{significand-bits}
 use Rattle.factor.specs.declared.Factor.{Factor}
 use Rattle.factor.specs.Precision.{significandOut}
+use Rattle.product.specs.declared.Device.{Device}
 use Rattle.product.specs.declared.Product.{Product}
 use Rattle.product.specs.Product.{productBy}
 use Rattle.product.specs.Answer.{conditions, marked, multiplied}
@@ -35,7 +36,7 @@ module _ (f : Factor) (x : Float) (h : NoneHolds (unreadable f (toBits binary32 
       let in-range : significandOut (f .precision .bits) X ≡ false = rw (precision-is f b h, le-ltb X (hid binary32) (is .least), lt-leb (2 ^ prec binary32) X (is .most)) in
       pass (h .0) (pass in-range end)
 
-  pub from-product : applied f x ≡ andThen (multiplied f X) (ranged f b)
+  pub from-product : applied f x ≡ andThen (multiplied Device.TwoStep f X) (ranged f b)
   unfolding applied multiplied
   from-product = sym (others-answered f b h (twoSteps f b) nonzero) ∙ ap (λ (o : Outcome (Marked Product)). andThen o (ranged f b)) (accepts through (marked f X (productBy f X)))
 

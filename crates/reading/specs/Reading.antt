@@ -16,7 +16,7 @@ use Rattle.product.specs.declared.Product.{Product}
 use Rattle.product.specs.Product.{product, productBy}
 use Rattle.product.specs.Marks.{mark}
 use Rattle.product.specs.Answer.{marked}
-use Rattle.onestep.specs.OneStep.{oneStep, oneStepBy}
+use Rattle.product.specs.OneStep.{oneStep, oneStepBy}
 use Rattle.reading.specs.declared.ReadingAnswer.{ReadingAnswer}
 use Rattle.reading.specs.declared.NumberAnswer.{NumberAnswer}
 use Rattle.reading.specs.declared.Taken.{Taken}

@@ -154,7 +154,7 @@ pub fn read_once(f: Factor, reading: f32) -> ReadingAnswer
         Taken::Zero => ReadingAnswer::Right(floats::plus_zero()),
         Taken::Normal(bits) => {
             let x = floats::significand_of(bits);
-            finish(f, bits, onestep::product_of(f, x as u64))
+            finish(f, bits, product::one_step(f, x as u64))
         }
     }
 }

@@ -3,8 +3,8 @@ use mathlib.Core.Path.{_≡_, refl, ap, _∙_}
 use Prim.Native.Nat.{_≤_}
 use lib.ListN.{length}
 use borrow.Author.Needs.{needs}
-use Rattle.onestep.specs.declared.TallyAnswer.{TallyAnswer}
-use Rattle.onestep.specs.Tally.{tallied, tallySays}
+use Rattle.tally.specs.declared.TallyAnswer.{TallyAnswer}
+use Rattle.tally.specs.Tally.{tallied, tallySays}
 use Rattle.exports.specs.Answers.{Answer, plainAnswer, tallyWords, tallyTo}
 use Rattle.exports.specs.AnswerLaws.{enough, answered, not-taken, gives}
 use Rattle.exports.proofs.gusnalip_tally.Statement.{statement}
@@ -14,15 +14,15 @@ use Rattle.exports.proofs.gusnalip_tally.Tie as tie
 abbrev says : TallyAnswer → Answer
 says r = plainAnswer tallyWords (tallySays r)
 
-answer : (s : tie.After-tally) → let a = s .before .before .before .before .before .before .before .args in tallyTo (a .factor .now) (a .first) (a .last) (a .out .now) ≡ says (s .tally .result)
+answer : (s : tie.After-tally-range) → let a = s .before .before .before .before .before .before .before .args in tallyTo (a .factor .now) (a .first) (a .last) (a .out .now) ≡ says (s .tally-range .result)
 unfolding tallyTo
 answer s =
     let told = s .before .before in
     let a = told .before .before .before .before .before .args in
-    answered (plainAnswer tallyWords) (λ f. tallied f (a .first) (a .last)) (told .before .before .take-factor .ensures) (told .f .given .1) (s .tally .ensures)
+    answered (plainAnswer tallyWords) (λ f. tallied f (a .first) (a .last)) (told .before .before .take-factor .ensures) (told .f .given .1) (s .tally-range .ensures)
 
 -- there is room for the counts
-roomy : (s : tie.After-tally) → 3 ≤ length (s .before .before .before .before .before .before .before .args .out .now)
+roomy : (s : tie.After-tally-range) → 3 ≤ length (s .before .before .before .before .before .before .before .args .out .now)
 roomy s = let told = s .before .before in enough (told .before .before .take-factor .ensures) (told .f .given .1) .roomy
 
 -- the words were not taken

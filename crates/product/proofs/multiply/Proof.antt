@@ -7,8 +7,9 @@ use Rattle.marks.specs.AnswerLaws.{judged-passed, judged-refused, none-refuses}
 use Rattle.rounding.specs.Round.{HasBits}
 use Rattle.factor.specs.declared.Factor.{Factor}
 use Rattle.factor.specs.SetUp.{Sound}
+use Rattle.product.specs.declared.Device.{Device}
 use Rattle.product.specs.declared.Product.{Product}
-use Rattle.product.specs.SoundLaws.{sound-product}
+use Rattle.product.specs.OneStepLaws.{formed}
 use Rattle.product.specs.Answer.{conditions, marked, multiplied}
 use Rattle.product.specs.AnswerLaws.{let-through}
 use Rattle.product.proofs.multiply.Statement.{statement}
@@ -21,6 +22,9 @@ module _ (c : tie.After-enum-told) where
 
   abbrev x : ℕ
   x = c .before .before .before .args .x
+
+  abbrev d : Device
+  d = c .before .before .before .args .d
 
   none : NoneHolds (conditions f x)
   none = judged-passed (c .before .before .refusal-of .ensures) (c .enum-told .given .1)
@@ -35,7 +39,7 @@ marked-requires : tie.Need-marked-requires
 marked-requires c κs =
     let k = c .before in
     let t = through k in
-    let is = sound-product (f k) (t .0) (x k) (t .1) in
+    let is = formed (d k) (f k) (t .0) (x k) (t .1) in
     (t .0, t .1, rw (c .product-of .ensures) (is .bits), rw (c .product-of .ensures) (is .binade))
 
 returns : tie.Need-returns

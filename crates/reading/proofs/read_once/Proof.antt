@@ -8,8 +8,8 @@ use Rattle.marks.specs.Answers.{accepted}
 use Rattle.rounding.specs.Round.{HasBits}
 use Rattle.floats.specs.Fields.{significandOf}
 use Rattle.factor.specs.declared.Factor.{Factor}
-use Rattle.onestep.specs.OneStep.{oneStepBy}
-use Rattle.onestep.specs.OneStepLaws.{sound-one-step}
+use Rattle.product.specs.OneStep.{oneStepBy}
+use Rattle.product.specs.OneStepLaws.{sound-one-step}
 use Rattle.reading.specs.Reading.{oneStepOf, finished, appliedOnce}
 use Rattle.reading.specs.AnswerLaws.{Ready, ready, normal-answered, zero-answered, refused-answered}
 use Rattle.reading.proofs.read_once.Statement.{statement}
@@ -29,12 +29,12 @@ module _ (c : tie.After-known-told2) where
   is-ready : Ready f b
   is-ready = ready f x (c .before .before .before .take .result) (c .before .before .before .take .ensures) (c .before .bits .given .1)
 
-product-of-requires : tie.Need-product-of-requires
-product-of-requires c κs = let k = c .before in (is-ready k .sound, rw (c .significand-of .ensures) (is-ready k .bits))
+one-step-requires : tie.Need-one-step-requires
+one-step-requires c κs = let k = c .before in (is-ready k .sound, rw (c .significand-of .ensures) (is-ready k .bits))
 
 -- its product
-product-is : (c : tie.After-product-of) → let k = c .before .before in c .product-of .result ≡ oneStepBy (f k) (significandOf binary32 (b k))
-product-is c = let k = c .before .before in c .product-of .ensures ∙ ap (oneStepBy (f k)) (c .before .significand-of .ensures)
+product-is : (c : tie.After-one-step) → let k = c .before .before in c .one-step .result ≡ oneStepBy (f k) (significandOf binary32 (b k))
+product-is c = let k = c .before .before in c .one-step .ensures ∙ ap (oneStepBy (f k)) (c .before .significand-of .ensures)
 
 finish-requires : tie.Need-finish-requires
 finish-requires c κs =
@@ -65,4 +65,4 @@ returns-3 c =
 pub read-once-spec : {M : Type 1} → statement M
 read-once-spec =
     tie.close
-    (tie.spec (λ c κs. search needs) (λ c. search needs) (λ c. search needs) (λ c κs. search needs) (λ c. search needs) (λ c κs. search needs) (λ c. search needs) product-of-requires finish-requires returns returns-2 returns-3)
+    (tie.spec (λ c κs. search needs) (λ c. search needs) (λ c. search needs) (λ c κs. search needs) (λ c. search needs) (λ c κs. search needs) (λ c. search needs) one-step-requires finish-requires returns returns-2 returns-3)

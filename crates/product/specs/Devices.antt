@@ -1,0 +1,12 @@
+-- Both devices: the two-step handheld of document 01 and the one-step handheld of request W2, and what each makes. Definitions only. Assumes nothing.
+use Prim.Native.Nat.{ℕ}
+use Rattle.factor.specs.declared.Factor.{Factor}
+use Rattle.product.specs.declared.Device.{Device}
+use Rattle.product.specs.declared.Product.{Product}
+use Rattle.product.specs.Product.{productBy}
+use Rattle.product.specs.OneStep.{oneStepBy}
+
+-- the product of a factor on a device
+abbrev pub productOn : Device → Factor → ℕ → Product
+productOn Device.TwoStep f X = productBy f X
+productOn Device.OneStep f X = oneStepBy f X
