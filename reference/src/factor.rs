@@ -104,6 +104,26 @@ impl Factor {
         least(self.bits) <= first && first <= last && last <= greatest(self.bits)
     }
 
+    /// The refusals 31 and 17 of what is asked about a range, or about one significand, first and last of its own.
+    pub fn check_range(&self, first: u64, last: u64) -> Result<(), Refusal> {
+        if !self.intact() {
+            return Err(31);
+        }
+        if !self.range_ok(first, last) {
+            return Err(17);
+        }
+        Ok(())
+    }
+
+    /// Ch, and the fraction of a significand.
+    pub fn high_part(&self) -> Dyadic {
+        Dyadic::new(self.high as i128, self.bits as i32 - 1)
+    }
+
+    pub fn fraction(&self, x: u64) -> Dyadic {
+        Dyadic::new(x as i128, self.bits as i32 - 1)
+    }
+
     /// W and D of document 01.
     pub fn w(&self) -> i128 {
         1i128 << (62 - self.bits)

@@ -1,9 +1,10 @@
-//! Document 01's example and figures, those of quotients, and the reference's methods held against each other.
+//! Document 01's example and figures, those of quotients and of the one-step device, and the reference's methods held against each other.
 
 use crate::factor::{greatest, least, set_up, Factor};
-use crate::product::{multiply, product, Mark};
+use crate::onestep::{self, count, count_by_values, multiply_once, near_ties, product_once, read_once, tally, Tally};
+use crate::product::{multiply, product, Mark, Product};
 use crate::quotient::{divide, divide_reading, is_nearest, machine, near_midpoints, quotient, Quotient};
-use crate::random::{given, Random, KINDS};
+use crate::random::{given, Random, KINDS, KNOWN};
 use crate::reading::read;
 use crate::sweep::{call, new_state, Plain};
 use crate::{frame, search, suspects};
@@ -21,6 +22,56 @@ pub const EXAMPLE_REPORT: &str = "0001 00 00000002 00000000 00000000
 0003 02 00000001 00000000 00000001
 ";
 
+/// Tallies of the one-step device that are due.
+pub struct DueTally {
+    pub name: &'static str,
+    pub bits: u32,
+    pub scale: i32,
+    pub ends: (u64, u64),
+    pub range: (u64, u64),
+    pub tally: Tally,
+}
+
+/// W2's figures: all significands of 3/2, P2's factor, 4/3 and the third frame's 23/18 at 4 bits, and the first 4,096 of 1/pi at 24.
+pub const TALLIES: [DueTally; 5] = {
+    const fn at_4_bits(name: &'static str, ends: (u64, u64), right: u64, wrong: u64, open: u64) -> DueTally {
+        DueTally { name, bits: 4, scale: 0, ends, range: (8, 15), tally: Tally { right, wrong, open } }
+    }
+    [
+        at_4_bits("3/2", (3 << 61, 3 << 61), 8, 0, 0),
+        at_4_bits("19/16 - 2^-20", (0x4BFFFC0000000000, 0x4BFFFC0000000000), 4, 4, 0),
+        at_4_bits("4/3", (0x5555555555555555, 0x5555555555555556), 6, 2, 0),
+        at_4_bits("23/18", (0x51C71C71C71C71C7, 0x51C71C71C71C71C8), 5, 2, 1),
+        DueTally {
+            name: "1/pi",
+            bits: 24,
+            scale: -2,
+            ends: (0x517CC1B727220A94, 0x517CC1B727220A95),
+            range: (8_388_608, 8_392_703),
+            tally: Tally { right: 2331, wrong: 1765, open: 0 },
+        },
+    ]
+};
+
+/// Source document 004, Table 1: the share of all significands whose one-step product by pi is the correctly rounded one, at so many
+/// bits, to five decimals as printed there; and that share as a number of significands, of 2^(n - 1).
+pub const TABLE_1: [(u32, &str, u64); 8] = [
+    (4, "0.62500", 5),
+    (5, "0.93750", 15),
+    (6, "0.78125", 25),
+    (7, "0.59375", 38),
+    (8, "0.96875", 124),
+    (16, "0.86765", 28_431),
+    (17, "0.73558", 48_207),
+    (24, "0.66805", 5_604_034),
+];
+
+/// The factor of Table 1, pi at so many bits.
+pub fn pi(bits: u32) -> Factor {
+    let (_, scale, lower, upper) = KNOWN[1];
+    set_up(bits, scale, lower, upper).expect("an accepted factor")
+}
+
 pub fn selftest(output: &mut dyn Write) -> io::Result<()> {
     example();
     table();
@@ -30,8 +81,17 @@ pub fn selftest(output: &mut dyn Write) -> io::Result<()> {
     quotients_of_readings();
     farthest_quotients();
     quotients_of_every_precision();
+    one_step();
+    one_step_readings();
+    farthest_one_step();
+    tallies();
+    table_1();
+    one_step_of_every_precision();
     methods();
-    writeln!(output, "selftest: document 01's example and figures stand, those of quotients too, and the methods agree")
+    writeln!(
+        output,
+        "selftest: document 01's example and figures stand, those of quotients and of the one-step device too, and the methods agree"
+    )
 }
 
 fn accepted(bits: u32, lower: u64, upper: u64) -> Factor {
@@ -149,17 +209,25 @@ fn quotients_of_readings() {
 }
 
 /// Twice the distance from x / C to the quotient, C = end / 2^62, and the unit in the last place of x / C, both over the same.
-fn twice_off_and_unit(factor: &Factor, end: u64, x: u64) -> (u128, u128) {
+fn quotient_off(factor: &Factor, end: u64, x: u64) -> (u128, u128) {
     let quotient = quotient(factor, x);
     let ours = (quotient.significand as u128 * end as u128) << (quotient.binade + 1);
     let below_one = (x as u128) << 62 < (end as u128) << (factor.bits - 1);
     (2 * ours.abs_diff((x as u128) << 63), (end as u128) << (1 - below_one as u32))
 }
 
-/// Less than 3/2 units in the last place of x / C (003, Property 3.1), C being either end.
-fn near_enough(factor: &Factor, x: u64) -> bool {
+/// Twice the distance from C × x to the one-step product, C = end / 2^62, and the unit in the last place of C × x, both over 2^(61 + n).
+fn one_step_off(factor: &Factor, end: u64, x: u64) -> (u128, u128) {
+    let product = product_once(factor, x);
+    let (ours, exact) = ((product.significand as u128) << (62 + product.binade), end as u128 * x as u128);
+    let below_two = exact < 1 << (62 + factor.bits);
+    (2 * ours.abs_diff(exact), 1 << if below_two { 62 } else { 63 })
+}
+
+/// Less than 3/2 units in the last place of x / C (003, Property 3.1), or of C × x (Property 2.1), C being either end.
+fn near_enough(factor: &Factor, x: u64, off: fn(&Factor, u64, u64) -> (u128, u128)) -> bool {
     [factor.lower, factor.upper].into_iter().all(|end| {
-        let (twice_off, unit) = twice_off_and_unit(factor, end, x);
+        let (twice_off, unit) = off(factor, end, x);
         twice_off < 3 * unit
     })
 }
@@ -172,8 +240,8 @@ fn farthest_quotients() {
         let (x, binade) = if bits % 2 == 0 { ((1 << bits) - (1 << (half - 1)), 0) } else { (least(bits), -1) };
         let factor = accepted(bits, end, end);
         assert_eq!(quotient(&factor, x), Quotient { significand: (1 << bits) - (1 << half), binade });
-        assert!(near_enough(&factor, x));
-        let (twice_off, unit) = twice_off_and_unit(&factor, end, x);
+        assert!(near_enough(&factor, x, quotient_off));
+        let (twice_off, unit) = quotient_off(&factor, end, x);
         assert!(bits < 24 || 100_000 * twice_off / (2 * unit) == 149_957);
     }
 }
@@ -189,7 +257,7 @@ fn quotients_of_every_precision() {
         let mut significands = near_midpoints(&factor);
         significands.extend([first, last, random.from_to(first, last), factor.high.min(last)]);
         for x in significands {
-            assert!(is_nearest(&factor, x) && near_enough(&factor, x), "{factor:X?} {x:X}");
+            assert!(is_nearest(&factor, x) && near_enough(&factor, x, quotient_off), "{factor:X?} {x:X}");
             if factor.bits == 24 {
                 let Quotient { significand, binade } = quotient(&factor, x);
                 let value = significand as f32 * 2f32.powi(binade as i32 - 23);
@@ -199,8 +267,159 @@ fn quotients_of_every_precision() {
     }
 }
 
+fn one_step() {
+    let answer = |factor: &Factor, x| {
+        multiply_once(factor, x).map(|product| (product.significand, product.binade, product.mark))
+    };
+    // 3/2 is its own high part; 9 and 14 give ties.
+    let f = accepted(4, 3 << 61, 3 << 61);
+    assert_eq!(answer(&f, 8), Ok((12, 0, Mark::Right)));
+    assert_eq!(answer(&f, 9), Ok((14, 0, Mark::Right)));
+    assert_eq!(answer(&f, 14), Ok((10, 1, Mark::Right)));
+    assert_eq!(answer(&f, 15), Ok((11, 1, Mark::Right)));
+    assert_eq!(answer(&f, 7), Err(17));
+    assert_eq!(answer(&f, 16), Err(17));
+    assert_eq!(answer(&Factor { low: 8, ..f }, 16), Err(31));
+    // P2's factor: its high part is 9/8. What is wrong in two steps is right in one, and the other way round.
+    let f = accepted(4, 0x4BFFFC0000000000, 0x4BFFFC0000000000);
+    assert_eq!(answer(&f, 8), Ok((9, 0, Mark::Right)));
+    assert_eq!(answer(&f, 15), Ok((8, 1, Mark::Wrong)));
+    assert_eq!(product(&f, 15), Product { significand: 9, binade: 1, mark: Mark::Right });
+    // P3's factor: its high part is 10/8, and 9 × 10/8 lies between what the ends are rounded to.
+    let f = accepted(4, 0x51C71C71C71C71C7, 0x51C71C71C71C71C8);
+    assert_eq!(answer(&f, 9), Ok((11, 0, Mark::Open)));
+    // A high part of 2 takes a significand to itself, in the next binade.
+    for bits in 4..=24 {
+        let two = accepted(bits, (1 << 63) - 1, (1 << 63) - 1);
+        for x in [least(bits), least(bits) + 1, greatest(bits)] {
+            assert!(matches!(answer(&two, x), Ok((significand, 1, _)) if significand == x));
+        }
+    }
+}
+
+fn one_step_readings() {
+    // 1/pi, as one binary32 number.
+    let f = set_up(24, -2, 0x517CC1B727220A94, 0x517CC1B727220A95).expect("an accepted factor");
+    let applied = f32::from_bits(f.high_float) / 4.0;
+    for girth in [1.57f32, -1.57, 1.0, 3.0e38, 4.0e-38] {
+        assert_eq!(read_once(&f, girth.to_bits()).map(|answer| answer.1), Ok((girth * applied).to_bits()));
+    }
+    assert_eq!(read_once(&f, 0x80000000), Ok((Mark::Right, 0)));
+    assert_eq!(read_once(&f, 0x7F800000), Err(21));
+    assert_eq!(read_once(&f, 0x807FFFFF), Err(22));
+    assert_eq!(read_once(&f, 0x00800000), Err(23));
+    assert_eq!(read_once(&Factor { scale: 101, ..f }, 0x7F800000), Err(31));
+    assert_eq!(read_once(&accepted(23, 3 << 61, 3 << 61), 0x7F800000), Err(20));
+    let f = set_up(24, 100, 3 << 61, 3 << 61).expect("an accepted factor");
+    assert_eq!(read_once(&f, (127 + 27) << 23), Ok((Mark::Right, 1.5f32.to_bits() + (127 << 23))));
+    assert_eq!(read_once(&f, (127 + 28) << 23), Err(23));
+    // Just below 2^-126: one multiplication of the whole reading would round it up to that, by a tie of subnormal numbers.
+    let f = set_up(24, -1, 1 << 62, 1 << 62).expect("an accepted factor");
+    assert_eq!((f32::from_bits(0x00FFFFFF) * 0.5).to_bits(), 0x00800000);
+    assert_eq!(read_once(&f, 0x00FFFFFF), Err(23));
+    assert_eq!(read_once(&f, 0x01000000), Ok((Mark::Right, 0x00800000)));
+    // One binary32 multiplication of the whole reading by Ch × 2^k, where the product is not refused; and 23 where it lies outside.
+    let mut random = Random::new(8);
+    let mut refused = [0, 0];
+    for i in 0..400_000 {
+        let g = given(&mut random, 24, i % (KINDS - 1));
+        let Ok(factor) = set_up(24, g.scale, g.lower, g.upper) else { continue };
+        let reading = f32::from_bits(random.word() as u32);
+        if !reading.is_normal() {
+            continue;
+        }
+        let applied = f32::from_bits(factor.high_float) * 2f32.powi(factor.scale);
+        match read_once(&factor, reading.to_bits()) {
+            Ok((_, bits)) => assert_eq!(bits, (reading * applied).to_bits()),
+            Err(refusal) => {
+                assert_eq!(refusal, 23);
+                // Exact in binary64.
+                let size = (reading as f64 * applied as f64).abs();
+                assert!(size < 2f64.powi(-126) || 2f64.powi(128) <= size, "{factor:X?} {reading}");
+                refused[(size > 1.0) as usize] += 1;
+            }
+        }
+    }
+    assert!(refused.iter().all(|&count| count > 10_000), "{refused:?}");
+}
+
+/// 003's example 1, for even and for odd precisions: hardly better than the bound, at 24 bits 1.499756 units. For odd ones the product
+/// lies a binade above C × x. (At 4 bits C is a tie whose even neighbour is 1, and the example none.)
+fn farthest_one_step() {
+    for bits in 5..=24 {
+        let half = bits / 2;
+        let end = (1 << 62) + (1 << (61 - half)) - (1 << (62 - bits));
+        let x = (1 << bits) - (1 << half);
+        let (significand, binade) = if bits % 2 == 0 { (x + (1 << (half - 1)), 0) } else { (least(bits), 1) };
+        let factor = accepted(bits, end, end);
+        assert_eq!(product_once(&factor, x), Product { mark: Mark::Wrong, significand, binade });
+        assert!(near_enough(&factor, x, one_step_off));
+        let (twice_off, unit) = one_step_off(&factor, end, x);
+        assert_eq!((3 * unit - twice_off) << ((bits + 1) / 2), 2 * unit);
+        assert!(bits < 24 || 1_000_000 * twice_off / (2 * unit) == 1_499_755);
+    }
+}
+
+fn tallies() {
+    for due in TALLIES {
+        let (lower, upper) = due.ends;
+        let factor = set_up(due.bits, due.scale, lower, upper).expect("an accepted factor");
+        let (first, last) = due.range;
+        assert_eq!(tally(&factor, first, last), Ok(due.tally), "{}", due.name);
+    }
+    // 17 bits have 65,536 significands, which are taken; 18 have more.
+    let (first, last) = (least(18), greatest(18));
+    assert_eq!(tally(&pi(17), least(17), greatest(17)).map(Tally::length), Ok(65_536));
+    assert_eq!(tally(&pi(18), first, first + 65_535).map(Tally::length), Ok(65_536));
+    assert_eq!(tally(&pi(18), first, first + 65_536), Err(41));
+    assert_eq!(tally(&pi(18), last - 65_535, last).map(Tally::length), Ok(65_536));
+    assert_eq!(tally(&pi(18), last - 65_536, last), Err(41));
+    assert_eq!(tally(&pi(18), first - 1, last), Err(17));
+    assert_eq!(tally(&pi(18), first, last + 1), Err(17));
+    assert_eq!(tally(&pi(18), last, first), Err(17));
+    assert_eq!(tally(&pi(18), last, last - 1), Err(17));
+    assert_eq!(tally(&pi(18), 0, u64::MAX), Err(17));
+    assert_eq!(tally(&Factor { low: 8, ..pi(18) }, last, first), Err(31));
+}
+
+/// The table's numbers are its shares, and the tally's right ones; at 24 bits they are the machine's own too.
+fn table_1() {
+    for (bits, share, right) in TABLE_1 {
+        assert_eq!(format!("{:.5}", right as f64 / least(bits) as f64), share);
+        let factor = pi(bits);
+        let tally = count(&factor, least(bits), greatest(bits));
+        assert_eq!((tally.right, tally.length()), (right, least(bits)), "pi at {bits} bits");
+        assert!(bits > 17 || count_by_values(&factor, least(bits), greatest(bits)) == tally);
+        if bits == 24 {
+            let machine = |fraction| onestep::machine(&factor, fraction).0;
+            assert_eq!((0..1 << 23).filter(|&fraction| machine(fraction) == Mark::Right).count() as u64, right);
+        }
+    }
+}
+
+/// For factors of many kinds: one-step products, ties and those next to them among them, are near enough; at 24 bits they are the
+/// machine's binary32 products too.
+fn one_step_of_every_precision() {
+    let mut random = Random::new(9);
+    for i in 0..200_000 {
+        let given = given(&mut random, 4 + (i / KINDS % 21) as u32, i % KINDS);
+        let Ok(factor) = set_up(given.bits, given.scale, given.lower, given.upper) else { continue };
+        let (first, last) = (least(factor.bits), greatest(factor.bits));
+        let mut significands = near_ties(&factor);
+        significands.extend([first, last, random.from_to(first, last)]);
+        for x in significands {
+            assert!(near_enough(&factor, x, one_step_off), "{factor:X?} {x:X}");
+            if factor.bits == 24 {
+                let Product { mark, significand, binade } = product_once(&factor, x);
+                let value = significand as f32 * 2f32.powi(binade as i32 - 23);
+                assert_eq!(onestep::machine(&factor, x as u32 & 0x7F_FFFF), (mark, value), "{factor:X?} {x:X}");
+            }
+        }
+    }
+}
+
 /// For many factors of small precision: what is not right is a suspect, both rows are one, the search finds the row, the
-/// sweep by searches is the plain one, and quotients are near enough.
+/// sweep by searches is the plain one, quotients and one-step products are near enough, and both tallies of a range are one.
 fn methods() {
     let mut state = 1u64;
     let mut next = || {
@@ -237,7 +456,7 @@ fn check_methods(factor: &Factor, next: &mut dyn FnMut() -> u64) {
     for x in first..=last {
         let suspect = row.binary_search(&x).is_ok();
         assert!(suspect || product(factor, x).mark == Mark::Right);
-        assert!(is_nearest(factor, x) && near_enough(factor, x));
+        assert!(is_nearest(factor, x) && near_enough(factor, x, quotient_off) && near_enough(factor, x, one_step_off));
         // The half's search finds the least suspect of its own half at or after x.
         let low = factor.is_low(x);
         let there = search::next(factor, low, x).place;
@@ -247,6 +466,7 @@ fn check_methods(factor: &Factor, next: &mut dyn FnMut() -> u64) {
     }
     let (a, b) = (first + next() % (last - first + 1), first + next() % (last - first + 1));
     let (a, b) = if next() % 2 == 0 { (first, last) } else { (a.min(b), a.max(b)) };
+    assert_eq!(count(factor, a, b), count_by_values(factor, a, b));
     let mut state = new_state(factor, a, b).expect("a good range");
     let mut plain = Plain::new(factor, a, b);
     loop {

@@ -15,6 +15,7 @@ mod frame;
 #[cfg(engine)]
 mod lean;
 mod lines;
+mod onestep;
 mod product;
 mod quotient;
 mod random;

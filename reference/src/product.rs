@@ -1,6 +1,6 @@
-//! The product of a significand in two steps, and its mark.
+//! The product of a significand in two steps, and the mark of any device's product.
 
-use crate::factor::{greatest, least, Factor, Refusal};
+use crate::factor::{Factor, Refusal};
 use crate::rounding::{nearest, Dyadic};
 use std::cmp::Ordering;
 
@@ -29,34 +29,31 @@ pub struct Product {
 }
 
 pub fn multiply(factor: &Factor, x: u64) -> Result<Product, Refusal> {
-    if !factor.intact() {
-        return Err(31);
-    }
-    if x < least(factor.bits) || greatest(factor.bits) < x {
-        return Err(17);
-    }
+    factor.check_range(x, x)?;
     Ok(product(factor, x))
 }
 
 /// The product of an intact factor and a significand that 17 does not refuse.
 pub fn product(factor: &Factor, x: u64) -> Product {
-    let bits = factor.bits;
-    let one = bits as i32 - 1;
-    let fraction = Dyadic::new(x as i128, one);
-    let high = Dyadic::new(factor.high as i128, one);
+    let fraction = factor.fraction(x);
     let low = Dyadic::new(factor.low as i128, factor.places as i32);
-    let u1 = nearest(bits, low.times(fraction));
-    let u2 = nearest(bits, high.times(fraction).plus(u1));
-    let first = nearest(bits, Dyadic::new(factor.lower as i128, 62).times(fraction));
-    let second = nearest(bits, Dyadic::new(factor.upper as i128, 62).times(fraction));
-    let mark = if u2.equals(first) && u2.equals(second) {
+    let u1 = nearest(factor.bits, low.times(fraction));
+    let u2 = nearest(factor.bits, factor.high_part().times(fraction).plus(u1));
+    marked(factor, x, u2)
+}
+
+/// A value of n bits in [1, 4), whichever device made it, with its mark as a product of X: by RN of both ends times x.
+pub fn marked(factor: &Factor, x: u64, value: Dyadic) -> Product {
+    let rounded = |end: u64| nearest(factor.bits, Dyadic::new(end as i128, 62).times(factor.fraction(x)));
+    let (first, second) = (rounded(factor.lower), rounded(factor.upper));
+    let mark = if value.equals(first) && value.equals(second) {
         Mark::Right
-    } else if u2.compare(first) == Ordering::Less || u2.compare(second) == Ordering::Greater {
+    } else if value.compare(first) == Ordering::Less || value.compare(second) == Ordering::Greater {
         Mark::Wrong
     } else {
         Mark::Open
     };
-    let binade = one - u2.places;
+    let binade = factor.bits as i32 - 1 - value.places;
     assert!(binade == 0 || binade == 1, "the product lies in [1, 4)");
-    Product { mark, significand: u2.whole as u64, binade: binade as u32 }
+    Product { mark, significand: value.whole as u64, binade: binade as u32 }
 }

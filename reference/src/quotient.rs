@@ -12,12 +12,7 @@ pub struct Quotient {
 }
 
 pub fn divide(factor: &Factor, x: u64) -> Result<Quotient, Refusal> {
-    if !factor.intact() {
-        return Err(31);
-    }
-    if x < least(factor.bits) || greatest(factor.bits) < x {
-        return Err(17);
-    }
+    factor.check_range(x, x)?;
     Ok(quotient(factor, x))
 }
 

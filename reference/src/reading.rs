@@ -4,8 +4,13 @@ use crate::factor::{Factor, Refusal};
 use crate::product::Mark;
 
 pub fn read(factor: &Factor, reading: u32) -> Result<(Mark, u32), Refusal> {
+    read_by(factor, reading, product)
+}
+
+/// The reading's product by a device, which gives mark and product of the significand whose fraction bits are given.
+pub fn read_by(factor: &Factor, reading: u32, device: fn(&Factor, u32) -> (Mark, f32)) -> Result<(Mark, u32), Refusal> {
     let Some(fraction) = taken(factor, reading)? else { return Ok((Mark::Right, 0)) };
-    let (mark, product) = product(factor, fraction);
+    let (mark, product) = device(factor, fraction);
     Ok((mark, put_on(product, reading, factor.scale)?))
 }
 
@@ -47,19 +52,23 @@ pub fn product(factor: &Factor, fraction: u32) -> (Mark, f32) {
     let x = f32::from_bits(0x3F80_0000 | fraction);
     let u1 = f32::from_bits(factor.low_float) * x;
     let u2 = f32::from_bits(factor.high_float).mul_add(x, u1);
-    // RN of the ends times x, by the machine's conversion of whole numbers: all are over 2^85.
+    (mark(factor, fraction, u2), u2)
+}
+
+/// The mark of a value as the product of that significand, whichever device made it: by RN of both ends times x, which the machine's
+/// conversion of whole numbers gives. All are over 2^85.
+pub fn mark(factor: &Factor, fraction: u32, value: f32) -> Mark {
     let significand = (0x80_0000 | fraction) as u128;
     let first = (factor.lower as u128 * significand) as f32;
     let second = (factor.upper as u128 * significand) as f32;
-    let ours = u2 * 2f32.powi(85);
-    let mark = if ours == first && ours == second {
+    let ours = value * 2f32.powi(85);
+    if ours == first && ours == second {
         Mark::Right
     } else if ours < first || second < ours {
         Mark::Wrong
     } else {
         Mark::Open
-    };
-    (mark, u2)
+    }
 }
 
 #[cfg(test)]

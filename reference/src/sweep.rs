@@ -21,12 +21,7 @@ pub struct Counts {
 }
 
 pub fn new_state(factor: &Factor, first: u64, last: u64) -> Result<State, Refusal> {
-    if !factor.intact() {
-        return Err(31);
-    }
-    if !factor.range_ok(first, last) {
-        return Err(17);
-    }
+    factor.check_range(first, last)?;
     Ok(State { factor: *factor, first, last, next: first, finished: false })
 }
 
