@@ -1,15 +1,18 @@
 //! The engine against the reference: every answer, word, state, list and count must be the same.
 
 use crate::engine::{
-    self, words, COUNT_WORDS, FACTOR_WORDS, PRODUCT_WORDS, QUOTIENT_WORDS, STATE_WORDS, TOO_SHORT, UNTOUCHED,
+    self, words, COUNT_WORDS, FACTOR_WORDS, PRODUCT_WORDS, QUOTIENT_WORDS, STATE_WORDS, TALLY_WORDS, TOO_SHORT,
+    UNTOUCHED,
 };
 use crate::factor::{greatest, least, of_high, set_up, Factor};
-use crate::product::{multiply, product, Mark};
+use crate::figures::{pi, TABLE_1, TALLIES};
+use crate::onestep::{count, multiply_once, near_ties, product_once, read_once, tally, Tally, LONGEST};
+use crate::product::{multiply, product, Mark, Product};
 use crate::quotient::{divide, divide_reading, machine, near_midpoints, quotient, Quotient};
 use crate::random::{given, Given, Random, KINDS, KNOWN};
 use crate::reading::read;
 use crate::sweep::{call, new_state, word, Plain, State};
-use crate::{reading, search, suspects};
+use crate::{onestep, reading, search, suspects};
 use std::io::{self, Write};
 use std::sync::atomic::{AtomicUsize, Ordering};
 use std::sync::Mutex;
@@ -76,8 +79,13 @@ fn parts() -> Vec<Part> {
     }
     parts.push(part("every quotient of 4 to 12 bits", every_quotient));
     parts.push(part("every quotient where the high part is 2 or 1", high_two_and_one));
+    parts.push(part("every significand of every high part of 4 to 12 bits, in one step", every_one_step));
+    parts.push(part("tallies of every range of 4 to 6 bits, and of those that are refused", every_range));
+    parts.push(part("tallies as long as one call takes and one longer, at both borders", longest_tallies));
+    parts.push(part("tallies of adjoining ranges, however long the whole is", adjoining_tallies));
+    parts.push(part("tallies of random and extreme ranges, with every refusal", tallies));
     parts.push(part(
-        "random factors of every precision, their suspects and quotients near midpoints among the significands",
+        "random factors of every precision, with suspects, quotients near midpoints and one-step products near ties",
         large,
     ));
     parts.push(part("set-up, with every refusal", set_ups));
@@ -85,7 +93,7 @@ fn parts() -> Vec<Part> {
     parts.push(part("upper halves that are not as written, through every function", upper_halves));
     parts.push(part("lists that are too short", short_lists));
     parts.push(part("readings, random and extreme, with every refusal", readings));
-    parts.push(part("quotients of readings at every exponent, past both limits", every_exponent));
+    parts.push(part("quotients and one-step products of readings at every exponent, past both limits", every_exponent));
     for (name, scale, lower, upper) in KNOWN.into_iter().chain([("3/2", 0, 3 << 61, 3 << 61)]) {
         parts.push(part(format!("the whole sweep of {name} at 24 bits, in one call and in many"), move |random| {
             whole_sweep(random, &set_up(24, scale, lower, upper).expect("an accepted factor"))
@@ -93,6 +101,7 @@ fn parts() -> Vec<Part> {
     }
     parts.push(part("calls on states that nobody reached, and damaged ones", any_states));
     parts.push(part("the remaining figures of document 01, and those of quotients", figures));
+    parts.push(part("the tallies that W2 names, and those of source document 004, Table 1", figures_of_tallies));
     parts
 }
 
@@ -114,8 +123,39 @@ fn both_divide(words: &[u64], x: u64) {
     agree!(engine::divide(words, x), answer, "{x:X} divided by {words:X?}");
 }
 
+fn both_multiply_once(words: &[u64], x: u64) {
+    let answer = engine::from_words(words).and_then(|factor| multiply_once(&factor, x));
+    agree!(engine::multiply_once(words, x), answer, "{words:X?} times {x:X} in one step");
+}
+
+fn both_tally(words: &[u64], first: u64, last: u64) -> Result<Tally, u32> {
+    let answer = engine::from_words(words).and_then(|factor| tally(&factor, first, last));
+    agree!(engine::tally(words, first, last), answer, "the tally of {words:X?} from {first:X} to {last:X}");
+    answer
+}
+
+/// The engine's tallies of adjoining ranges from `first` to `last`, of these lengths, added up; and how many they are.
+fn adjoining(words: &[u64], first: u64, last: u64, mut length: impl FnMut() -> u64) -> (Tally, u64) {
+    let (mut sum, mut calls, mut from) = (Tally::default(), 0, first);
+    while from <= last {
+        let to = (from + length() - 1).min(last);
+        match engine::tally(words, from, to) {
+            Ok(tally) => sum = sum + tally,
+            Err(refusal) => panic!("the tally of {words:X?} from {from:X} to {to:X} is refused with {refusal}"),
+        }
+        (calls, from) = (calls + 1, to + 1);
+    }
+    (sum, calls)
+}
+
+/// A length that one tally takes.
+fn any_length(random: &mut Random) -> u64 {
+    1 + random.any_size() % LONGEST
+}
+
 fn every_significand(random: &mut Random, factor: &Factor) -> u64 {
     let words = words(factor);
+    let mut marks = Tally::default();
     for x in least(24)..=greatest(24) {
         let answer = engine::multiply(&words, x);
         agree!(answer, Ok(product(factor, x)), "{factor:X?} times {x:X}");
@@ -135,8 +175,23 @@ fn every_significand(random: &mut Random, factor: &Factor) -> u64 {
         let value = machine(factor, (x - least(24)) as u32);
         agree!(expected.to_bits(), value.to_bits(), "{x:X} divided by {factor:X?}, by the machine");
         both_divide_reading(&words, bits);
+        // The one-step product: by whole numbers, by the machine, and now and then as a reading.
+        let answer = engine::multiply_once(&words, x);
+        agree!(answer, Ok(product_once(factor, x)), "{factor:X?} times {x:X} in one step");
+        let whole = answer.expect("a product");
+        let expected = whole.significand as f32 * 2f32.powi(whole.binade as i32 - 23);
+        let (mark, value) = onestep::machine(factor, (x - least(24)) as u32);
+        agree!((whole.mark, expected.to_bits()), (mark, value.to_bits()), "{factor:X?} times {x:X}, by the machine");
+        if x % 4 == 0 {
+            both_read_once(&words, bits);
+        }
+        marks = marks + Tally::one(whole.mark);
     }
-    6 << 23
+    // The tally is the count of these marks, by long calls and by calls of any length.
+    let (long, long_calls) = adjoining(&words, least(24), greatest(24), || LONGEST);
+    let (short, short_calls) = adjoining(&words, least(24), greatest(24), || any_length(random));
+    agree!((long, short), (marks, marks), "tallies of all significands of {factor:X?}");
+    (8 << 23) + (1 << 21) + long_calls + short_calls
 }
 
 fn small(random: &mut Random, bits: u32) -> u64 {
@@ -154,6 +209,9 @@ fn small(random: &mut Random, bits: u32) -> u64 {
             // Quotients depend on the high part alone and have a part of their own: every third factor is enough here.
             if i % 3 == 0 {
                 answers += every_quotient_of(&factor);
+            }
+            if i % 3 == 1 {
+                answers += every_one_step_of(&factor);
             }
         }
     }
@@ -195,6 +253,144 @@ fn high_two_and_one(_: &mut Random) -> u64 {
     answers
 }
 
+/// The one-step products of all significands, and of those next to them, which are refused; and the tally, which is the count of
+/// their marks.
+fn every_one_step_of(factor: &Factor) -> u64 {
+    let words = words(factor);
+    let (first, last) = (least(factor.bits), greatest(factor.bits));
+    both_multiply_once(&words, first - 1);
+    both_multiply_once(&words, last + 1);
+    let mut marks = Tally::default();
+    for x in first..=last {
+        let answer = product_once(factor, x);
+        agree!(engine::multiply_once(&words, x), Ok(answer), "{factor:X?} times {x:X} in one step");
+        marks = marks + Tally::one(answer.mark);
+    }
+    agree!(engine::tally(&words, first, last), Ok(marks), "the tally of {factor:X?}");
+    last - first + 4
+}
+
+/// A factor with this high part, in which any fraction is its lower end: that part itself, or one that is rounded to it.
+fn near_high(random: &mut Random, bits: u32, high: u64) -> Factor {
+    let off = random.below(1 << (62 - bits)) >> random.one_of(&[0, 0, 0, bits, 62]);
+    let exact = high << (63 - bits);
+    let end = if random.below(2) == 0 { exact.saturating_sub(off) } else { exact + off };
+    let end = end.clamp(1 << 62, (1 << 63) - 1);
+    let wider = set_up(bits, 0, end, (end + random.any_size() % 1000).min((1 << 63) - 1));
+    let factor = wider.or(set_up(bits, 0, end, end)).expect("an accepted factor");
+    assert_eq!(factor.high, high);
+    factor
+}
+
+/// The value of a one-step product depends on the precision, the high part and the significand: all there are, as long as they are not
+/// too many.
+fn every_one_step(random: &mut Random) -> u64 {
+    let mut of_bits = |bits: u32| {
+        (least(bits)..=1 << bits).map(|high| every_one_step_of(&near_high(random, bits, high))).sum::<u64>()
+    };
+    (4..=12).map(&mut of_bits).sum()
+}
+
+/// Every first and last significand from one below the least to one above the greatest.
+fn every_range(random: &mut Random) -> u64 {
+    let mut answers = 0;
+    for (bits, factors) in [(4, 20_000), (5, 8000), (6, 2000)] {
+        for _ in 0..factors {
+            let factor = accepted_at(random, bits);
+            let words = words(&factor);
+            let (least, greatest) = (least(bits), greatest(bits));
+            let marks: Vec<Tally> = (least..=greatest).map(|x| Tally::one(product_once(&factor, x).mark)).collect();
+            for first in least - 1..=greatest + 1 {
+                let mut sum = Tally::default();
+                for last in least - 1..=greatest + 1 {
+                    let good = least <= first && first <= last && last <= greatest;
+                    if good {
+                        sum = sum + marks[(last - least) as usize];
+                    }
+                    let expected = if good { Ok(sum) } else { Err(17) };
+                    agree!(engine::tally(&words, first, last), expected, "{factor:X?} from {first:X} to {last:X}");
+                    answers += 1;
+                }
+            }
+            let _ = both_tally(&words, least, greatest);
+            answers += 1;
+        }
+    }
+    answers
+}
+
+/// 65,535, 65,536 and 65,537 significands at both borders and in between, where there are so many; one outside at either border, and
+/// what is no range at all.
+fn longest_tallies(random: &mut Random) -> u64 {
+    let (mut answers, mut met) = (0, std::collections::BTreeSet::new());
+    for bits in (17..=24).chain(17..=24) {
+        let factor = accepted_at(random, bits);
+        let (words, least, greatest) = (words(&factor), least(bits), greatest(bits));
+        for length in [LONGEST - 1, LONGEST, LONGEST + 1] {
+            let latest = greatest - (length - 1);
+            for first in [least, latest, random.from_to(least.min(latest), latest)] {
+                met.insert(both_tally(&words, first, first + length - 1).map(Tally::length));
+                answers += 1;
+            }
+            // 17, however long.
+            agree!(engine::tally(&words, least - 1, least + length - 2), Err(17), "{factor:X?} from below");
+            agree!(engine::tally(&words, greatest - length + 2, greatest + 1), Err(17), "{factor:X?} past its last");
+            agree!(engine::tally(&words, greatest, greatest - length + 1), Err(17), "{factor:X?} backwards");
+            answers += 3;
+        }
+        for (first, last) in [(0, u64::MAX), (u64::MAX, 0), (least, u64::MAX), (0, greatest), (least, least - 1)] {
+            agree!(engine::tally(&words, first, last), Err(17), "{factor:X?} from {first:X} to {last:X}");
+            answers += 1;
+        }
+    }
+    assert!(met.contains(&Ok(LONGEST - 1)) && met.contains(&Ok(LONGEST)) && met.contains(&Err(41)));
+    answers
+}
+
+/// Tallies of adjoining ranges add up to the reference's count of the whole.
+fn adjoining_tallies(random: &mut Random) -> u64 {
+    let mut answers = 0;
+    for bits in 4..=21 {
+        for _ in 0..if bits < 17 { 100 } else { 6 } {
+            let factor = accepted_at(random, bits);
+            let (least, greatest) = (least(bits), greatest(bits));
+            let (a, b) = (random.from_to(least, greatest), random.from_to(least, greatest));
+            let (first, last) = random.one_of(&[(least, greatest), (a.min(b), a.max(b))]);
+            let (sum, calls) = adjoining(&words(&factor), first, last, || any_length(random));
+            agree!(sum, count(&factor, first, last), "adjoining tallies of {factor:X?} from {first:X} to {last:X}");
+            answers += calls;
+        }
+    }
+    answers
+}
+
+/// Ranges short and long, at the borders, outside, backwards and of any words, of good factors and of damaged ones.
+fn tallies(random: &mut Random) -> u64 {
+    let count = 200_000;
+    for i in 0..count {
+        let factor = accepted(random, 4 + (i % 21) as u32);
+        let mut words = words(&factor);
+        if i % 8 == 0 {
+            damage(random, &mut words);
+        }
+        let (least, greatest) = (least(factor.bits), greatest(factor.bits));
+        let first = random.from_to(least, greatest);
+        let short = random.any_size() % 500;
+        let (first, last) = match random.below(16) {
+            0 => (random.any_size(), random.any_size()),
+            1 => (first, first - 1 - short.min(first - 1)),
+            2 => (first, random.from_to(first, greatest).max(first + LONGEST)),
+            3 => (least - 1 + random.below(2), least - 1 + short),
+            4 => (greatest.saturating_sub(short), greatest + random.below(2)),
+            5 => (least - 1 + random.below(2), (least + LONGEST + short).max(greatest)),
+            6 => (first, first),
+            _ => (first, (first + short).min(greatest)),
+        };
+        let _ = both_tally(&words, first, last);
+    }
+    count
+}
+
 fn large(random: &mut Random) -> u64 {
     let mut answers = 0;
     for i in 0..2_000_000 {
@@ -210,12 +406,13 @@ fn large(random: &mut Random) -> u64 {
         for low in [true, false] {
             let place = search::next(&factor, low, random.from_to(first, last)).place.unwrap_or(0);
             both_multiply(&words, place as u64);
+            both_multiply_once(&words, place as u64);
         }
         let outside = random.one_of(&[0, first - 1, last + 1, u64::MAX, 1 << 32 | first]);
         for x in [first, last, outside] {
             both_multiply(&words, x);
         }
-        answers += 9;
+        answers += 11;
         let high = factor.high;
         for x in [first, last, outside, high - 1, high, high + 1, random.from_to(first, last)] {
             both_divide(&words, x);
@@ -223,6 +420,12 @@ fn large(random: &mut Random) -> u64 {
         let near = near_midpoints(&factor);
         near.iter().for_each(|&x| both_divide(&words, x));
         answers += 7 + near.len() as u64;
+        if i % 4 == 0 {
+            let mut significands = near_ties(&factor);
+            significands.extend([first, last, outside, random.from_to(first, last)]);
+            significands.iter().for_each(|&x| both_multiply_once(&words, x));
+            answers += significands.len() as u64;
+        }
     }
     answers
 }
@@ -273,6 +476,9 @@ fn upper_halves(random: &mut Random) -> u64 {
             both_read(&words, reading_bits(random, factor.scale));
             both_divide(&words, random.one_of(&[0, least(factor.bits), greatest(factor.bits), u64::MAX]));
             both_divide_reading(&words, reading_bits(random, -factor.scale - 1));
+            both_multiply_once(&words, random.one_of(&[0, least(factor.bits), greatest(factor.bits), u64::MAX]));
+            both_read_once(&words, reading_bits(random, factor.scale));
+            agree!(engine::tally(&words, first, last), Err(31), "the tally of {words:X?} from {first:X} to {last:X}");
             agree!(engine::new_sweep(&words, first, last), Err(31), "a new sweep of {words:X?}");
             let mut state = engine::state_words(&begun);
             state[..FACTOR_WORDS].copy_from_slice(&words);
@@ -280,7 +486,7 @@ fn upper_halves(random: &mut Random) -> u64 {
             let (cap, length, free) = call_of(random);
             let mut list = words_before(random, length);
             agree!(both_call(&mut state, cap, &mut list, free), Err(31), "a call on {state:X?}");
-            answers += 6;
+            answers += 9;
         }
         let mut state = engine::state_words(&begun);
         state[12] = random.one_of(&[1, 2, 1 << 31, 1 << 32, 1 << 63, u64::MAX]);
@@ -302,6 +508,16 @@ pub fn accepted(random: &mut Random, bits: u32) -> Factor {
     }
 }
 
+/// A factor of so many bits: where any words at all are set up, it can have others.
+fn accepted_at(random: &mut Random, bits: u32) -> Factor {
+    loop {
+        let factor = accepted(random, bits);
+        if factor.bits == bits {
+            return factor;
+        }
+    }
+}
+
 fn damaged(random: &mut Random) -> u64 {
     let count = 2_000_000;
     for i in 0..count {
@@ -314,9 +530,18 @@ fn damaged(random: &mut Random) -> u64 {
         };
         both_multiply(&words, x);
         both_divide(&words, x);
+        both_multiply_once(&words, x);
+        let _ = both_tally(&words, x, x.saturating_add(random.one_of(&[0, 1, 20, LONGEST, u64::MAX])));
     }
-    2 * count
+    4 * count
 }
+
+type ProductTo = fn(&[u64], u64, &mut [u64]) -> u32;
+type ProductBy = fn(&Factor, u64) -> Result<Product, u32>;
+
+/// Both devices' products of a significand, by the engine and by the reference.
+const PRODUCTS: [(ProductTo, ProductBy); 2] =
+    [(engine::multiply_to, multiply), (engine::multiply_once_to, multiply_once)];
 
 fn short_lists(random: &mut Random) -> u64 {
     let mut answers = 0;
@@ -339,19 +564,40 @@ fn short_lists(random: &mut Random) -> u64 {
         }
         for factor_length in 0..=FACTOR_WORDS {
             for length in 0..=PRODUCT_WORDS {
+                for (to, by) in PRODUCTS {
+                    let x = least(factor.bits);
+                    let mut out = vec![UNTOUCHED; length];
+                    let answer = to(&words[..factor_length], x, &mut out);
+                    let mut expected = vec![UNTOUCHED; length];
+                    let number = if factor_length < FACTOR_WORDS || length < PRODUCT_WORDS {
+                        TOO_SHORT
+                    } else {
+                        let product = by(&factor, x).expect("a product");
+                        expected.copy_from_slice(&[product.significand, product.binade as u64]);
+                        product.mark.number()
+                    };
+                    agree!((answer, out), (number, expected), "a product of {factor_length} words into {length}");
+                    answers += 1;
+                }
+            }
+            for length in 0..=TALLY_WORDS {
                 let x = least(factor.bits);
-                let mut out = vec![UNTOUCHED; length];
-                let answer = engine::multiply_to(&words[..factor_length], x, &mut out);
-                let mut expected = vec![UNTOUCHED; length];
-                let number = if factor_length < FACTOR_WORDS || length < PRODUCT_WORDS {
-                    TOO_SHORT
-                } else {
-                    let product = multiply(&factor, x).expect("a product");
-                    expected.copy_from_slice(&[product.significand, product.binade as u64]);
-                    product.mark.number()
-                };
-                agree!((answer, out), (number, expected), "a product of {factor_length} words into {length}");
-                answers += 1;
+                // A range that is refused is not looked at where a list is too short.
+                for (first, last) in [(x, x + 3), (u64::MAX, 0)] {
+                    let mut out = vec![UNTOUCHED; length];
+                    let answer = engine::tally_to(&words[..factor_length], first, last, &mut out);
+                    let mut expected = vec![UNTOUCHED; length];
+                    let number = match tally(&factor, first, last) {
+                        _ if factor_length < FACTOR_WORDS || length < TALLY_WORDS => TOO_SHORT,
+                        Ok(Tally { right, wrong, open }) => {
+                            expected.copy_from_slice(&[right, wrong, open]);
+                            0
+                        }
+                        Err(refusal) => refusal,
+                    };
+                    agree!((answer, out), (number, expected), "a tally of {factor_length} words into {length}");
+                    answers += 1;
+                }
             }
             for length in 0..=QUOTIENT_WORDS {
                 let x = greatest(factor.bits);
@@ -379,13 +625,15 @@ fn short_lists(random: &mut Random) -> u64 {
                 answers += 1;
             }
             for length in 0..2 {
-                let mut out = vec![5; length];
-                let answer = engine::read_to(&words[..factor_length], 0, &mut out);
-                let refused = if factor.bits == 24 { 1 } else { 20 };
-                let number = if enough && length > 0 { refused } else { TOO_SHORT };
-                let left = if number == 1 { 0 } else { 5 };
-                agree!((answer, out), (number, vec![left; length]), "a reading of zero into {length} words");
-                answers += 1;
+                for to in [engine::read_to, engine::read_once_to] {
+                    let mut out = vec![5; length];
+                    let answer = to(&words[..factor_length], 0x8000_0000, &mut out);
+                    let refused = if factor.bits == 24 { 1 } else { 20 };
+                    let number = if enough && length > 0 { refused } else { TOO_SHORT };
+                    let left = if number == 1 { 0 } else { 5 };
+                    agree!((answer, out), (number, vec![left; length]), "a reading of zero into {length} words");
+                    answers += 1;
+                }
             }
             for length in STATE_WORDS - 2..=STATE_WORDS {
                 let mut out = vec![UNTOUCHED; length];
@@ -407,7 +655,10 @@ fn short_lists(random: &mut Random) -> u64 {
         both_divide(&longer, x);
         both_read(&longer, reading_bits(random, factor.scale));
         both_divide_reading(&longer, reading_bits(random, -factor.scale - 1));
-        answers += 4;
+        both_multiply_once(&longer, x);
+        both_read_once(&longer, reading_bits(random, factor.scale));
+        let _ = both_tally(&longer, x, x + 7);
+        answers += 7;
         let begun = engine::new_sweep(&words, x, x).expect("a good range");
         for length in 0..=STATE_WORDS {
             for count_length in 0..=COUNT_WORDS {
@@ -435,6 +686,11 @@ fn short_lists(random: &mut Random) -> u64 {
 fn both_read(words: &[u64], bits: u32) {
     let answer = engine::from_words(words).and_then(|factor| read(&factor, bits));
     agree!(engine::read(words, bits), answer, "{words:X?} applied to the reading {bits:X}");
+}
+
+fn both_read_once(words: &[u64], bits: u32) {
+    let answer = engine::from_words(words).and_then(|factor| read_once(&factor, bits));
+    agree!(engine::read_once(words, bits), answer, "{words:X?} applied to the reading {bits:X} in one step");
 }
 
 fn both_divide_reading(words: &[u64], bits: u32) {
@@ -473,7 +729,10 @@ fn readings(random: &mut Random) -> u64 {
             both_read(&words, reading_bits(random, scale));
             both_divide_reading(&words, reading_bits(random, scale.saturating_neg() - 1));
         }
-        answers += 16;
+        for _ in 0..2 {
+            both_read_once(&words, reading_bits(random, scale));
+        }
+        answers += 18;
         if engine::from_words(&words) == Ok(factor) && factor.bits == 24 {
             // A reading at a suspect, where products fail.
             for low in [true, false] {
@@ -488,13 +747,23 @@ fn readings(random: &mut Random) -> u64 {
                 both_divide_reading(&words, reading_bits(random, -factor.scale - 1) & 0xFF80_0000 | fraction);
             }
             answers += 2 + near.len() as u64;
+            // A reading whose one-step product is a tie or lies near one.
+            if i % 4 == 0 {
+                let near = near_ties(&factor);
+                for &x in &near {
+                    let fraction = x as u32 & 0x7F_FFFF;
+                    both_read_once(&words, reading_bits(random, factor.scale) & 0xFF80_0000 | fraction);
+                }
+                answers += near.len() as u64;
+            }
         }
     }
     answers
 }
 
 /// Every sign and exponent, zeros, subnormal numbers, infinities and NaN included, for scales of every size, significands next to
-/// the high part and high parts next to 1 and 2. Both of the quotient's binades meet both limits, and are refused past them.
+/// the high part and high parts next to 1 and 2. Both binades of the quotient and of the one-step product meet both limits, and are
+/// refused past them.
 fn every_exponent(_: &mut Random) -> u64 {
     let (mut answers, mut met) = (0, std::collections::BTreeSet::new());
     let one = least(24);
@@ -508,16 +777,22 @@ fn every_exponent(_: &mut Random) -> u64 {
                 for upper in 0..512u32 {
                     let bits = upper << 23 | x as u32 & 0x7F_FFFF;
                     both_divide_reading(&words, bits);
-                    answers += 1;
-                    let answer = divide_reading(&factor, bits);
-                    met.insert((x < high, upper & 0xFF > 127, answer.map(|quotient| quotient >> 23 & 0xFF)));
+                    both_read_once(&words, bits);
+                    answers += 2;
+                    let large = upper & 0xFF > 127;
+                    let quotient = divide_reading(&factor, bits);
+                    met.insert((false, x < high, large, quotient.map(|bits| bits >> 23 & 0xFF)));
+                    let product = read_once(&factor, bits);
+                    let binade = product_once(&factor, x).binade;
+                    met.insert((true, binade == 1, large, product.map(|(_, bits)| bits >> 23 & 0xFF)));
                 }
             }
         }
     }
-    for below_one in [false, true] {
+    for (multiplied, binade) in [(false, false), (false, true), (true, false), (true, true)] {
         for (large, field) in [(false, 1), (true, 254)] {
-            assert!(met.contains(&(below_one, large, Ok(field))) && met.contains(&(below_one, large, Err(23))));
+            assert!(met.contains(&(multiplied, binade, large, Ok(field))));
+            assert!(met.contains(&(multiplied, binade, large, Err(23))));
         }
     }
     answers
@@ -705,4 +980,25 @@ fn figures(_: &mut Random) -> u64 {
     let factor = engine::set_up(24, scale, lower, upper).expect("an accepted factor");
     agree!(engine::divide_reading(&words(&factor), 0x3F00_0000), Ok(0x3FC9_0FDB), "1/2 divided by 1/pi");
     8
+}
+
+/// The tallies that are due, each by one call and by adjoining ones; and the table's, which are those of all significands, by
+/// adjoining calls.
+fn figures_of_tallies(random: &mut Random) -> u64 {
+    let mut answers = 0;
+    for figure in TALLIES {
+        let ((lower, upper), (first, last)) = (figure.ends, figure.range);
+        let factor = engine::set_up(figure.bits, figure.scale, lower, upper).expect("an accepted factor");
+        let words = words(&factor);
+        agree!(engine::tally(&words, first, last), Ok(figure.tally), "the tally of {}", figure.name);
+        let (sum, calls) = adjoining(&words, first, last, || any_length(random));
+        agree!(sum, figure.tally, "adjoining tallies of {}", figure.name);
+        answers += 1 + calls;
+    }
+    for (bits, share, right) in TABLE_1 {
+        let (sum, calls) = adjoining(&words(&pi(bits)), least(bits), greatest(bits), || LONGEST);
+        agree!((sum.right, sum.length()), (right, least(bits)), "pi at {bits} bits, of which {share} are right");
+        answers += calls;
+    }
+    answers
 }

@@ -1,6 +1,7 @@
 //! The engine, by its exported functions (include/gusnalip.h).
 
 use crate::factor::{Factor, Refusal};
+use crate::onestep::Tally;
 use crate::product::{Mark, Product};
 use crate::quotient::Quotient;
 use crate::sweep::Counts;
@@ -8,6 +9,7 @@ pub use crate::words::{from_words, state_from, state_words, words, FACTOR_WORDS,
 
 pub const PRODUCT_WORDS: usize = 2;
 pub const QUOTIENT_WORDS: usize = 2;
+pub const TALLY_WORDS: usize = 3;
 pub const COUNT_WORDS: usize = 3;
 pub const TOO_SHORT: u32 = 255;
 
@@ -22,6 +24,16 @@ extern "C" {
         factor_length: usize,
         reading: u32,
         out: *mut u32,
+        length: usize,
+    ) -> u32;
+    fn gusnalip_multiply_once(factor: *const u64, factor_length: usize, x: u64, out: *mut u64, length: usize) -> u32;
+    fn gusnalip_read_once(factor: *const u64, factor_length: usize, reading: u32, out: *mut u32, length: usize) -> u32;
+    fn gusnalip_tally(
+        factor: *const u64,
+        factor_length: usize,
+        first: u64,
+        last: u64,
+        out: *mut u64,
         length: usize,
     ) -> u32;
     fn gusnalip_new_sweep(
@@ -69,6 +81,21 @@ pub fn divide_reading_to(factor: &[u64], reading: u32, out: &mut [u32]) -> u32 {
     unsafe { gusnalip_divide_reading(factor.as_ptr(), factor.len(), reading, out.as_mut_ptr(), out.len()) }
 }
 
+pub fn multiply_once_to(factor: &[u64], x: u64, out: &mut [u64]) -> u32 {
+    // The lists are two, and each is used within its length.
+    unsafe { gusnalip_multiply_once(factor.as_ptr(), factor.len(), x, out.as_mut_ptr(), out.len()) }
+}
+
+pub fn read_once_to(factor: &[u64], reading: u32, out: &mut [u32]) -> u32 {
+    // The lists are two, and each is used within its length.
+    unsafe { gusnalip_read_once(factor.as_ptr(), factor.len(), reading, out.as_mut_ptr(), out.len()) }
+}
+
+pub fn tally_to(factor: &[u64], first: u64, last: u64, out: &mut [u64]) -> u32 {
+    // The lists are two, and each is used within its length.
+    unsafe { gusnalip_tally(factor.as_ptr(), factor.len(), first, last, out.as_mut_ptr(), out.len()) }
+}
+
 pub fn new_sweep_to(factor: &[u64], first: u64, last: u64, out: &mut [u64]) -> u32 {
     // The lists are two, and each is used within its length.
     unsafe { gusnalip_new_sweep(factor.as_ptr(), factor.len(), first, last, out.as_mut_ptr(), out.len()) }
@@ -112,11 +139,23 @@ pub fn mark(number: u32) -> Option<Mark> {
 }
 
 pub fn multiply(factor: &[u64], x: u64) -> Result<Product, Refusal> {
+    product_by(multiply_to, factor, x)
+}
+
+pub fn multiply_once(factor: &[u64], x: u64) -> Result<Product, Refusal> {
+    product_by(multiply_once_to, factor, x)
+}
+
+/// The product that a device's function writes: mark, significand and binade, and nothing past them.
+fn product_by(device: impl Fn(&[u64], u64, &mut [u64]) -> u32, factor: &[u64], x: u64) -> Result<Product, Refusal> {
     let mut out = [UNTOUCHED; PRODUCT_WORDS + 1];
-    let number = multiply_to(factor, x, &mut out);
+    let number = device(factor, x, &mut out);
     assert_eq!(out[PRODUCT_WORDS], UNTOUCHED);
     match mark(number) {
-        Some(mark) => Ok(Product { mark, significand: out[0], binade: out[1] as u32 }),
+        Some(mark) => {
+            let binade = u32::try_from(out[1]).expect("a binade");
+            Ok(Product { mark, significand: out[0], binade })
+        }
         None => {
             assert_eq!(out, [UNTOUCHED; PRODUCT_WORDS + 1]);
             Err(number)
@@ -125,8 +164,20 @@ pub fn multiply(factor: &[u64], x: u64) -> Result<Product, Refusal> {
 }
 
 pub fn read(factor: &[u64], reading: u32) -> Result<(Mark, u32), Refusal> {
+    reading_by(read_to, factor, reading)
+}
+
+pub fn read_once(factor: &[u64], reading: u32) -> Result<(Mark, u32), Refusal> {
+    reading_by(read_once_to, factor, reading)
+}
+
+fn reading_by(
+    device: impl Fn(&[u64], u32, &mut [u32]) -> u32,
+    factor: &[u64],
+    reading: u32,
+) -> Result<(Mark, u32), Refusal> {
     let mut out = [0xA5A5_5A5A; 2];
-    let number = read_to(factor, reading, &mut out);
+    let number = device(factor, reading, &mut out);
     assert_eq!(out[1], 0xA5A5_5A5A);
     match mark(number) {
         Some(mark) => Ok((mark, out[0])),
@@ -158,6 +209,19 @@ pub fn divide_reading(factor: &[u64], reading: u32) -> Result<u32, Refusal> {
         0 => Ok(out[0]),
         refusal => {
             assert_eq!(out[0], 0xA5A5_5A5A);
+            Err(refusal)
+        }
+    }
+}
+
+pub fn tally(factor: &[u64], first: u64, last: u64) -> Result<Tally, Refusal> {
+    let mut out = [UNTOUCHED; TALLY_WORDS + 1];
+    let number = tally_to(factor, first, last, &mut out);
+    assert_eq!(out[TALLY_WORDS], UNTOUCHED);
+    match number {
+        0 => Ok(Tally::new(out[0], out[1], out[2])),
+        refusal => {
+            assert_eq!(out, [UNTOUCHED; TALLY_WORDS + 1]);
             Err(refusal)
         }
     }

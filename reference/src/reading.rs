@@ -8,7 +8,11 @@ pub fn read(factor: &Factor, reading: u32) -> Result<(Mark, u32), Refusal> {
 }
 
 /// The reading's product by a device, which gives mark and product of the significand whose fraction bits are given.
-pub fn read_by(factor: &Factor, reading: u32, device: fn(&Factor, u32) -> (Mark, f32)) -> Result<(Mark, u32), Refusal> {
+pub fn read_by(
+    factor: &Factor,
+    reading: u32,
+    device: impl Fn(&Factor, u32) -> (Mark, f32),
+) -> Result<(Mark, u32), Refusal> {
     let Some(fraction) = taken(factor, reading)? else { return Ok((Mark::Right, 0)) };
     let (mark, product) = device(factor, fraction);
     Ok((mark, put_on(product, reading, factor.scale)?))
