@@ -2,6 +2,7 @@
 
 use crate::engine::{self, words};
 use crate::factor::{greatest, least, set_up, Factor};
+use crate::onestep::{multiply_once, read_once, tally, Tally, LONGEST};
 use crate::product::{multiply, product, Mark};
 use crate::quotient::{divide, divide_reading};
 use crate::random::{given, Given, Random, KINDS, KNOWN};
@@ -49,6 +50,7 @@ pub fn bench(output: &mut dyn Write) -> io::Result<()> {
     writeln!(output, "{:<58} {:>10} {:>12}", "", "engine", "reference")?;
     sweeps(output)?;
     single(output)?;
+    tallies(output)?;
     per_suspect(output)?;
     frames(output)
 }
@@ -170,6 +172,35 @@ fn single(output: &mut dyn Write) -> io::Result<()> {
     });
     line(output, "the same, against lean arithmetic", ours / count, lean / count)?;
 
+    let ours = seconds(5, || {
+        for (words, x) in &as_words {
+            black_box(engine::multiply_once(words, *x).is_ok());
+        }
+    });
+    let theirs = seconds(5, || {
+        for (factor, x) in &accepted {
+            black_box(multiply_once(factor, *x).is_ok());
+        }
+    });
+    line(output, "one-step product of a significand, the factor checked", ours / count, theirs / count)?;
+    for (factor, x) in &accepted {
+        assert_eq!(lean::multiply_once(factor, *x), multiply_once(factor, *x), "the lean product is the reference's");
+    }
+    let lean = seconds(5, || {
+        for (factor, x) in &accepted {
+            black_box(lean::multiply_once(factor, *x).is_ok());
+        }
+    });
+    line(output, "the same, against lean arithmetic", ours / count, lean / count)?;
+    for (i, (factor, x)) in accepted.iter().enumerate() {
+        let last = random.from_to(*x, greatest(factor.bits)).min(x + 1000);
+        // Now and then all significands: accepted, or too many.
+        let (first, last) = if i % 1000 == 0 { (least(factor.bits), greatest(factor.bits)) } else { (*x, last) };
+        let due = tally(factor, first, last);
+        assert_eq!(lean::tally(factor, first, last), due, "the lean tally is the reference's");
+        assert_eq!(lean::tally_by_additions(factor, first, last), due, "the tally by additions is the reference's");
+    }
+
     let readings: Vec<(Factor, u32)> = (0..count as usize)
         .map(|i| known(i % 6).1)
         .map(|factor| (factor, (random.word() as u32 & 0x7FFF_FFFF) % 0x7F00_0000))
@@ -196,7 +227,56 @@ fn single(output: &mut dyn Write) -> io::Result<()> {
             let _ = black_box(divide_reading(factor, *bits));
         }
     });
-    line(output, "quotient of a reading, the factor checked", ours / count, theirs / count)
+    line(output, "quotient of a reading, the factor checked", ours / count, theirs / count)?;
+    let ours = seconds(5, || {
+        for (words, bits) in &as_words {
+            black_box(engine::read_once(words, *bits).is_ok());
+        }
+    });
+    let theirs = seconds(5, || {
+        for (factor, bits) in &readings {
+            black_box(read_once(factor, *bits).is_ok());
+        }
+    });
+    line(output, "one-step product of a reading, the factor checked", ours / count, theirs / count)
+}
+
+/// All significands of 24 bits, 65,536 in a call.
+fn tally_of_all(tally: impl Fn(u64, u64) -> Tally) -> Tally {
+    (least(24)..=greatest(24))
+        .step_by(LONGEST as usize)
+        .fold(Tally::default(), |sum, first| sum + tally(first, first + LONGEST - 1))
+}
+
+fn tallies(output: &mut dyn Write) -> io::Result<()> {
+    let short = set_up(24, 0, 3 << 61, 3 << 61).expect("an accepted factor");
+    for (name, factor) in [known(0), known(1), known(4), ("3/2", short)] {
+        let words = words(&factor);
+        let ours = |first, last| engine::tally(black_box(&words), first, last).expect("a tally");
+        let theirs = |first, last| tally(black_box(&factor), first, last).expect("a tally");
+        let lean = |first, last| lean::tally(black_box(&factor), first, last).expect("a tally");
+        let leaner = |first, last| lean::tally_by_additions(black_box(&factor), first, last).expect("a tally");
+        let due = tally_of_all(theirs);
+        assert_eq!(tally_of_all(lean), due, "the lean tally is the reference's");
+        assert_eq!(tally_of_all(leaner), due, "the tally by additions is the reference's");
+        let each = |seconds: f64| seconds / least(24) as f64;
+        let all = each(seconds(5, || {
+            black_box(tally_of_all(ours));
+        }));
+        let reference = each(seconds(2, || {
+            black_box(tally_of_all(theirs));
+        }));
+        line(output, &format!("tally of {LONGEST} significands of {name} at 24 bits, for each"), all, reference)?;
+        let lean = each(seconds(5, || {
+            black_box(tally_of_all(lean));
+        }));
+        line(output, "the same, against lean arithmetic, each by itself", all, lean)?;
+        let leaner = each(seconds(5, || {
+            black_box(tally_of_all(leaner));
+        }));
+        line(output, "the same, against lean additions between binades", all, leaner)?;
+    }
+    Ok(())
 }
 
 fn per_suspect(output: &mut dyn Write) -> io::Result<()> {
