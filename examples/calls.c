@@ -14,6 +14,7 @@ static void due(const char *what, uint64_t answer, uint64_t expected) {
 int main(void) {
     const uint64_t three_halves = (uint64_t)3 << 61;
     const uint64_t below_19_16 = 0x4BFFFC0000000000u;
+    const uint64_t below_23_18 = 0x51C71C71C71C71C7u;
     const uint64_t below_4_over_pi = 0x517CC1B727220A94u;
     const uint64_t last_end = 0x7FFFFFFFFFFFFFFFu;
     const uint64_t minus_one = 0xFFFFFFFFFFFFFFFFu;
@@ -21,6 +22,7 @@ int main(void) {
     uint64_t product[GUSNALIP_PRODUCT_WORDS];
     uint64_t quotient[GUSNALIP_QUOTIENT_WORDS];
     uint32_t reading[GUSNALIP_READING_WORDS];
+    uint64_t tally[GUSNALIP_TALLY_WORDS];
     uint64_t state[GUSNALIP_STATE_WORDS];
     uint64_t counts[GUSNALIP_COUNT_WORDS];
     uint32_t list[2] = {7, 7};
@@ -73,6 +75,59 @@ int main(void) {
     due("its bits", reading[0], 0x3FC90FDB);
     factor[8] += (uint64_t)1 << 32;
     due("damage", gusnalip_divide_reading(factor, GUSNALIP_FACTOR_WORDS, 0x7F800000, reading, GUSNALIP_READING_WORDS), GUSNALIP_DAMAGED);
+
+    /* The one-step device: 19/16 - 2^-20 at 4 bits, its high part being 9/8. 8 is right, 15 is wrong, and so are 4 of each in all. */
+    due("19/16 - 2^-20 for one step", gusnalip_set_up(4, 0, below_19_16, below_19_16, factor, GUSNALIP_FACTOR_WORDS), GUSNALIP_ACCEPTED);
+    due("8 in one step", gusnalip_multiply_once(factor, GUSNALIP_FACTOR_WORDS, 8, product, GUSNALIP_PRODUCT_WORDS), GUSNALIP_RIGHT);
+    due("its significand", product[0], 9);
+    due("its binade", product[1], 0);
+    due("15 in one step", gusnalip_multiply_once(factor, GUSNALIP_FACTOR_WORDS, 15, product, GUSNALIP_PRODUCT_WORDS), GUSNALIP_WRONG);
+    due("its significand", product[0], 8);
+    due("its binade", product[1], 1);
+    due("no room", gusnalip_multiply_once(factor, GUSNALIP_FACTOR_WORDS, 8, product, 1), GUSNALIP_TOO_SHORT);
+    due("16 in one step", gusnalip_multiply_once(factor, GUSNALIP_FACTOR_WORDS, 16, product, GUSNALIP_PRODUCT_WORDS), 17);
+    due("a reading at 4 bits", gusnalip_read_once(factor, GUSNALIP_FACTOR_WORDS, 0x7F800000, reading, GUSNALIP_READING_WORDS), 20);
+    due("the tally of all", gusnalip_tally(factor, GUSNALIP_FACTOR_WORDS, 8, 15, tally, GUSNALIP_TALLY_WORDS), GUSNALIP_ACCEPTED);
+    due("right ones", tally[0], 4);
+    due("wrong ones", tally[1], 4);
+    due("open ones", tally[2], 0);
+    due("the tally of 8 alone", gusnalip_tally(factor, GUSNALIP_FACTOR_WORDS, 8, 8, tally, GUSNALIP_TALLY_WORDS), GUSNALIP_ACCEPTED);
+    due("right ones", tally[0], 1);
+    due("wrong ones", tally[1], 0);
+    due("no room", gusnalip_tally(factor, GUSNALIP_FACTOR_WORDS, 8, 15, tally, 2), GUSNALIP_TOO_SHORT);
+    due("a tally past the last", gusnalip_tally(factor, GUSNALIP_FACTOR_WORDS, 8, 16, tally, GUSNALIP_TALLY_WORDS), 17);
+    due("a tally backwards", gusnalip_tally(factor, GUSNALIP_FACTOR_WORDS, 15, 8, tally, GUSNALIP_TALLY_WORDS), 17);
+    due("the right ones as they were", tally[0], 1);
+    factor[3] += 1;
+    due("damage", gusnalip_tally(factor, GUSNALIP_FACTOR_WORDS, 15, 8, tally, GUSNALIP_TALLY_WORDS), GUSNALIP_DAMAGED);
+    due("damage", gusnalip_multiply_once(factor, GUSNALIP_FACTOR_WORDS, 16, product, GUSNALIP_PRODUCT_WORDS), GUSNALIP_DAMAGED);
+    due("23/18", gusnalip_set_up(4, 0, below_23_18, below_23_18 + 1, factor, GUSNALIP_FACTOR_WORDS), GUSNALIP_ACCEPTED);
+    due("its tally", gusnalip_tally(factor, GUSNALIP_FACTOR_WORDS, 8, 15, tally, GUSNALIP_TALLY_WORDS), GUSNALIP_ACCEPTED);
+    due("right ones", tally[0], 5);
+    due("wrong ones", tally[1], 2);
+    due("open ones", tally[2], 1);
+
+    /* 1/pi for readings; one tally takes 65,536 significands, and not one more. */
+    due("1/pi for one step", gusnalip_set_up(24, -2, below_4_over_pi, below_4_over_pi + 1, factor, GUSNALIP_FACTOR_WORDS), GUSNALIP_ACCEPTED);
+    due("-1 in one step", gusnalip_read_once(factor, GUSNALIP_FACTOR_WORDS, 0xBF800000, reading, GUSNALIP_READING_WORDS), GUSNALIP_RIGHT);
+    due("its bits", reading[0], 0xBEA2F983);
+    due("no room", gusnalip_read_once(factor, GUSNALIP_FACTOR_WORDS, 0, reading, 0), GUSNALIP_TOO_SHORT);
+    due("infinity", gusnalip_read_once(factor, GUSNALIP_FACTOR_WORDS, 0x7F800000, reading, GUSNALIP_READING_WORDS), 21);
+    due("a subnormal reading", gusnalip_read_once(factor, GUSNALIP_FACTOR_WORDS, 1, reading, GUSNALIP_READING_WORDS), 22);
+    due("the least reading", gusnalip_read_once(factor, GUSNALIP_FACTOR_WORDS, 0x00800000, reading, GUSNALIP_READING_WORDS), 23);
+    due("the bits as they were", reading[0], 0xBEA2F983);
+    due("minus zero", gusnalip_read_once(factor, GUSNALIP_FACTOR_WORDS, 0x80000000, reading, GUSNALIP_READING_WORDS), GUSNALIP_RIGHT);
+    due("its bits", reading[0], 0);
+    due("4,096", gusnalip_tally(factor, GUSNALIP_FACTOR_WORDS, 8388608, 8392703, tally, GUSNALIP_TALLY_WORDS), GUSNALIP_ACCEPTED);
+    due("right ones", tally[0], 2331);
+    due("wrong ones", tally[1], 1765);
+    due("open ones", tally[2], 0);
+    due("65,536", gusnalip_tally(factor, GUSNALIP_FACTOR_WORDS, 8388608, 8454143, tally, GUSNALIP_TALLY_WORDS), GUSNALIP_ACCEPTED);
+    due("all of them", tally[0] + tally[1] + tally[2], GUSNALIP_TALLY_LONGEST);
+    due("65,537", gusnalip_tally(factor, GUSNALIP_FACTOR_WORDS, 8388608, 8454144, tally, GUSNALIP_TALLY_WORDS), 41);
+    due("more, from outside", gusnalip_tally(factor, GUSNALIP_FACTOR_WORDS, 8388607, 16777215, tally, GUSNALIP_TALLY_WORDS), 17);
+    factor[8] += (uint64_t)1 << 32;
+    due("damage", gusnalip_read_once(factor, GUSNALIP_FACTOR_WORDS, 0x7F800000, reading, GUSNALIP_READING_WORDS), GUSNALIP_DAMAGED);
 
     /* 19/16 - 2^-20 at 4 bits: its one suspect, 8, is wrong. */
     due("19/16 - 2^-20", gusnalip_set_up(4, 0, below_19_16, below_19_16, factor, GUSNALIP_FACTOR_WORDS), GUSNALIP_ACCEPTED);

@@ -12,8 +12,8 @@
  * Further words of either are not looked at.
  *
  * gusnalip_read asks for the machine's default rounding mode, round to nearest (FE_TONEAREST): with another one that the caller has set,
- * readings whose products lie near a midpoint can come out differently. Nothing else depends on it: quotients, those of readings too,
- * are worked out in whole numbers. */
+ * readings whose products lie near a midpoint can come out differently. Nothing else depends on it: quotients and one-step products, those
+ * of readings too, are worked out in whole numbers. */
 #ifndef GUSNALIP_H
 #define GUSNALIP_H
 
@@ -24,6 +24,7 @@
 #define GUSNALIP_PRODUCT_WORDS 2
 #define GUSNALIP_QUOTIENT_WORDS 2
 #define GUSNALIP_READING_WORDS 1
+#define GUSNALIP_TALLY_WORDS 3
 #define GUSNALIP_STATE_WORDS 13
 #define GUSNALIP_COUNT_WORDS 3
 
@@ -33,6 +34,9 @@
 #define GUSNALIP_WRONG 3
 #define GUSNALIP_DAMAGED 31
 #define GUSNALIP_TOO_SHORT 255
+
+/* So many significands are taken by one tally; more are refused with 41. */
+#define GUSNALIP_TALLY_LONGEST 65536
 
 #ifdef __cplusplus
 extern "C" {
@@ -54,6 +58,15 @@ uint32_t gusnalip_divide(const uint64_t *factor, size_t factor_length, uint64_t 
 /* Divides a reading given by its bits by the factor's high part times 2^scale: 0, with the bits of the quotient in out[0], or a refusal 31,
  * 20 to 23. A zero of either sign gives plus zero. */
 uint32_t gusnalip_divide_reading(const uint64_t *factor, size_t factor_length, uint32_t reading, uint32_t *out, size_t out_length);
+
+/* The one-step device, a handheld without the fused step: its product is that by the factor's high part alone, rounded once. Answers are
+ * those of gusnalip_multiply and gusnalip_read, the mark being this device's. A zero of either sign gives plus zero, right. */
+uint32_t gusnalip_multiply_once(const uint64_t *factor, size_t factor_length, uint64_t x, uint64_t *out, size_t out_length);
+uint32_t gusnalip_read_once(const uint64_t *factor, size_t factor_length, uint32_t reading, uint32_t *out, size_t out_length);
+
+/* Counts the significands from first to last, both included, by their marks for the one-step device: 0, with how many are right in out[0],
+ * wrong in out[1] and open in out[2], or the refusal 31, 17 or 41. Tallies of adjoining ranges add up to that of the whole. */
+uint32_t gusnalip_tally(const uint64_t *factor, size_t factor_length, uint64_t first, uint64_t last, uint64_t *out, size_t out_length);
 
 /* Begins a sweep: 0 and the state's words, or the refusal 31 or 17. */
 uint32_t gusnalip_new_sweep(const uint64_t *factor, size_t factor_length, uint64_t first, uint64_t last, uint64_t *out, size_t out_length);
