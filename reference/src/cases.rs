@@ -1,8 +1,9 @@
 //! The program `cases`: lines of calls, each answered behind the line itself.
 
-use crate::factor::set_up;
+use crate::factor::{set_up, Refusal};
 use crate::frame::{fields, for_lines};
-use crate::product::multiply;
+use crate::onestep::{multiply_once, read_once, tally};
+use crate::product::{multiply, Mark, Product};
 use crate::quotient::{divide, divide_reading};
 use crate::reading::read;
 use crate::search;
@@ -36,12 +37,23 @@ impl Cases {
             b"06" => &[2, 16, 16],
             b"07" => &[2, 16, 2, 16],
             b"08" => &[2, 8],
-            b"09" => &[2, 16],
-            b"0A" => &[2, 8],
+            b"09" | b"0B" => &[2, 16],
+            b"0A" | b"0C" => &[2, 8],
+            b"0D" => &[2, 16, 16],
             _ => return None,
         };
         let f = fields(line, widths)?;
         let refused = |refusal: u32| format!("{refusal:02}");
+        let marked_product = |answer: Result<Product, Refusal>| match answer {
+            Err(refusal) => refused(refusal),
+            Ok(Product { mark, significand, binade }) => {
+                format!("{:02} {significand:016X} {binade:02X}", mark.number())
+            }
+        };
+        let marked_reading = |answer: Result<(Mark, u32), Refusal>| match answer {
+            Err(refusal) => refused(refusal),
+            Ok((mark, product)) => format!("{:02} {product:08X}", mark.number()),
+        };
         let answer = match f[0] {
             1 => match set_up(f[1] as u32, f[2] as u32 as i32, f[3], f[4]) {
                 Err(refusal) => refused(refusal),
@@ -57,16 +69,8 @@ impl Cases {
                 *self.state.get_mut(f[1] as usize)? = f[2];
                 "00".to_string()
             }
-            3 => match from_words(&self.state).and_then(|factor| multiply(&factor, f[1])) {
-                Err(refusal) => refused(refusal),
-                Ok(product) => {
-                    format!("{:02} {:016X} {:02X}", product.mark.number(), product.significand, product.binade)
-                }
-            },
-            4 => match from_words(&self.state).and_then(|factor| read(&factor, f[1] as u32)) {
-                Err(refusal) => refused(refusal),
-                Ok((mark, product)) => format!("{:02} {:08X}", mark.number(), product),
-            },
+            3 => marked_product(from_words(&self.state).and_then(|factor| multiply(&factor, f[1]))),
+            4 => marked_reading(from_words(&self.state).and_then(|factor| read(&factor, f[1] as u32))),
             5 => {
                 if f[1] > 1 {
                     return None;
@@ -121,9 +125,15 @@ impl Cases {
                 Err(refusal) => refused(refusal),
                 Ok(quotient) => format!("00 {:016X} {:016X}", quotient.significand, quotient.binade as u64),
             },
-            _ => match from_words(&self.state).and_then(|factor| divide_reading(&factor, f[1] as u32)) {
+            10 => match from_words(&self.state).and_then(|factor| divide_reading(&factor, f[1] as u32)) {
                 Err(refusal) => refused(refusal),
                 Ok(quotient) => format!("00 {quotient:08X}"),
+            },
+            11 => marked_product(from_words(&self.state).and_then(|factor| multiply_once(&factor, f[1]))),
+            12 => marked_reading(from_words(&self.state).and_then(|factor| read_once(&factor, f[1] as u32))),
+            _ => match from_words(&self.state).and_then(|factor| tally(&factor, f[1], f[2])) {
+                Err(refusal) => refused(refusal),
+                Ok(tally) => format!("00 {:08X} {:08X} {:08X}", tally.right, tally.wrong, tally.open),
             },
         };
         Some(answer)

@@ -10,6 +10,9 @@
 //   08 V (8)                        every word of the list becomes V
 //   09 X (16)                       divides the significand X
 //   0A R (8)                        divides the reading with these bits
+//   0B X (16)                       multiplies the significand X in one step
+//   0C R (8)                        multiplies the reading with these bits in one step
+//   0D A (16) B (16)                the tally of the significands from A to B in one step: right, wrong and open, 8 digits each
 //
 // The factor and the state are the exported words, at first all 0. A refusal is two decimal digits, and so is a mark: 01 right, 02 open, 03 wrong. Any other line is answered with 24.
 use exports::TakenFactor;
@@ -134,9 +137,9 @@ fn arguments(line: &[u8], kind: u64) -> Numbers {
     match kind {
         1 => fields(line, 8, 8, 16, 16),
         2 | 5 => fields(line, 2, 16, 0, 0),
-        3 | 9 => fields(line, 16, 0, 0, 0),
-        4 | 8 | 10 => fields(line, 8, 0, 0, 0),
-        6 => fields(line, 16, 16, 0, 0),
+        3 | 9 | 11 => fields(line, 16, 0, 0, 0),
+        4 | 8 | 10 | 12 => fields(line, 8, 0, 0, 0),
+        6 | 13 => fields(line, 16, 16, 0, 0),
         7 => fields(line, 16, 2, 16, 0),
         _ => Numbers {
             good: false,
@@ -238,6 +241,39 @@ fn divide_reading(state: &[u64; 13], reading: u32) {
     put_outcome(number);
     if number == 0 {
         put_words(&out);
+    }
+}
+
+fn multiply_once(state: &[u64; 13], x: u64) {
+    let mut out = [0u64; 2];
+    let number = exports::gusnalip_multiply_once(state, x, &mut out);
+    put_outcome(number);
+    if number <= 3 {
+        put_product(&out);
+    }
+}
+
+fn read_once(state: &[u64; 13], reading: u32) {
+    let mut out = [0u32; 1];
+    let number = exports::gusnalip_read_once(state, reading, &mut out);
+    put_outcome(number);
+    if number <= 3 {
+        put_words(&out);
+    }
+}
+
+fn put_tally(out: &[u64; 3]) {
+    put_field(8, out[0]);
+    put_field(8, out[1]);
+    put_field(8, out[2]);
+}
+
+fn tally(state: &[u64; 13], first: u64, last: u64) {
+    let mut out = [0u64; 3];
+    let number = exports::gusnalip_tally(state, first, last, &mut out);
+    put_outcome(number);
+    if number == 0 {
+        put_tally(&out);
     }
 }
 
@@ -349,7 +385,10 @@ fn answer(state: &mut [u64; 13], list: &mut [u32; 64], kind: u64, n: Numbers) {
         7 => call_on(state, n.a, list, n.b as usize, n.c as usize),
         8 => fill(list, words::low_half(n.a)),
         9 => divide(state, n.a),
-        _ => divide_reading(state, words::low_half(n.a)),
+        10 => divide_reading(state, words::low_half(n.a)),
+        11 => multiply_once(state, n.a),
+        12 => read_once(state, words::low_half(n.a)),
+        _ => tally(state, n.a, n.b),
     }
 }
 
