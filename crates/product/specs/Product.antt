@@ -49,6 +49,10 @@ module _ (K : Context) where
 abbrev pub productBy : Factor → ℕ → Product
 productBy f X = product (contextOf f) (f .parts) X
 
--- a product as a number
+-- a product in steps of binade 0, which are 2 ^ (1 - n)
+abbrev pub stepsOf : Product → ℕ
+stepsOf v = v .significand * 2 ^ v .binade
+
+-- and as a number
 abbrev pub valueOf : (n : ℕ) → Product → Fraction
-valueOf n v = over (v .significand * 2 ^ v .binade) (n - 1)
+valueOf n v = over (stepsOf v) (n - 1)

@@ -2,7 +2,7 @@
 -- fused sum gives the product. Assumes nothing.
 use mathlib.Core.Path.{_≡_, sym, ap, _∙_, subst}
 use Prim.Native.Nat.{ℕ, zero, suc, _+_, _-_, _*_, _^_, _≤_, _<_}
-use native.Mathlib.Nat.{mul-le-mul, mul-le-mul-left, mul-pos, eq-of-mul-eq-mul-right, le-trans, le-of-eq, le-of-lt, lt-of-lt-of-le, lt-of-not-le, not-le-of-lt, mul-lt-mul-of-pos-right, one-mul, div-one}
+use native.Mathlib.Nat.{mul-le-mul, mul-le-mul-left, mul-pos, eq-of-mul-eq-mul-right, le-trans, le-of-eq, le-of-lt, lt-of-lt-of-le, lt-of-not-le, not-le-of-lt, mul-lt-mul-of-pos-right, one-mul, div-one, le-div-iff-mul-le, div-lt-iff-lt-mul, pow-succ'}
 use native.Mathlib.Decide.{decLe, decLt}
 use native.Mathlib.Omega.{arith}
 use lib.IntN.{ℤ, pos, natAbs}
@@ -19,6 +19,7 @@ use Rattle.rounding.specs.UnitLaws.{rn-le, rn-in-binade, rn-scale-whole, rn-who
 use Rattle.rounding.specs.Round.{rounded, roundedIn, HasBits}
 use Rattle.rounding.specs.RoundLaws.{rounded-at, rounded-bits, roundedIn-exponent, minus-zero}
 use Rattle.rounding.specs.Signed.{signedOf}
+use Rattle.round.specs.Cuts.{cutAt}
 use Rattle.factor.specs.declared.Parts.{Parts}
 use Rattle.factor.specs.Precision.{mostPrecision, ValidPrecision}
 use Rattle.factor.specs.Context.{Context, Fine}
@@ -91,6 +92,14 @@ module _ (K : Context) (P : 0 < K .n) (N : ℕ) (N-in : Within K N) where
 
   pub within-is : IsProduct K (rn rule n N 1) (roundedUnits K N)
   within-is = rounded-units-is K P N (N-in .from) (rn-le rule n P N 1 (2 ^ n - 1) (suc E) (omega arith) (omega arith) (omega (arith, N-in .to)))
+
+-- where it is cut behind its step of binade 0, n digits are kept, or one more
+pub kept-bits : (K : Context) (N : ℕ) → Within K N → let c = cutAt (K .E) N in (2 ^ (K .n - 1) ≤ c .kept) × (c .kept < 2 ^ suc (K .n))
+kept-bits K N i =
+    let E = K .E in
+    let n = K .n in
+    let less : (2 ^ n - 1) * 2 ^ suc E < 2 ^ n * 2 ^ suc E = mul-lt-mul-of-pos-right (omega (arith, pow-pos n)) (pow-pos (suc E)) in
+    (le-div-iff-mul-le (pow-pos E) .1 (i .from), div-lt-iff-lt-mul (pow-pos E) .1 (omega (arith, i .to, less, ap (λ (z : ℕ). 2 ^ n * z) (pow-succ' 2 E), ap (λ (z : ℕ). z * 2 ^ E) (pow-succ' 2 n))))
 
 -- C * x at an end c, with X a significand, is such a one
 pub end-within : (K : Context) (c : ℕ) → End K c → (X : ℕ) → HasBits (K .n) X → Within K (c * X)

@@ -16,7 +16,7 @@ ghost use Rattle.factor.specs.Precision.{ValidPrecision, scaleOf, significandOu
 ghost use Rattle.factor.specs.Context.{tieRule, contextAt, contextOf};
 ghost use Rattle.factor.specs.UnitParts.{unitPartsOf};
 ghost use Rattle.factor.specs.SetUp.{Sound};
-ghost use Rattle.product.specs.Product.{productBy};
+ghost use Rattle.product.specs.Product.{productBy, stepsOf};
 ghost use Rattle.product.specs.OneStep.{oneStepBy};
 ghost use Rattle.product.specs.Devices.{productOn};
 ghost use Rattle.product.specs.Marks.{markBy};
@@ -104,16 +104,31 @@ fn two_steps(f: Factor, x: u64) -> Product
     second_step(f, x, first_units(p, parts, x))
 }
 
-// RN(Ch * x) of a factor that was accepted and a significand in range: in the unit 2 ^ - 2(n - 1), in which Ch * x is a whole number, n - 1 digits are dropped in binade 0.
+// RN(Ch * x) of a factor that was accepted and a significand in range, in steps of binade 0, 2 ^ (1 - n): in the unit 2 ^ - 2(n - 1) Ch * x is a whole number, and n - 1 digits stand behind such a step.
+fn once(f: Factor, x: u64) -> u64
+    requires { ⌜ Sound f × HasBits (f .precision .bits) x ⌝ }
+    ensures { λ r. ⌜ r ≡ stepsOf (oneStepBy f x) ⌝ }
+{
+    let n = f.precision.bits;
+    let k = n - 1;
+    round::round_cut(round::cut_word(f.parts.high * x, k), k, n, TieRule::ToEven)
+}
+
+// The same as a significand and a binade.
 pub fn one_step(f: Factor, x: u64) -> Product
     requires { ⌜ Sound f × HasBits (f .precision .bits) x ⌝ }
     ensures { λ r. ⌜ r ≡ oneStepBy f x ⌝ }
 {
-    let n = f.precision.bits;
-    let r = round::round_word(f.parts.high * x, n, TieRule::ToEven);
+    let steps = once(f, x);
+    if steps < wide::power(f.precision.bits) {
+        return Product {
+            significand: steps,
+            binade: 0,
+        };
+    }
     Product {
-        significand: r.significand,
-        binade: r.exponent as u32 - (n - 1),
+        significand: steps / 2,
+        binade: 1,
     }
 }
 
@@ -128,12 +143,23 @@ fn product_of(d: Device, f: Factor, x: u64) -> Product
     }
 }
 
-// A product as a whole number of 2 ^ (1 - n), the step of binade 0: so products are compared.
+// A product in steps of binade 0: so products are compared.
 fn steps_of(v: Product) -> u64
-    requires { ⌜ (v .binade ≤ 1) × (v .significand * 2 ^ v .binade < 2 ^ wordBits) ⌝ }
-    ensures { λ r. ⌜ r ≡ v .significand * 2 ^ v .binade ⌝ }
+    requires { ⌜ (v .binade ≤ 1) × (stepsOf v < 2 ^ wordBits) ⌝ }
+    ensures { λ r. ⌜ r ≡ stepsOf v ⌝ }
 {
     v.significand << v.binade
+}
+
+// The product on a device in these steps: what a tally compares.
+pub fn steps_on(d: Device, f: Factor, x: u64) -> u64
+    requires { ⌜ Sound f × HasBits (f .precision .bits) x ⌝ }
+    ensures { λ r. ⌜ r ≡ stepsOf (productOn d f x) ⌝ }
+{
+    match d {
+        Device::TwoStep => steps_of(two_steps(f, x)),
+        Device::OneStep => once(f, x),
+    }
 }
 
 // RN(C * x) at an end, in the same steps, by C * x of that unit.
@@ -144,21 +170,18 @@ fn end_steps(p: Precision, y: Wide) -> u64
     steps_of(rounded_units(p, y))
 }
 
-// The mark of a value between or outside the two that the ends round to.
-fn compared(a: u64, b: u64, v: u64) -> Mark
+// The mark of a value by the two that the ends round to, as document 01 has it.
+pub fn compared(a: u64, b: u64, v: u64) -> Mark
     ensures { λ r. ⌜ r ≡ markUnits a b v ⌝ }
 {
+    if (a == v) & (b == v) {
+        return Mark::Right;
+    }
     if v < a {
         return Mark::Wrong;
     }
     if b < v {
         return Mark::Wrong;
-    }
-    if a == v {
-        if b == v {
-            return Mark::Right;
-        }
-        return Mark::Open;
     }
     Mark::Open
 }
@@ -174,12 +197,12 @@ pub fn mark_of(f: Factor, x: u64, v: Product) -> Mark
     compared(end_steps(p, lower), end_steps(p, upper), steps_of(v))
 }
 
-// The mark of the product on a device: what a sweep asks of a suspect, and a tally of every significand.
-pub fn trial(d: Device, f: Factor, x: u64) -> Mark
+// The mark of the two-step product: what a sweep asks of a suspect.
+pub fn trial(f: Factor, x: u64) -> Mark
     requires { ⌜ Sound f × HasBits (f .precision .bits) x ⌝ }
-    ensures { λ r. ⌜ r ≡ markBy f x (productOn d f x) ⌝ }
+    ensures { λ r. ⌜ r ≡ markBy f x (productBy f x) ⌝ }
 {
-    mark_of(f, x, product_of(d, f, x))
+    mark_of(f, x, two_steps(f, x))
 }
 
 // Refusal 17: a significand outside 2 ^ (n - 1) to 2 ^ n - 1.

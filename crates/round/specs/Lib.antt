@@ -1,2 +1,4 @@
--- What the functions hand back.
+-- What the functions hand back, and laws of cuts.
 pub mod Neighbour
+pub mod Cuts
+pub mod CutLaws

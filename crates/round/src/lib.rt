@@ -6,14 +6,16 @@ use rounding::RoundedSigned;
 use rounding::TieRule;
 use wide::Wide;
 ghost use mathlib.Core.Path.{_≡_};
-ghost use Prim.Native.Nat.{_+_, _-_, _*_, _/_, _%_, _<_, _≤_, _^_};
+ghost use Prim.Native.Nat.{suc, _+_, _-_, _*_, _/_, _%_, _<_, _≤_, _^_};
 ghost use Rattle.rounding.specs.Grid.{ruleOf, location, choose};
 ghost use Rattle.rounding.specs.Round.{normalised, rounded};
 ghost use lib.IntN.{natAbs};
 ghost use Rattle.rounding.specs.Signed.{signedOf, roundedSigned};
 ghost use Rattle.rounding.specs.ByDigits.{padded};
 ghost use Rattle.wide.specs.Value.{wordBits, halfWord, valueOf};
+ghost use Rattle.rounding.specs.Unit.{rn};
 ghost use Rattle.round.specs.Neighbour.{neighbourAt, neighbour};
+ghost use Rattle.round.specs.Cuts.{cutAt, uncut};
 
 // Where r / (2 * half) lies between 0 and 1, for an r below 2 * half.
 pub fn locate(r: Wide, half: Wide) -> Location
@@ -48,6 +50,15 @@ pub fn choose_neighbour(q: u64, r: Wide, half: Wide, rule: TieRule) -> u64
 {
     let past = wide::sum(r, wide::from_word(tie_up(q, rule) as u64));
     q + wide::below(half, past) as u64
+}
+
+// The same where the remainder and the half are words.
+pub fn choose_word(q: u64, r: u64, half: u64, rule: TieRule) -> u64
+    requires { ⌜ (q + 1 < 2 ^ wordBits) × (r + 1 < 2 ^ wordBits) × (0 < half) ⌝ }
+    ensures { λ v. ⌜ v ≡ choose (ruleOf rule) q (location r (half * 2)) ⌝ }
+{
+    let past = r + tie_up(q, rule) as u64;
+    q + (half < past) as u64
 }
 
 // A whole number that a fraction was rounded to, and where the fraction lay.
@@ -155,6 +166,60 @@ pub fn round_wide(u: Wide, n: u32, rule: TieRule) -> Rounded
     let near = nearest_of(kept.lo, rest, wide::wide_power(k - 1), rule);
     let l = near.location;
     normalise(near.taken, n, k, l)
+}
+
+// A whole number cut in two: what is kept of it, and its k lowest digits.
+pub struct Cut {
+    pub kept: u64,
+    pub rest: u64,
+}
+
+// A word cut at k digits.
+pub fn cut_word(x: u64, k: u32) -> Cut
+    requires { ⌜ k < wordBits ⌝ }
+    ensures { λ r. ⌜ r ≡ cutAt k x ⌝ }
+{
+    let step = wide::power(k);
+    Cut {
+        kept: x / step,
+        rest: x % step,
+    }
+}
+
+// A number of two words cut so, where what is kept is one.
+pub fn cut_wide(u: Wide, k: u32) -> Cut
+    requires { ⌜ (k < wordBits) × (valueOf u < 2 ^ (wordBits + k)) ⌝ }
+    ensures { λ r. ⌜ r ≡ cutAt k (valueOf u) ⌝ }
+{
+    Cut {
+        kept: wide::to_word(wide::shifted_right(u, k)),
+        rest: wide::to_word(wide::low_digits(u, k)),
+    }
+}
+
+// The sum of two numbers that are cut at the same place: the carry of the rests is kept.
+pub fn cut_sum(a: Cut, b: Cut, k: u32) -> Cut
+    requires { ⌜ (k < wordBits) × (a .rest < 2 ^ k) × (b .rest < 2 ^ k) × (a .kept + b .kept + 1 < 2 ^ wordBits) ⌝ }
+    ensures { λ r. ⌜ r ≡ cutAt k (uncut k a + uncut k b) ⌝ }
+{
+    let rest = a.rest + b.rest;
+    let step = wide::power(k);
+    Cut {
+        kept: a.kept + b.kept + rest / step,
+        rest: rest % step,
+    }
+}
+
+// A number that is cut where n digits are kept, or one more, to n bits, in units of 2 ^ k: no leading zeros are counted.
+pub fn round_cut(c: Cut, k: u32, n: u32, rule: TieRule) -> u64
+    requires { ⌜ (1 ≤ n) × (n + 2 < wordBits) × (1 ≤ k) × (k + 1 < wordBits) × (c .rest < 2 ^ k) × (2 ^ (n - 1) ≤ c .kept) × (c .kept < 2 ^ suc n) ⌝ }
+    ensures { λ r. ⌜ r * 2 ^ k ≡ rn (ruleOf rule) n (uncut k c) 1 ⌝ }
+{
+    if c.kept < wide::power(n) {
+        return choose_word(c.kept, c.rest, wide::power(k - 1), rule);
+    }
+    let step = wide::power(k);
+    2 * choose_word(c.kept / 2, c.kept % 2 * step + c.rest, step, rule)
 }
 
 // The size of a signed number, also of the least.

@@ -37,6 +37,17 @@ location-lies r d = go (eqb r 0) (ltb (r * 2) d) (eqb (r * 2) d) refl refl refl
     go false false true p q s = eqb-true (r * 2) d s
     go false false false p q s = omega (arith, ltb-false (r * 2) d q, eqb-false (r * 2) d s)
 
+-- the neighbour that is taken is the lower one or the next
+pub choose-most : (rule : Rule) (q : ℕ) (l : Location) → choose rule q l ≤ suc q
+choose-most rule q Exact = omega arith
+choose-most rule q BelowHalf = omega arith
+choose-most rule q Half = go (rule q)
+  where
+    go : (b : Bool) → cond b (suc q) q ≤ suc q
+    go true = omega arith
+    go false = omega arith
+choose-most rule q AboveHalf = omega arith
+
 -- ---- k is a whole number nearest to N / d, and where two are as near it is the rule's
 pub record Nearest (rule : Rule) (N d k : ℕ) : Type 0 where
   pub low : 2 * (k * d) ≤ 2 * N + d

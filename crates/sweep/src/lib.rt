@@ -3,7 +3,6 @@ use factor::Factor;
 use factor::Precision;
 use marks::Judgement;
 use marks::Mark;
-use product::Device;
 use search::Found;
 use search::Place;
 use suspects::Window;
@@ -295,7 +294,7 @@ fn step(s: SweepState, windows: Windows, cap: u64, size: usize, w: Work) -> Work
             if must_stop(w.trials, cap, w.place, size) {
                 return halted(w, rounds, place);
             }
-            tried(w, rounds, x, product::trial(Device::TwoStep, f, x))
+            tried(w, rounds, x, product::trial(f, x))
         }
         Place::Nowhere => halted(w, rounds, place),
     }

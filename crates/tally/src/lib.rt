@@ -3,9 +3,14 @@ use factor::Factor;
 use marks::Judgement;
 use marks::Mark;
 use product::Device;
+use round::Cut;
+use rounding::TieRule;
 ghost use mathlib.Core.Path.{_≡_};
-ghost use Prim.Native.Nat.{_<_, _^_};
+ghost use Prim.Native.Nat.{_*_, _<_, _^_};
 ghost use Rattle.marks.specs.Answers.{refusalOf, First};
+ghost use Rattle.rounding.specs.Round.{HasBits};
+ghost use Rattle.round.specs.Cuts.{cutAt};
+ghost use Rattle.factor.specs.Context.{contextOf, lowerOf, upperOf};
 ghost use Rattle.factor.specs.SetUp.{Sound};
 ghost use Rattle.product.specs.AnswerLaws.{InRange};
 ghost use Rattle.tally.specs.Tally.{withOne, countsOf, markOnce, spanLength, conditions, tallied, tallySays};
@@ -24,6 +29,20 @@ pub struct Counts {
 pub enum TallyAnswer {
     Accepted(Counts),
     Refused(u32),
+}
+
+// The mark of a significand, given both ends times it, each cut behind its step of binade 0: between these steps lies what a mark compares.
+fn trial(f: Factor, x: u64, lower: Cut, upper: Cut) -> Mark
+    requires { ⌜ Sound f × HasBits (f .precision .bits) x × (lower ≡ cutAt (contextOf f .E) (lowerOf f * x)) × (upper ≡ cutAt (contextOf f .E) (upperOf f * x)) ⌝ }
+    ensures { λ r. ⌜ r ≡ markOnce f x ⌝ }
+{
+    let p = f.precision;
+    let e = p.scale();
+    product::compared(
+        round::round_cut(lower, e, p.bits, TieRule::ToEven),
+        round::round_cut(upper, e, p.bits, TieRule::ToEven),
+        product::steps_on(Device::OneStep, f, x),
+    )
 }
 
 // A tally with one significand more, of a mark.
@@ -50,7 +69,7 @@ fn counted(t: Counts, m: Mark) -> Counts
     }
 }
 
-// The tally of a range in which all significands are of a factor that was accepted.
+// The tally of a range in which all significands are of a factor that was accepted. From one to the next both ends' products grow by the end itself, so no two-word product is made but for the first.
 fn count(f: Factor, first: u64, last: u64) -> Counts
     requires { ⌜ Sound f × InRange (f .precision .bits) first last ⌝ }
     ensures { λ r. ⌜ r ≡ countsOf (markOnce f) first (spanLength first last) ⌝ }
@@ -60,9 +79,17 @@ fn count(f: Factor, first: u64, last: u64) -> Counts
         wrongs: 0,
         opens: 0,
     };
+    let p = f.precision;
+    let e = p.scale();
+    let lower_step = round::cut_word(f.lower, e);
+    let upper_step = round::cut_word(f.upper, e);
+    let mut lower = round::cut_wide(wide::product_by_digit(f.lower, first), e);
+    let mut upper = round::cut_wide(wide::product_by_digit(f.upper, first), e);
     let mut x = first;
     while x <= last {
-        t = counted(t, product::trial(Device::OneStep, f, x));
+        t = counted(t, trial(f, x, lower, upper));
+        lower = round::cut_sum(lower, lower_step, e);
+        upper = round::cut_sum(upper, upper_step, e);
         x += 1;
     }
     t

@@ -1,22 +1,26 @@
 -- `product::compared` meets its contract: each return rewrites with the tests that led there. Assumes nothing.
-use borrow.Author.Tests.{lt-ltb, le-ltb, eq-eqb, ne-eqb}
+use mathlib.Core.Path.{sym}
+use lib.Dec.{eqb}
+use borrow.Author.Tests.{lt-ltb, le-ltb, eqb-true}
+use Rattle.marks.specs.AnswerLaws.{and-true}
+use Rattle.product.specs.MarkLaws.{right-units}
 use Rattle.product.proofs.compared.Statement.{statement}
 use Rattle.product.proofs.compared.Tie as tie
 
 returns : tie.Need-returns
-returns c = simp (lt-ltb _ _ (c .if1 .taken))
+returns c =
+    let a = c .before .args in
+    let both = and-true (eqb (a .a) (a .v)) (eqb (a .b) (a .v)) (c .if1 .taken) in
+    sym (right-units (a .a) (a .b) (a .v) (eqb-true (a .a) (a .v) (both .0)) (eqb-true (a .b) (a .v) (both .1)))
 
 returns-2 : tie.Need-returns-2
-returns-2 c = simp (le-ltb _ _ (c .before .if1 .left), lt-ltb _ _ (c .if2 .taken))
+returns-2 c = simp (lt-ltb _ _ (c .if2 .taken))
 
 returns-3 : tie.Need-returns-3
-returns-3 c = simp (le-ltb _ _ (c .before .before .before .if1 .left), le-ltb _ _ (c .before .before .if2 .left), eq-eqb _ _ (c .before .if3 .taken), eq-eqb _ _ (c .if4 .taken))
+returns-3 c = simp (le-ltb _ _ (c .before .if2 .left), lt-ltb _ _ (c .if3 .taken))
 
 returns-4 : tie.Need-returns-4
-returns-4 c = simp (le-ltb _ _ (c .before .before .before .if1 .left), le-ltb _ _ (c .before .before .if2 .left), eq-eqb _ _ (c .before .if3 .taken), ne-eqb _ _ (c .if4 .left))
-
-returns-5 : tie.Need-returns-5
-returns-5 c = simp (le-ltb _ _ (c .before .before .if1 .left), le-ltb _ _ (c .before .if2 .left), ne-eqb _ _ (c .if3 .left))
+returns-4 c = simp (le-ltb _ _ (c .before .if2 .left), le-ltb _ _ (c .if3 .left), c .before .before .if1 .left)
 
 pub compared-spec : {M : Type 1} → statement M
-compared-spec = tie.close (tie.spec returns returns-2 returns-3 returns-4 returns-5)
+compared-spec = tie.close (tie.spec returns returns-2 returns-3 returns-4)

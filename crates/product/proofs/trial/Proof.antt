@@ -2,20 +2,18 @@
 use mathlib.Core.Path.{ap, _∙_}
 use borrow.Author.Needs.{needs}
 use Rattle.product.specs.Marks.{markBy}
-use Rattle.product.specs.OneStepLaws.{formed}
+use Rattle.product.specs.SoundLaws.{sound-product}
 use Rattle.product.proofs.trial.Statement.{statement}
 use Rattle.product.proofs.trial.Tie as tie
 
 mark-of-requires : tie.Need-mark-of-requires
 mark-of-requires c κs =
     let a = c .before in
-    let is = formed (a .args .d) (a .args .f) (a .pre .0) (a .args .x) (a .pre .1) in
-    (a .pre .0, a .pre .1, rw (c .product-of .ensures) (is .bits), rw (c .product-of .ensures) (is .binade))
+    let is = sound-product (a .args .f) (a .pre .0) (a .args .x) (a .pre .1) in
+    (a .pre .0, a .pre .1, rw (c .two-steps .ensures) (is .bits), rw (c .two-steps .ensures) (is .binade))
 
 returns : tie.Need-returns
-returns c =
-    let a = c .before .before in
-    c .mark-of .ensures ∙ ap (markBy (a .args .f) (a .args .x)) (c .before .product-of .ensures)
+returns c = let a = c .before .before in c .mark-of .ensures ∙ ap (markBy (a .args .f) (a .args .x)) (c .before .two-steps .ensures)
 
 pub trial-spec : {M : Type 1} → statement M
 trial-spec = tie.close (tie.spec (λ c κs. search needs) mark-of-requires returns)

@@ -1,0 +1,45 @@
+-- `product::once` meets its contract: Ch * x is one word, which is cut behind the step of binade 0. Assumes nothing.
+use mathlib.Core.Path.{_≡_, sym, ap, _∙_, subst}
+use Prim.Native.Nat.{ℕ, _-_, _*_, _^_, _≤_, _<_}
+use native.Mathlib.Nat.{le-of-lt}
+use native.Mathlib.Omega.{arith}
+use borrow.Author.Needs.{needs}
+use Rattle.rounding.specs.Unit.{rn}
+use Rattle.round.specs.Cuts.{uncut}
+use Rattle.round.specs.CutLaws.{cut-whole, cut-short}
+use Rattle.factor.specs.declared.Factor.{Factor}
+use Rattle.factor.specs.Context.{tieRule, contextOf}
+use Rattle.product.specs.StepLaws.{product-word, kept-bits}
+use Rattle.product.specs.SoundLaws.{sound-fine, sound-high}
+use Rattle.product.specs.OneStepLaws.{atStep, exact-within, one-step-steps}
+use Rattle.product.proofs.once.Statement.{statement}
+use Rattle.product.proofs.once.Tie as tie
+
+mul-cut-word : tie.Need-mul-cut-word
+mul-cut-word c =
+    let a = c .before in
+    let f = a .args .f in
+    record { fits = omega (arith, product-word (f .precision .bits) (f .parts .high) (a .args .x) (a .pre .0 .precision) (sound-high f (a .pre .0) .most) (le-of-lt (a .pre .1 .most))) }
+
+round-cut-requires : tie.Need-round-cut-requires
+round-cut-requires c κs =
+    let a = c .before .before in
+    let f = a .args .f in
+    let K = contextOf f in
+    let N = f .parts .high * a .args .x in
+    let P = a .pre .0 .precision in
+    let kept = kept-bits (atStep K) N (exact-within K (sound-fine f (a .pre .0) .some) (f .parts) (a .args .x) (sound-high f (a .pre .0)) (a .pre .1)) in
+    rw (c .cut-word .ensures) (omega (arith, P), omega (arith, P), omega (arith, P), omega (arith, P), cut-short (f .precision .bits - 1) N, kept .0, kept .1)
+
+returns : tie.Need-returns
+unfolding tieRule
+returns c =
+    let a = c .before .before .before in
+    let f = a .args .f in
+    let n = f .precision .bits in
+    let N = f .parts .high * a .args .x in
+    one-step-steps (contextOf f) (sound-fine f (a .pre .0) .some) (f .parts) (a .args .x) (sound-high f (a .pre .0)) (a .pre .1) (c .round-cut .result)
+    (c .round-cut .ensures ∙ ap (λ (z : ℕ). rn tieRule n z 1) (ap (uncut (n - 1)) (c .before .cut-word .ensures) ∙ cut-whole (n - 1) N))
+
+pub once-spec : {M : Type 1} → statement M
+once-spec = tie.close (tie.spec (λ c. search needs) mul-cut-word (λ c κs. search needs) round-cut-requires returns)
