@@ -6,7 +6,7 @@ use native.Mathlib.Nat.{mul-le-mul-right, mul-pos, le-trans, le-of-eq, le-of-lt,
 use native.Mathlib.Omega.{arith}
 use lib.Dec.{ltb, eqb}
 use lib.Pow.{pow-add, pow-pos}
-use borrow.Author.Tests.{ltb-true, ltb-false, eqb-true, eqb-false, le-ltb, eq-eqb}
+use borrow.Author.Tests.{ltb-true, ltb-false, eqb-true, eqb-false, lt-ltb, le-ltb, eq-eqb}
 use Rattle.marks.specs.declared.Mark.{Mark}
 use Rattle.marks.specs.declared.Mark.the-variants.{Right, Open, Wrong}
 use Rattle.marks.specs.SaysLaws.{says-only}
@@ -23,9 +23,23 @@ use Rattle.product.specs.Units.{units, markUnits}
 use Rattle.product.specs.ProductLaws.{value-in-units}
 use Rattle.product.specs.Marks.{exact, mark, Gives, SaysAt}
 
--- right exactly if v is both
-pub right-units : (a b v : ℕ) → a ≡ v → b ≡ v → markUnits a b v ≡ Right
-right-units a b v p q = rw (le-ltb v a (omega arith), le-ltb b v (omega arith), eq-eqb a v p, eq-eqb b v q)
+-- right if v is both, wrong if it is below the first or above the second, else open
+module _ (a b v : ℕ) where
+  pub right-units : a ≡ v → b ≡ v → markUnits a b v ≡ Right
+  right-units p q = rw (le-ltb v a (omega arith), le-ltb b v (omega arith), eq-eqb a v p, eq-eqb b v q)
+
+  pub wrong-below : v < a → markUnits a b v ≡ Wrong
+  wrong-below h = rw (lt-ltb v a h)
+
+  pub wrong-above : b < v → markUnits a b v ≡ Wrong
+  wrong-above h = rw (lt-ltb b v h) (go (ltb v a))
+    where
+      go : (p : Bool) → cond p Wrong Wrong ≡ Wrong
+      go true = refl
+      go false = refl
+
+  pub open-else : eqb a v && eqb b v ≡ false → a ≤ v → v ≤ b → markUnits a b v ≡ Open
+  open-else e p q = rw (le-ltb v a p, le-ltb b v q, e)
 
 module _ (K : Context) (P : 0 < K .n) (L U X : ℕ) (v : Product) where
   open Context K using (rule, n, E)

@@ -165,7 +165,7 @@ loop-again c =
     }
 
 returns : tie.Need-returns Inv-loop μ-loop
-returns c = all-done _ _ _ _ _ (c .before .loop .inv .begun) (omega (arith, c .loop-test .left))
+returns c = all-done _ _ _ _ _ (c .before .loop .inv .begun) (c .loop-test .left)
 
 pub count-spec : {M : Type 1} → statement M
 count-spec =
