@@ -16,7 +16,7 @@ use Rattle.product.specs.declared.Product.{Product}
 use Rattle.product.specs.Answer.{multiplied}
 use Rattle.quotient.specs.declared.Quotient.{Quotient}
 use Rattle.quotient.specs.Answer.{divided}
-use Rattle.reading.specs.Reading.{applied, appliedOnce}
+use Rattle.reading.specs.Reading.{applied}
 use Rattle.reading.specs.Divided.{dividedReading}
 use Rattle.words.specs.Words.{unsigned}
 use Rattle.calls.specs.State.{State}
@@ -99,14 +99,10 @@ readingWords y = toBits binary32 y ∷ []
 abbrev pub readingAnswer : Outcome (Marked Float) → Answer
 readingAnswer o = markedAnswer readingWords o
 
-unfoldable pub readTo : (factor : List ℕ) (reading : ℕ) (out : List ℕ) → Answer
+-- on a device
+unfoldable pub readTo : Device → (factor : List ℕ) (reading : ℕ) (out : List ℕ) → Answer
 unfolding applied taken toBits ofBits
-readTo factor reading out = readingAnswer (andThen (taken factor factorLength (length out) 1) (λ f. applied f (ofBits binary32 reading)))
-
--- on the one-step device
-unfoldable pub readOnceTo : (factor : List ℕ) (reading : ℕ) (out : List ℕ) → Answer
-unfolding appliedOnce taken toBits ofBits
-readOnceTo factor reading out = readingAnswer (andThen (taken factor factorLength (length out) 1) (λ f. appliedOnce f (ofBits binary32 reading)))
+readTo d factor reading out = readingAnswer (andThen (taken factor factorLength (length out) 1) (λ f. applied d f (ofBits binary32 reading)))
 
 -- ---- a tally: 0 with how many significands are right, wrong and open, or the refusal
 abbrev pub tallyWords : Counts → List ℕ

@@ -28,7 +28,7 @@ ghost use Rattle.product.specs.declared.Device.{Device};
 ghost use Rattle.reading.specs.Reading.{outcomeOf as readingSays};
 ghost use Rattle.sweep.specs.Answers.{viewOf};
 ghost use Rattle.exports.specs.Words.{factorFrom, factorWords, damaged, stateOf, stateWords};
-ghost use Rattle.exports.specs.Answers.{taken, takenOf, leaves, setUpTo, multiplyTo, readingAnswer, readTo, readOnceTo, tallyTo, divideTo, divideReadingTo, newSweepTo, sweepTo};
+ghost use Rattle.exports.specs.Answers.{taken, takenOf, leaves, setUpTo, multiplyTo, readingAnswer, readTo, tallyTo, divideTo, divideReadingTo, newSweepTo, sweepTo};
 
 // So many words have a factor, a product, a quotient, what a reading is answered with, a tally, a sweep's state, and what a sweep call counts.
 const FACTOR_WORDS: usize = 9;
@@ -229,6 +229,19 @@ fn multiply_on(d: Device, factor: &[u64], x: u64, out: &mut [u64]) -> u32
     }
 }
 
+// A reading, given by its bits, multiplied on a device, as a number and a word.
+fn read_on(d: Device, factor: &[u64], reading: u32, out: &mut [u32]) -> u32
+    ensures { λ r. ⌜ r ≡ readTo d (now (factor .entry)) reading (now (out .entry)) .number ⌝ }
+    ensures { λ _. ⌜ now (out .exit) ≡ leaves (readTo d (now (factor .entry)) reading (now (out .entry))) (now (out .entry)) ⌝ }
+{
+    match take_factor(factor, FACTOR_WORDS, out.len(), READING_WORDS) {
+        TakenFactor::Accepted(f) => {
+            tell_reading(reading::read(d, f, floats::float_from(reading)), out)
+        }
+        TakenFactor::Refused(k) => k,
+    }
+}
+
 // Set-up: 0 and the factor's 9 words, or the refusal; 255 where the list is too short.
 #[no_mangle]
 pub extern "C" fn gusnalip_set_up(
@@ -280,29 +293,19 @@ pub extern "C" fn gusnalip_multiply_once(factor: &[u64], x: u64, out: &mut [u64]
 // Multiplies a reading given by its bits: 1 right, 2 open, 3 wrong, with the product's bits, or the refusal; 255 where a list is too short, 31 where the factor's words are damaged.
 #[no_mangle]
 pub extern "C" fn gusnalip_read(factor: &[u64], reading: u32, out: &mut [u32]) -> u32
-    ensures { λ r. ⌜ r ≡ readTo (now (factor .entry)) reading (now (out .entry)) .number ⌝ }
-    ensures { λ _. ⌜ now (out .exit) ≡ leaves (readTo (now (factor .entry)) reading (now (out .entry))) (now (out .entry)) ⌝ }
+    ensures { λ r. ⌜ r ≡ readTo Device.TwoStep (now (factor .entry)) reading (now (out .entry)) .number ⌝ }
+    ensures { λ _. ⌜ now (out .exit) ≡ leaves (readTo Device.TwoStep (now (factor .entry)) reading (now (out .entry))) (now (out .entry)) ⌝ }
 {
-    match take_factor(factor, FACTOR_WORDS, out.len(), READING_WORDS) {
-        TakenFactor::Accepted(f) => {
-            tell_reading(reading::read(f, floats::float_from(reading)), out)
-        }
-        TakenFactor::Refused(k) => k,
-    }
+    read_on(Device::TwoStep, factor, reading, out)
 }
 
-// Multiplies a reading on the one-step device: answered as by gusnalip_read.
+// The same on the one-step device.
 #[no_mangle]
 pub extern "C" fn gusnalip_read_once(factor: &[u64], reading: u32, out: &mut [u32]) -> u32
-    ensures { λ r. ⌜ r ≡ readOnceTo (now (factor .entry)) reading (now (out .entry)) .number ⌝ }
-    ensures { λ _. ⌜ now (out .exit) ≡ leaves (readOnceTo (now (factor .entry)) reading (now (out .entry))) (now (out .entry)) ⌝ }
+    ensures { λ r. ⌜ r ≡ readTo Device.OneStep (now (factor .entry)) reading (now (out .entry)) .number ⌝ }
+    ensures { λ _. ⌜ now (out .exit) ≡ leaves (readTo Device.OneStep (now (factor .entry)) reading (now (out .entry))) (now (out .entry)) ⌝ }
 {
-    match take_factor(factor, FACTOR_WORDS, out.len(), READING_WORDS) {
-        TakenFactor::Accepted(f) => {
-            tell_reading(reading::read_once(f, floats::float_from(reading)), out)
-        }
-        TakenFactor::Refused(k) => k,
-    }
+    read_on(Device::OneStep, factor, reading, out)
 }
 
 // Tallies a range on the one-step device: 0 with how many significands are right, wrong and open, or the refusal; 255 where a list is too short, 31 where the factor's words are damaged.

@@ -1,4 +1,4 @@
--- Demand 2 of readings (`reading-answered`, `reading-tells`), for every factor and every reading: the answer is the two steps' product with sign and exponent put on, exactly, and its
+-- Demand 2 of readings (`reading-answered`, `reading-tells`), for every device, factor and reading: the answer is the device's product with sign and exponent put on, exactly, and its
 -- mark tells of every fraction C between the ends whether C * 2 ^ k times the reading rounds to it. Assumes nothing.
 use mathlib.Core.Path.{_≡_, refl, sym, ap, _∙_, subst}
 use mathlib.Core.Bool.{Bool, true, false, not, _&&_, cond}
@@ -33,12 +33,13 @@ use Rattle.factor.specs.Accepted.{between-positive}
 use Rattle.factor.specs.Ends.{Between}
 use Rattle.factor.specs.SetUp.{Sound}
 use Rattle.factor.specs.SetUpLaws.{intact-sound}
+use Rattle.product.specs.declared.Device.{Device}
 use Rattle.product.specs.declared.Product.{Product}
-use Rattle.product.specs.Product.{argument, productBy, valueOf}
+use Rattle.product.specs.Product.{argument, valueOf}
 use Rattle.product.specs.Marks.{Gives, markBy}
-use Rattle.product.specs.SoundLaws.{sound-product}
+use Rattle.product.specs.OneStepLaws.{formed}
 use Rattle.product.specs.Demand2.{mark-tells, mark-alone}
-use Rattle.reading.specs.Reading.{unreadable, exponentOut, numberOf, conditions, productExponent, twoSteps, applied}
+use Rattle.reading.specs.Reading.{unreadable, exponentOut, numberOf, conditions, productExponent, productOf, productAt, applied}
 use Rattle.reading.specs.Exponents.{let-through}
 use Rattle.reading.specs.ReadingLaws.{number-value, number-normal}
 use Rattle.reading.specs.AnswerLaws.{is-intact, precision-is, is-normal}
@@ -65,31 +66,36 @@ GivesNumber f b y C = Is y (RN (contextOf f .rule) (prec binary32) (exact f b C)
 abbrev pub SaysOf : Factor → ℕ → Float → Mark → Type 0
 SaysOf f b y m = Says (Between (contextOf f) (lowerOf f) (upperOf f)) (GivesNumber f b y) m
 
--- u2 of the reading's significand
-abbrev pub secondOf : Factor → ℕ → Product
-secondOf f b = productBy f (significandOf binary32 b)
-
 -- the number with its mark, or plus zero, right
-abbrev pub numbered : Factor → ℕ → Marked Float
-numbered f b = cond (zeroBits binary32 b) (twoSteps f b .of-zero) (twoSteps f b .value)
+abbrev pub numbered : Device → Factor → ℕ → Marked Float
+numbered d f b = let m = productOf f b (productAt d f b) in cond (zeroBits binary32 b) (m .of-zero) (m .value)
+
+-- sign * value * 2 ^ (e + k)
+abbrev pub answerAt : Device → Factor → ℕ → Fraction
+answerAt d f b = let v = productAt d f b in record { minus = signOf binary32 b; num = v .significand * 2 ^ v .binade * up (scaled f b); den = hid binary32 * down (scaled f b) }
+
+-- what is a device's own: of the two-step device, that both steps are those of the reading's significand and of the stored parts' own values
+abbrev pub Own : Device → Factor → ℕ → Float → Type 0
+Own Device.TwoStep f b y =
+    T (fits binary32 (f .applied .high)) → T (fits binary32 (f .applied .low)) → (x : Float) → HasValue x false (significandOf binary32 b) (hid binary32) → StoredSteps f (significandOf binary32 b) x
+Own Device.OneStep f b y = Unit {0}
 
 -- what the answer a to a reading with the bits b tells, unless it is a zero
-pub record Tells (f : Factor) (b : ℕ) (a : Marked Float) : Type 0 where
+pub record Tells (d : Device) (f : Factor) (b : ℕ) (a : Marked Float) : Type 0 where
   -- the reading is a normal number
   pub reading : (x : Float) → T (fits binary32 x) → toBits binary32 x ≡ b → Is x (readingAt b)
-  -- both steps are those of its significand and of the stored parts' own values
-  pub steps : T (fits binary32 (f .applied .high)) → T (fits binary32 (f .applied .low)) → (y : Float) → HasValue y false (significandOf binary32 b) (hid binary32) → StoredSteps f (significandOf binary32 b) y
-  -- the answer is sign * u2 * 2 ^ (e + k), exactly, and a normal number
-  pub value : let v = secondOf f b in HasValue (a .value) (signOf binary32 b) (v .significand * 2 ^ v .binade * up (scaled f b)) (hid binary32 * down (scaled f b))
+  -- the answer is sign * value * 2 ^ (e + k), exactly, and a normal number
+  pub value : Is (a .value) (answerAt d f b)
   pub normal : Normal binary32 (toBits binary32 (a .value))
   -- its mark says what is true of every fraction between the ends, sign and scale on, and no other mark does
   pub says : SaysOf f b (a .value) (a .mark)
   pub alone : (m : Mark) → SaysOf f b (a .value) m → a .mark ≡ m
+  pub own : Own d f b (a .value)
 
 -- of every answer: a zero is answered with plus zero, right; a refusal tells nothing
-abbrev pub AnswerTells : Factor → ℕ → Outcome (Marked Float) → Type 0
-AnswerTells f b (refused k) = Unit {0}
-AnswerTells f b (accepted a) = ((zeroBits binary32 b ≡ true) × (a .mark ≡ Mark.Right) × (a .value ≡ plusZero)) ⊎ ((zeroBits binary32 b ≡ false) × Tells f b a)
+abbrev pub AnswerTells : Device → Factor → ℕ → Outcome (Marked Float) → Type 0
+AnswerTells d f b (refused k) = Unit {0}
+AnswerTells d f b (accepted a) = ((zeroBits binary32 b ≡ true) × (a .mark ≡ Mark.Right) × (a .value ≡ plusZero)) ⊎ ((zeroBits binary32 b ≡ false) × Tells d f b a)
 
 -- ---- sign and scale change nothing of what a mark says
 module _ (f : Factor) (b : ℕ) (v : Product) (y : Float) (is : HasValue y (signOf binary32 b) (v .significand * 2 ^ v .binade * up (scaled f b)) (hid binary32 * down (scaled f b))) (C : Fraction) (positive : 0 < C .num) (some : 0 < C .den) (sign : C .minus ≡ false) where
@@ -150,12 +156,12 @@ binade-apart y s S B H some e k is =
     (subst (λ (w : ℤ). HasValue y s (S * up w) (H * down w)) (sym (+ℤ-assoc e k (pos B))) is)
 
 -- ---- a reading that is let through, and not a zero
-module _ (f : Factor) (b : ℕ) (h : NoneHolds (unreadable f b)) (nonzero : zeroBits binary32 b ≡ false) (o : exponentOut binary32 (productExponent f b (secondOf f b)) ≡ false) where
+module _ (d : Device) (f : Factor) (b : ℕ) (h : NoneHolds (unreadable f b)) (nonzero : zeroBits binary32 b ≡ false) (o : exponentOut binary32 (productExponent f b (productAt d f b)) ≡ false) where
   abbrev X : ℕ
   X = significandOf binary32 b
 
   abbrev v : Product
-  v = secondOf f b
+  v = productAt d f b
 
   abbrev y : Float
   y = numberOf binary32 (signOf binary32 b) (v .significand) (productExponent f b v)
@@ -170,9 +176,9 @@ module _ (f : Factor) (b : ℕ) (h : NoneHolds (unreadable f b)) (nonzero : zero
   x-bits = subst (λ (k : ℕ). HasBits k X) (sym n) (significand-bits binary32 b)
 
   v-bits : HasBits (prec binary32) (v .significand)
-  v-bits = subst (λ (k : ℕ). HasBits k (v .significand)) n (sound-product f sound X x-bits .bits)
+  v-bits = subst (λ (k : ℕ). HasBits k (v .significand)) n (formed d f sound X x-bits .bits)
 
-  y-value : HasValue y (signOf binary32 b) (v .significand * 2 ^ v .binade * up (scaled f b)) (hid binary32 * down (scaled f b))
+  y-value : Is y (answerAt d f b)
   y-value =
       let t = let-through binary32 (productExponent f b v) o in
       binade-apart y (signOf binary32 b) (v .significand) (v .binade) (hid binary32) (pow-pos (prec binary32 - 1)) (exponentOf binary32 b) (f .applied .scale) (number-value binary32 (signOf binary32 b) (v .significand) (productExponent f b v) v-bits (t .0) (t .1) (t .2) (t .3))
@@ -192,33 +198,37 @@ module _ (f : Factor) (b : ℕ) (h : NoneHolds (unreadable f b)) (nonzero : zero
   from : (C : Fraction) → Ends C → GivesNumber f b y C → Gives (contextOf f) X v C
   from C k g = subst (λ (m : ℕ). Same (RN (contextOf f .rule) m (times C (argument m X))) (valueOf m v)) (sym n) (from-reading f b v y y-value C (above-zero C k) (k .some) (k .sign) g)
 
-  tells : Tells f b (record { mark = markBy f X v; value = y })
+  own : (d : Device) (y : Float) → Own d f b y
+  own Device.TwoStep y = λ i j x w. stored-steps f sound n X (significand-bits binary32 b) i j x w
+  own Device.OneStep y = tt
+
+  tells : Tells d f b (record { mark = markBy f X v; value = y })
   tells =
       record {
         reading = λ x fit e. subst (λ (c : ℕ). Is x (readingAt c)) e (normal-value binary32 x fit (subst (Normal binary32) (sym e) (is-normal f b h nonzero)));
-        steps = λ i j y w. stored-steps f sound n X (significand-bits binary32 b) i j y w;
         value = y-value;
         normal = y-normal;
-        says = says-alike Ends (Gives (contextOf f) X v) (GivesNumber f b y) to from (markBy f X v) (mark-tells f sound X x-bits v (sound-product f sound X x-bits .bits));
-        alone = λ m s. mark-alone f sound X x-bits v (sound-product f sound X x-bits .bits) m (says-alike Ends (GivesNumber f b y) (Gives (contextOf f) X v) from to m s);
+        says = says-alike Ends (Gives (contextOf f) X v) (GivesNumber f b y) to from (markBy f X v) (mark-tells f sound X x-bits v (formed d f sound X x-bits .bits));
+        alone = λ m s. mark-alone f sound X x-bits v (formed d f sound X x-bits .bits) m (says-alike Ends (GivesNumber f b y) (Gives (contextOf f) X v) from to m s);
+        own = own d y;
       }
 
--- every answer to a reading tells the truth, whatever the factor and the reading
-pub reading-tells : (f : Factor) (x : Float) → AnswerTells f (toBits binary32 x) (applied f x)
+-- every answer to a reading tells the truth, whatever the device, the factor and the reading
+pub reading-tells : (d : Device) (f : Factor) (x : Float) → AnswerTells d f (toBits binary32 x) (applied d f x)
 unfolding applied
-reading-tells f x = of-answer (AnswerTells f b) (conditions f b (productExponent f b (secondOf f b))) (numbered f b) (λ k. tt) (λ h. go (zeroBits binary32 b) refl h)
+reading-tells d f x = of-answer (AnswerTells d f b) (conditions f b (productExponent f b (productAt d f b))) (numbered d f b) (λ k. tt) (λ h. go (zeroBits binary32 b) refl h)
   where
     b : ℕ
     b = toBits binary32 x
 
-    go : (z : Bool) → zeroBits binary32 b ≡ z → NoneHolds (conditions f b (productExponent f b (secondOf f b))) → AnswerTells f b (accepted (numbered f b))
+    go : (z : Bool) → zeroBits binary32 b ≡ z → NoneHolds (conditions f b (productExponent f b (productAt d f b))) → AnswerTells d f b (accepted (numbered d f b))
     go true z h = rw z (inl (refl, refl, refl))
     go false z h =
-        let t = none-apart (unreadable f b) ((23, not (zeroBits binary32 b) && exponentOut binary32 (productExponent f b (secondOf f b))) ∷ []) h in
-        let o : exponentOut binary32 (productExponent f b (secondOf f b)) ≡ false = rw z at (t .1 .0) in
-        rw z (inr (refl, tells f b (t .0) z o))
+        let t = none-apart (unreadable f b) ((23, not (zeroBits binary32 b) && exponentOut binary32 (productExponent f b (productAt d f b))) ∷ []) h in
+        let o : exponentOut binary32 (productExponent f b (productAt d f b)) ≡ false = rw z at (t .1 .0) in
+        rw z (inr (refl, tells d f b (t .0) z o))
 
 -- and a reading that none of 31 and 20 to 23 refuses is answered, with plus zero or the number with its mark
-pub reading-answered : (f : Factor) (x : Float) → let b = toBits binary32 x in NoneHolds (conditions f b (productExponent f b (secondOf f b))) → applied f x ≡ accepted (numbered f b)
+pub reading-answered : (d : Device) (f : Factor) (x : Float) → let b = toBits binary32 x in NoneHolds (conditions f b (productExponent f b (productAt d f b))) → applied d f x ≡ accepted (numbered d f b)
 unfolding applied
-reading-answered f x h = let b = toBits binary32 x in none-refuses (conditions f b (productExponent f b (secondOf f b))) (numbered f b) h
+reading-answered d f x h = let b = toBits binary32 x in none-refuses (conditions f b (productExponent f b (productAt d f b))) (numbered d f b) h

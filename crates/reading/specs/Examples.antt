@@ -13,6 +13,7 @@ use Rattle.factor.specs.Context.{tieRule}
 use Rattle.factor.specs.Parts.{partsAt}
 use Rattle.factor.specs.SetUp.{appliedOf, factorOf}
 use Rattle.factor.specs.declared.Description.{Description}
+use Rattle.product.specs.declared.Device.{Device}
 use Rattle.reading.specs.Reading.{applied}
 use Rattle.reading.specs.Divided.{dividedReading}
 
@@ -30,7 +31,7 @@ threeHalves k = factorOf (at 24 k (3 * 2 ^ 61))
 
 -- what a reading is answered with there
 abbrev Gives : ℤ → Float → Outcome (Marked Float) → Type 0
-Gives k x o = applied (threeHalves k) x ≡ o
+Gives k x o = applied Device.TwoStep (threeHalves k) x ≡ o
 
 -- 2 ^ 27 at scale 100 is accepted, 2 ^ 28 refused with 23
 scale-100 : Gives (pos 100) (fin false 1 (pos 27)) (right (fin false 3 (pos 126))) × Gives (pos 100) (fin false 1 (pos 28)) (refused 23)
@@ -53,12 +54,12 @@ unfolding threeHalves applied answer judged Ieee.toBits
 least-exponent = (refl, refl)
 
 -- n = 23 is refused with 20, an infinity offered to it too
-short : applied (factorOf (at 23 (pos 0) (3 * 2 ^ 61))) (inf false) ≡ refused 20
+short : applied Device.TwoStep (factorOf (at 23 (pos 0) (3 * 2 ^ 61))) (inf false) ≡ refused 20
 unfolding scaleOf tieRule partsAt appliedOf applied answer judged Ieee.toBits
 short = refl
 
 -- C = 3/2 + 2 ^ -62 and x = 11184814 / 2 ^ 23: Ch * x lies half way between two numbers, and u1, 63 places below its leading digit, decides. In binary64 it would be lost, and the tie go down to 8388610
-fused-once : applied (factorOf (at 24 (pos 0) (3 * 2 ^ 61 + 1))) (fin false 5592407 (negsuc 21)) ≡ right (fin false 8388611 (negsuc 21))
+fused-once : applied Device.TwoStep (factorOf (at 24 (pos 0) (3 * 2 ^ 61 + 1))) (fin false 5592407 (negsuc 21)) ≡ right (fin false 8388611 (negsuc 21))
 unfolding scaleOf tieRule partsAt appliedOf applied answer judged Ieee.toBits
 fused-once = refl
 

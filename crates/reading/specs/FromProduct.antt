@@ -1,4 +1,4 @@
--- Laws: the answer to a reading that is no zero is the product of its significand with sign and exponent put on; divided, it is the quotient of its significand, alike. Assumes nothing.
+-- Laws: the answer to a reading that is no zero is, on either device, the product of its significand with sign and exponent put on; divided, it is the quotient of its significand, alike. Assumes nothing.
 use mathlib.Core.Path.{_≡_, sym, ap, _∙_}
 use mathlib.Core.Bool.{false}
 use Prim.Native.Nat.{ℕ, _^_}
@@ -12,12 +12,11 @@ use Rattle.factor.specs.declared.Factor.{Factor}
 use Rattle.factor.specs.Precision.{significandOut}
 use Rattle.product.specs.declared.Device.{Device}
 use Rattle.product.specs.declared.Product.{Product}
-use Rattle.product.specs.Product.{productBy}
 use Rattle.product.specs.Answer.{conditions, marked, multiplied}
 use Rattle.quotient.specs.declared.Quotient.{Quotient}
 use Rattle.quotient.specs.Quotient.{quotientBy}
 use Rattle.quotient.specs.Answer.{divided}
-use Rattle.reading.specs.Reading.{unreadable, ranged, twoSteps, applied}
+use Rattle.reading.specs.Reading.{unreadable, ranged, productOf, productAt, applied}
 use Rattle.reading.specs.Divided.{placedQuotient, quotientOf, dividedReading}
 use Rattle.reading.specs.AnswerLaws.{precision-is, others-answered}
 
@@ -36,9 +35,9 @@ module _ (f : Factor) (x : Float) (h : NoneHolds (unreadable f (toBits binary32 
       let in-range : significandOut (f .precision .bits) X ≡ false = rw (precision-is f b h, le-ltb X (hid binary32) (is .least), lt-leb (2 ^ prec binary32) X (is .most)) in
       pass (h .0) (pass in-range end)
 
-  pub from-product : applied f x ≡ andThen (multiplied Device.TwoStep f X) (ranged f b)
+  pub from-product : (d : Device) → applied d f x ≡ andThen (multiplied d f X) (ranged f b)
   unfolding applied multiplied
-  from-product = sym (others-answered f b h (twoSteps f b) nonzero) ∙ ap (λ (o : Outcome (Marked Product)). andThen o (ranged f b)) (accepts through (marked f X (productBy f X)))
+  from-product d = let v = productAt d f b in sym (others-answered f b h (productOf f b v) nonzero) ∙ ap (λ (o : Outcome (Marked Product)). andThen o (ranged f b)) (accepts through (marked f X v))
 
   pub from-quotient : dividedReading f x ≡ andThen (divided f X) (placedQuotient f b)
   unfolding dividedReading divided

@@ -12,11 +12,13 @@ use Rattle.marks.specs.Answers.{Outcome, refused, accepted, answer, Marked}
 use Rattle.floats.specs.Fields.{signOf, plusZero, infiniteOrNaN, zeroBits, subnormal, significandOf, exponentOf}
 use Rattle.factor.specs.declared.Factor.{Factor}
 use Rattle.factor.specs.SetUp.{intact}
+use Rattle.product.specs.declared.Device.{Device}
 use Rattle.product.specs.declared.Product.{Product}
-use Rattle.product.specs.Product.{product, productBy}
+use Rattle.product.specs.Product.{product}
 use Rattle.product.specs.Marks.{mark}
 use Rattle.product.specs.Answer.{marked}
-use Rattle.product.specs.OneStep.{oneStep, oneStepBy}
+use Rattle.product.specs.OneStep.{oneStep}
+use Rattle.product.specs.Devices.{productOn}
 use Rattle.reading.specs.declared.ReadingAnswer.{ReadingAnswer}
 use Rattle.reading.specs.declared.NumberAnswer.{NumberAnswer}
 use Rattle.reading.specs.declared.Taken.{Taken}
@@ -88,23 +90,14 @@ finished f b v = ranged f b (marked f (significandOf binary32 b) v)
 abbrev pub productOf : Factor → ℕ → Product → Made (Marked Float)
 productOf f b v = record { of-zero = record { mark = Mark.Right; value = plusZero }; exponent = productExponent f b v; value = putOn f b (marked f (significandOf binary32 b) v) }
 
--- that of the two-step device
-abbrev pub twoSteps : Factor → ℕ → Made (Marked Float)
-twoSteps f b = productOf f b (productBy f (significandOf binary32 b))
+-- the product of a reading's significand on a device
+abbrev pub productAt : Device → Factor → ℕ → Product
+productAt d f b = productOn d f (significandOf binary32 b)
 
--- and that of the one-step device (request W2)
-abbrev pub oneStepOf : Factor → ℕ → Made (Marked Float)
-oneStepOf f b = productOf f b (oneStepBy f (significandOf binary32 b))
-
--- the answer to a reading x, on the two-step device
-unfoldable pub applied : Factor → Float → Outcome (Marked Float)
-unfolding intact product mark numberOf
-applied f x = let b = toBits binary32 x in answerTo f b (twoSteps f b)
-
--- and on the one-step device
-unfoldable pub appliedOnce : Factor → Float → Outcome (Marked Float)
-unfolding intact oneStep mark numberOf
-appliedOnce f x = let b = toBits binary32 x in answerTo f b (oneStepOf f b)
+-- the answer to a reading x on a device
+unfoldable pub applied : Device → Factor → Float → Outcome (Marked Float)
+unfolding intact product oneStep mark numberOf
+applied d f x = let b = toBits binary32 x in answerTo f b (productOf f b (productAt d f b))
 
 -- what each case of the answer says: a refusal its number; any other its mark and the product as a binary32 number
 abbrev pub outcomeOf : ReadingAnswer → Outcome (Marked Float)

@@ -1,6 +1,7 @@
-// A binary32 reading times a factor (document 01, "Binary32"), on the two-step device and on the one-step device (request W2): the product with its mark, or a refusal; and divided by it (request W1): the quotient, or a refusal.
+// A binary32 reading times a factor (document 01, "Binary32"), on the two-step device or the one-step device of request W2: the product with its mark, or a refusal; and divided by it (request W1): the quotient, or a refusal.
 use factor::Factor;
 use marks::Mark;
+use product::Device;
 use product::Product;
 ghost use mathlib.Core.Path.{_≡_};
 ghost use Prim.Native.Nat.{_≤_};
@@ -12,9 +13,9 @@ ghost use Rattle.floats.specs.Fields.{significandOf, exponentOf};
 ghost use Rattle.factor.specs.Context.{contextOf};
 ghost use Rattle.factor.specs.UnitParts.{unitPartsOf};
 ghost use Rattle.factor.specs.SetUp.{Sound};
-ghost use Rattle.product.specs.Product.{productBy};
+ghost use Rattle.product.specs.Devices.{productOn};
 ghost use Rattle.product.specs.Units.{firstUnits};
-ghost use Rattle.reading.specs.Reading.{unreadable, kindOf, placed, finished, applied, appliedOnce, outcomeOf, numberSays, takenOf};
+ghost use Rattle.reading.specs.Reading.{unreadable, kindOf, placed, finished, applied, outcomeOf, numberSays, takenOf};
 ghost use Rattle.reading.specs.Divided.{dividedReading};
 
 // The biased exponents of normal numbers.
@@ -125,37 +126,26 @@ fn take(f: Factor, reading: f32) -> Taken
     Taken::Normal(bits)
 }
 
-// The two steps of a normal reading's significand.
-fn two_steps(f: Factor, bits: u32) -> Product
+// The product of a normal reading's significand on a device: u1 is one binary32 multiplication.
+fn product_of(d: Device, f: Factor, bits: u32) -> Product
     requires { ⌜ Sound f × (f .precision .bits ≡ prec binary32) ⌝ }
-    ensures { λ r. ⌜ r ≡ productBy f (significandOf binary32 bits) ⌝ }
+    ensures { λ r. ⌜ r ≡ productOn d f (significandOf binary32 bits) ⌝ }
 {
     let x = floats::significand_of(bits);
-    product::second_step(f, x as u64, first_step(f, x))
-}
-
-// Multiplies a reading: the product with its mark, or the first of the refusals 31, 20, 21, 22 and 23 whose condition holds.
-pub fn read(f: Factor, reading: f32) -> ReadingAnswer
-    ensures { λ r. ⌜ outcomeOf r ≡ applied f reading ⌝ }
-{
-    match take(f, reading) {
-        Taken::Refused(number) => ReadingAnswer::Refused(number),
-        Taken::Zero => ReadingAnswer::Right(floats::plus_zero()),
-        Taken::Normal(bits) => finish(f, bits, two_steps(f, bits)),
+    match d {
+        Device::TwoStep => product::second_step(f, x as u64, first_step(f, x)),
+        Device::OneStep => product::one_step(f, x as u64),
     }
 }
 
-// Multiplies a reading on the one-step device: refused as on the other, a zero gives plus zero, right, and any other reading RN(Ch * x) with its mark.
-pub fn read_once(f: Factor, reading: f32) -> ReadingAnswer
-    ensures { λ r. ⌜ outcomeOf r ≡ appliedOnce f reading ⌝ }
+// Multiplies a reading on a device: the product with its mark, or the first of the refusals 31, 20, 21, 22 and 23 whose condition holds. A zero of either sign gives plus zero, right.
+pub fn read(d: Device, f: Factor, reading: f32) -> ReadingAnswer
+    ensures { λ r. ⌜ outcomeOf r ≡ applied d f reading ⌝ }
 {
     match take(f, reading) {
         Taken::Refused(number) => ReadingAnswer::Refused(number),
         Taken::Zero => ReadingAnswer::Right(floats::plus_zero()),
-        Taken::Normal(bits) => {
-            let x = floats::significand_of(bits);
-            finish(f, bits, product::one_step(f, x as u64))
-        }
+        Taken::Normal(bits) => finish(f, bits, product_of(d, f, bits)),
     }
 }
 

@@ -1,12 +1,12 @@
--- `exports::gusnalip_read` meets its contract: the engine's answer as a number and a word. Assumes nothing.
+-- `exports::read_on` meets its contract: the engine's answer as a number and a word. Assumes nothing.
 use mathlib.Core.Path.{refl, ap, _∙_}
 use lib.Ieee.{binary32, ofBits}
 use borrow.Author.Needs.{needs}
 use Rattle.reading.specs.Reading.{applied}
 use Rattle.exports.specs.Answers.{readingAnswer, readTo}
 use Rattle.exports.specs.AnswerLaws.{enough, answered, not-taken, gives}
-use Rattle.exports.proofs.gusnalip_read.Statement.{statement}
-use Rattle.exports.proofs.gusnalip_read.Tie as tie
+use Rattle.exports.proofs.read_on.Statement.{statement}
+use Rattle.exports.proofs.read_on.Tie as tie
 
 -- there is room for the product
 roomy : tie.Need-tell-reading-requires
@@ -20,7 +20,7 @@ returns c =
     let s = told .before .before in
     let f = s .before .before .before in
     let a = f .before .before .before .before .before .args in
-    gives _ (told .tell-reading .ensures) (answered readingAnswer (λ f. applied f (ofBits binary32 (a .reading))) (f .before .before .take-factor .ensures) (f .f .given .1) (s .read .ensures ∙ ap (applied (f .f .given .0 .0)) (s .before .float-from .ensures)))
+    gives _ (told .tell-reading .ensures) (answered readingAnswer (λ f. applied (a .d) f (ofBits binary32 (a .reading))) (f .before .before .take-factor .ensures) (f .f .given .1) (s .read .ensures ∙ ap (applied (a .d) (f .f .given .0 .0)) (s .before .float-from .ensures)))
 
 -- the words were not taken
 returns-2 : tie.Need-returns-2
@@ -29,7 +29,7 @@ returns-2 c =
     let told = c .before in
     let take = told .before .before in
     let a = take .before .before .before .args in
-    gives _ (refl, refl) (not-taken readingAnswer (λ f. applied f (ofBits binary32 (a .reading))) (take .take-factor .ensures) (told .k .given .1))
+    gives _ (refl, refl) (not-taken readingAnswer (λ f. applied (a .d) f (ofBits binary32 (a .reading))) (take .take-factor .ensures) (told .k .given .1))
 
-pub gusnalip-read-spec : {M : Type 1} → statement M
-gusnalip-read-spec = tie.close (tie.spec (λ c κs. search needs) (λ c. search needs) (λ c κs. search needs) (λ c κs. search needs) roomy (λ c. search needs) (λ c. search needs) returns returns-2)
+pub read-on-spec : {M : Type 1} → statement M
+read-on-spec = tie.close (tie.spec (λ c κs. search needs) (λ c. search needs) (λ c κs. search needs) (λ c κs. search needs) roomy (λ c. search needs) (λ c. search needs) returns returns-2)
