@@ -6,4 +6,5 @@ pub mod Pattern
 pub mod Narrow
 pub mod Times
 pub mod Ratio
+pub mod NormalLaws
 pub mod Classes

@@ -1,4 +1,4 @@
--- Laws: a product of two floats is the exact product, rounded. In a unit in which it is whole that is RN in whole numbers, and its bits tell it. Assumes nothing.
+-- Laws of products: powers of two in them; a product of two floats is the exact product, rounded. In a unit in which it is whole that is RN in whole numbers, and its bits tell it. Assumes nothing.
 use mathlib.Core.Path.{_≡_, refl, sym, ap, ap₂, _∙_, subst}
 use mathlib.Core.Bool.{Bool, true, false, cond}
 use mathlib.Core.Logic.{_⊎_, inl, inr}
@@ -6,6 +6,7 @@ use Prim.Native.Nat.{ℕ, zero, suc, _+_, _-_, _*_, _/_, _%_, _^_, _≤_, _<_}
 use native.Mathlib.Nat.{eq-zero-or-pos, mul-assoc, zero-div, mul-pos, mul-le-mul, mul-lt-mul-of-pos-right, mul-mul-mul-comm, eq-of-mul-eq-mul-right, le-trans, le-of-eq, pow-succ', lt-of-not-le, lt-of-lt-of-le, le-of-suc-le-suc, mod-lt}
 use native.Mathlib.Omega.{arith}
 use lib.Dec.{eqb, lit<}
+use lib.IntN.{ℤ, _+ℤ_}
 use lib.Pow.{pow-add, pow-pos, pow-mono, shl-lt, shl-exact}
 use lib.Ieee
 use lib.Ieee.{Float, nan, inf, fin, Format, prec, emax, low, hid, ones, top, up, down, unlike, mul, odd, ofFields, ofBits}
@@ -16,12 +17,22 @@ use borrow.Author.Tests.{eq-eqb, ne-eqb, eqb-true, eqb-false}
 use Rattle.rounding.specs.Grid.{toEven}
 use Rattle.rounding.specs.Unit.{rn}
 use Rattle.rounding.specs.UnitLaws.{rn-same, rn-scale-whole, rn-ge, rn-whole-small}
+use Rattle.rounding.specs.Fraction.{Fraction, power, times}
+use Rattle.rounding.specs.FractionLaws.{Scaled, unlike-plus}
 use Rattle.rounding.specs.Ieee.{one-value, round-value, rn-grid}
 use Rattle.floats.specs.Fields.{signOf, biasedExponent, trailingSignificand, significandOf, unitsOf, unitAt, WholeInUnits}
+use Rattle.floats.specs.Powers.{powers-add}
 use Rattle.floats.specs.Pattern.{digits-some, two-hid, bits-split, biased-most, fields-value, significand-bits}
 
+-- ---- powers of two in a product: x * 2 ^ k times y * 2 ^ e is x * y * 2 ^ (e + k)
+pub times-scaled : (x y : Fraction) (e k : ℤ) → Scaled (e +ℤ k) (times x y) (times (times x (power k)) (times y (power e)))
+times-scaled x y e k = let z = e +ℤ k in regroup (x .num) (x .den) (y .num) (y .den) (up e) (up k) (up z) (down e) (down k) (down z) (powers-add e k)
+  where
+    regroup : (N d X H u v w a c g : ℕ) → u * v * g ≡ w * (a * c) → N * v * (X * u) * (d * H * g) ≡ N * X * w * (d * c * (H * a))
+    regroup N d X H u v w a c g e = omega (arith, ap (λ (t : ℕ). t * (N * X * d * H)) e)
+
 -- ---- a product of two values is its exact value, rounded
-mul-value : (f : Format) (x y : Float) (s t : Bool) (a c b d : ℕ) → 0 < c → 0 < d → HasValue x s a c → HasValue y t b d → mul f x y ≡ Ieee.round f (unlike s t) (a * b) (c * d)
+pub mul-value : (f : Format) (x y : Float) (s t : Bool) (a c b d : ℕ) → 0 < c → 0 < d → HasValue x s a c → HasValue y t b d → mul f x y ≡ Ieee.round f (unlike s t) (a * b) (c * d)
 unfolding mul
 mul-value f nan y s t a c b d C D h k = absurd h
 mul-value f (inf u) y s t a c b d C D h k = absurd h
@@ -35,10 +46,6 @@ mul-value f (fin u m e) (fin v n g) s t a c b d C D h k =
 -- a value is one number of units
 one-count : (f : Format) (x : Float) (s t : Bool) (a b : ℕ) → HasValue x s a (2 ^ low f) → HasValue x t b (2 ^ low f) → a ≡ b
 one-count f x s t a b h k = eq-of-mul-eq-mul-right (2 ^ low f) (pow-pos (low f)) a b (one-value x s t a (2 ^ low f) b (2 ^ low f) h k .1)
-
-pub unlike-plus : (s : Bool) → unlike s false ≡ s
-unlike-plus true = refl
-unlike-plus false = refl
 
 pub unit-is : (f : Format) (E : ℕ) → E < emax f → 2 ^ low f ≡ 2 ^ (E + (prec f - 1)) * 2 ^ unitAt f E
 unit-is f E h = ap (λ (z : ℕ). 2 ^ z) (omega (arith, two f)) ∙ pow-add 2 (E + (prec f - 1)) (unitAt f E)

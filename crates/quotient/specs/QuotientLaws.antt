@@ -19,7 +19,7 @@ use Rattle.rounding.specs.GridLaws.{Lies, location-lies, nearest-is, nearest-on
 use Rattle.rounding.specs.Digits.{pow-half, drop-le}
 use Rattle.rounding.specs.Round.{normalised, stepped, roundedIn, rounded, HasBits}
 use Rattle.rounding.specs.RoundLaws.{rounded-at, minus-shift}
-use Rattle.rounding.specs.Fraction.{Same, AtMost}
+use Rattle.rounding.specs.Fraction.{Same}
 use Rattle.factor.specs.declared.Parts.{Parts}
 use Rattle.factor.specs.Context.{Context}
 use Rattle.product.specs.SoundLaws.{HighBits}
@@ -156,16 +156,6 @@ module _ (K : Context) (P : 0 < K .n) (p : Parts) (X : ℕ) (h : HighBits (K .n)
             subst (λ (r : Rounded). r .significand * up (r .exponent) * (down (minus 0 b) * 2 ^ (n - 1)) ≡ v * S * down (r .exponent)) (sym (rounded-exact rule))
             (omega (arith, ap (λ (z : ℕ). z * (S * v)) (minus-val 1 0 t), ap (λ (z : ℕ). z * (S * u * 2 ^ (n - 1))) (minus-val 1 0 b), ap (λ (z : ℕ). S * u * v * z) w)),
       )
-
-  -- x / Ch lies in the quotient's binade: from its least number of n bits to its largest
-  pub quotient-range : let z = quotient K p X .binade in AtMost (valueOf n (record { significand = 2 ^ (n - 1); binade = z })) (byHigh n p X) × AtMost (byHigh n p X) (valueOf n (record { significand = 2 ^ n - 1; binade = z }))
-  quotient-range =
-      let u = up (minus 0 b) in
-      let g = 2 ^ (n - 1) in
-      let w : N ≡ X * g * 2 ^ b = ap (λ (z : ℕ). X * z) (pow-add 2 (n - 1) b) ∙ omega arith in
-      let d = ap (λ (z : ℕ). z * (X * g * g)) (minus-val 1 0 b) in
-      let e = ap (λ (z : ℕ). z * (u * g)) w in
-      rw quotient-is (omega (arith, d, e, mul-le-mul-right (u * g) (s .least)), omega (arith, d, e, mul-le-mul-right (u * g) (s .most)))
 
   -- its binade is -1 below 1, and 0 from there on
   pub quotient-below-one : X < H → quotient K p X .binade ≡ minus 0 1

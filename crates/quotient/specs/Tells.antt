@@ -1,7 +1,7 @@
 -- What an answer to a division tells, for every factor and every number as X (`quotient-tells`): its form, that it is RN(x / Ch) by every tie rule, and that it is less than 3/2 units in the last place from x / C for
 -- every fraction C between the ends: request W1's bound, of which source document 003 (Property 3.1) has a slightly sharper one. Assumes nothing.
 use mathlib.Core.Path.{_≡_, refl, subst}
-use Prim.Native.Nat.{ℕ, _-_, _^_, _≤_, _<_}
+use Prim.Native.Nat.{ℕ, _-_, _≤_, _<_}
 use native.Mathlib.Nat.{mul-pos, le-trans}
 use native.Mathlib.Decide.{decLt}
 use native.Mathlib.Omega.{arith}
@@ -13,7 +13,7 @@ use Rattle.marks.specs.AnswerLaws.{of-answer}
 use Rattle.rounding.specs.declared.Location.the-variants.{Half}
 use Rattle.rounding.specs.Grid.{Rule}
 use Rattle.rounding.specs.Round.{rounded, HasBits}
-use Rattle.rounding.specs.Fraction.{Fraction, over, times, ratio, distance, RN, Same, Below, AtMost, Positive}
+use Rattle.rounding.specs.Fraction.{Fraction, over, times, ratio, distance, RN, Same, Below, Positive}
 use Rattle.rounding.specs.FractionLaws.{RN-some, ratio-positive, distance-same}
 use Rattle.rounding.specs.Ulp.{ulp}
 use Rattle.rounding.specs.OneRounding.{ratio-error}
@@ -28,7 +28,7 @@ use Rattle.product.specs.SoundLaws.{sound-fine, sound-high, sound-high-positive
 use Rattle.quotient.specs.declared.Quotient.{Quotient}
 use Rattle.quotient.specs.Quotient.{byHigh, once, quotientBy, valueOf}
 use Rattle.quotient.specs.Answer.{divided}
-use Rattle.quotient.specs.QuotientLaws.{never-tied, quotient-any-rule, quotient-bits, quotient-value, quotient-range, quotient-below-one, quotient-from-one}
+use Rattle.quotient.specs.QuotientLaws.{never-tied, quotient-any-rule, quotient-bits, quotient-value, quotient-below-one, quotient-from-one}
 
 -- ---- what is said
 -- x / C, for a significand X
@@ -97,10 +97,6 @@ module _ (f : Factor) (s : Sound f) where
           untied = never-tied K (ok .some) (f .parts) X (sound-high f s) x;
           near = near;
         }
-
-    -- x / Ch lies in the quotient's binade
-    pub sound-range : let z = quotientBy f X .binade in AtMost (valueOf n (record { significand = 2 ^ (n - 1); binade = z })) (byHigh n (f .parts) X) × AtMost (byHigh n (f .parts) X) (valueOf n (record { significand = 2 ^ n - 1; binade = z }))
-    sound-range = quotient-range K (ok .some) (f .parts) X (sound-high f s) x
 
     -- its binade, -1 or 0, has at most the size 1
     pub sound-binade : natAbs (quotientBy f X .binade) ≤ 1

@@ -1,12 +1,12 @@
 -- Readings that are let through to their product or quotient, and what they are answered with. Assumes nothing.
 use mathlib.Core.Path.{_≡_, refl, sym, ap, _∙_, subst}
-use mathlib.Core.Bool.{Bool, true, false, cond}
+use mathlib.Core.Bool.{Bool, true, false, not, _&&_, cond}
 use mathlib.Core.List.{[], _∷_}
 use Prim.Native.Nat.{ℕ}
 use lib.Ieee.{Float, binary32, prec, toBits}
 use borrow.Author.Tests.{eqb-true, not-false}
-use Rattle.marks.specs.Answers.{NoneHolds, refused, accepted, answer}
-use Rattle.marks.specs.AnswerLaws.{pass, end, accepts, rest-answers, only-accepted, refused-first}
+use Rattle.marks.specs.Answers.{NoneHolds, Outcome, refused, accepted, answer}
+use Rattle.marks.specs.AnswerLaws.{pass, end, accepts, rest-answers, only-accepted, refused-first, none-apart, of-answer}
 use Rattle.rounding.specs.Round.{HasBits}
 use Rattle.floats.specs.Fields.{zeroBits, Normal, significandOf}
 use Rattle.floats.specs.Pattern.{significand-bits}
@@ -15,7 +15,7 @@ use Rattle.factor.specs.declared.Factor.{Factor}
 use Rattle.factor.specs.SetUp.{intact, Sound}
 use Rattle.factor.specs.SetUpLaws.{intact-sound}
 use Rattle.reading.specs.declared.Taken.{Taken}
-use Rattle.reading.specs.Reading.{unreadable, Kind, zero, normal, kindOf, exponentOut, Made, answerTo, takenOf}
+use Rattle.reading.specs.Reading.{unreadable, Kind, zero, normal, kindOf, exponentOut, Made, conditions, answerTo, takenOf}
 
 -- ---- readings that are let through
 module _ (f : Factor) (b : ℕ) (h : NoneHolds (unreadable f b)) where
@@ -33,6 +33,18 @@ module _ (f : Factor) (b : ℕ) (h : NoneHolds (unreadable f b)) where
   -- and it is a normal number
   pub is-normal : zeroBits binary32 b ≡ false → Normal binary32 b
   is-normal z = normal-others binary32 b (h .1 .1 .0) z (h .1 .1 .1 .0)
+
+-- what holds of every answer to a reading: of a refusal, of what is made of a zero, and of what is made of any other that is let through
+pub of-reading : {A : Type 0} (P : Outcome A → Type 0) (f : Factor) (b : ℕ) (m : Made A) → ((k : ℕ) → P (refused k)) → (zeroBits binary32 b ≡ true → P (accepted (m .of-zero)))
+    → (NoneHolds (unreadable f b) → zeroBits binary32 b ≡ false → exponentOut binary32 (m .exponent) ≡ false → P (accepted (m .value))) → P (answerTo f b m)
+of-reading P f b m none of-zero others = of-answer P (conditions f b (m .exponent)) (cond (zeroBits binary32 b) (m .of-zero) (m .value)) none (go (zeroBits binary32 b) refl)
+  where
+    go : (z : Bool) → zeroBits binary32 b ≡ z → NoneHolds (conditions f b (m .exponent)) → P (accepted (cond (zeroBits binary32 b) (m .of-zero) (m .value)))
+    go true z h = rw z (of-zero z)
+    go false z h =
+        let t = none-apart (unreadable f b) ((23, not (zeroBits binary32 b) && exponentOut binary32 (m .exponent)) ∷ []) h in
+        let o : exponentOut binary32 (m .exponent) ≡ false = rw z at (t .1 .0) in
+        rw z (others (t .0) z o)
 
 -- what its work asks for
 pub record Ready (f : Factor) (b : ℕ) : Type 0 where

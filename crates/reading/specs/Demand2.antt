@@ -1,34 +1,34 @@
 -- Demand 2 of readings (`reading-answered`, `reading-tells`), for every device, factor and reading: the answer is the device's product with sign and exponent put on, exactly, and its
 -- mark tells of every fraction C between the ends whether C * 2 ^ k times the reading rounds to it. Assumes nothing.
 use mathlib.Core.Path.{_≡_, refl, sym, ap, _∙_, subst}
-use mathlib.Core.Bool.{Bool, true, false, not, _&&_, cond}
+use mathlib.Core.Bool.{Bool, true, false, cond}
 use mathlib.Core.Logic.{_⊎_, inl, inr}
-use mathlib.Core.List.{[], _∷_}
-use Prim.Native.Nat.{ℕ, _-_, _*_, _^_, _<_}
+use Prim.Native.Nat.{ℕ, _+_, _-_, _*_, _^_, _<_}
 use native.Mathlib.Nat.{mul-pos, le-trans, eq-of-mul-eq-mul-right}
 use native.Mathlib.Omega.{arith}
 use lib.Dec.{T}
 use lib.IntN.{ℤ, pos, _+ℤ_, +ℤ-assoc}
 use lib.Pow.{pow-pos}
-use lib.Ieee.{Float, binary32, prec, hid, toBits, up, down, unlike, fits}
+use lib.Ieee.{Float, binary32, prec, emax, hid, toBits, up, down, unlike, fits}
 use lib.Ieee.Exact.{HasValue}
 use lib.Ieee.Fits.{up-pos, down-pos, two, two-le-pos}
 use Rattle.marks.specs.declared.Mark.{Mark}
 use Rattle.marks.specs.Answers.{NoneHolds, Outcome, refused, accepted, Marked}
-use Rattle.marks.specs.AnswerLaws.{none-apart, none-refuses, of-answer}
+use Rattle.marks.specs.AnswerLaws.{none-refuses}
 use Rattle.marks.specs.Says.{Says}
 use Rattle.marks.specs.SaysLaws.{says-alike}
+use Rattle.rounding.specs.Grid.{toEven}
 use Rattle.rounding.specs.Round.{HasBits}
-use Rattle.rounding.specs.Fraction.{Fraction, power, times, RN, Same}
-use Rattle.rounding.specs.FractionLaws.{RN-some, Scaled, RN-scaled, same-scaled}
+use Rattle.rounding.specs.Fraction.{Fraction, times, RN, Same}
+use Rattle.rounding.specs.FractionLaws.{RN-some, Scaled, RN-scaled, same-scaled, unlike-plus, unlike-comm}
 use Rattle.rounding.specs.Ieee.{revalue, one-value}
 use Rattle.floats.specs.Fields.{plusZero, signOf, zeroBits, Normal, significandOf, exponentOf}
 use Rattle.floats.specs.Powers.{powers-add}
 use Rattle.floats.specs.Pattern.{significand-bits}
-use Rattle.floats.specs.Ratio.{numberAt}
-use Rattle.floats.specs.Classes.{normal-value}
+use Rattle.floats.specs.Times.{times-scaled}
+use Rattle.floats.specs.NormalLaws.{numberAt, number-some}
 use Rattle.factor.specs.declared.Factor.{Factor}
-use Rattle.factor.specs.Context.{contextOf, lowerOf, upperOf}
+use Rattle.factor.specs.Context.{tieRule, contextOf, lowerOf, upperOf}
 use Rattle.factor.specs.Accepted.{between-positive}
 use Rattle.factor.specs.Ends.{Between}
 use Rattle.factor.specs.SetUp.{Sound}
@@ -37,26 +37,26 @@ use Rattle.product.specs.declared.Device.{Device}
 use Rattle.product.specs.declared.Product.{Product}
 use Rattle.product.specs.Product.{argument, valueOf}
 use Rattle.product.specs.Marks.{Gives, markBy}
+use Rattle.product.specs.OneStep.{byHigh, oneStepBy}
 use Rattle.product.specs.OneStepLaws.{formed}
+use Rattle.product.specs.OneStepTells.{sound-value}
 use Rattle.product.specs.Demand2.{mark-tells, mark-alone}
 use Rattle.reading.specs.Reading.{unreadable, exponentOut, numberOf, conditions, productExponent, productOf, productAt, applied}
-use Rattle.reading.specs.Exponents.{let-through}
+use Rattle.reading.specs.Exponents.{let-through, out-none}
 use Rattle.reading.specs.ReadingLaws.{number-value, number-normal}
-use Rattle.reading.specs.AnswerLaws.{is-intact, precision-is, is-normal}
+use Rattle.reading.specs.AnswerLaws.{is-intact, precision-is, of-reading}
 use Rattle.reading.specs.Standard.{Is, StoredSteps, stored-steps}
+use Rattle.reading.specs.OneOperation.{readingAt, scaledBy, multiplying, OneOperation}
+use Rattle.reading.specs.OneOperationLaws.{reading-is, multiplies, one-operation}
 
 -- ---- what is said
--- a normal reading as a number, by its bits b
-abbrev pub readingAt : ℕ → Fraction
-readingAt b = record { minus = signOf binary32 b; num = significandOf binary32 b * up (exponentOf binary32 b); den = hid binary32 * down (exponentOf binary32 b) }
-
--- its exponent plus k
+-- a reading's exponent plus k
 abbrev pub scaled : Factor → ℕ → ℤ
 scaled f b = exponentOf binary32 b +ℤ f .applied .scale
 
 -- C * 2 ^ k times the reading
 abbrev pub exact : Factor → ℕ → Fraction → Fraction
-exact f b C = times (times C (power (f .applied .scale))) (readingAt b)
+exact f b C = times (scaledBy f C) (readingAt b)
 
 -- rounded as a binary32 number with unbounded exponents it is y
 abbrev pub GivesNumber : Factor → ℕ → Float → Fraction → Type 0
@@ -74,11 +74,11 @@ numbered d f b = let m = productOf f b (productAt d f b) in cond (zeroBits binar
 abbrev pub answerAt : Device → Factor → ℕ → Fraction
 answerAt d f b = let v = productAt d f b in record { minus = signOf binary32 b; num = v .significand * 2 ^ v .binade * up (scaled f b); den = hid binary32 * down (scaled f b) }
 
--- what is a device's own: of the two-step device, that both steps are those of the reading's significand and of the stored parts' own values
+-- what is a device's own: both steps of the two-step device are those of the reading's significand and of the stored parts' own values; the one-step device's answer is one multiplication of the standard
 abbrev pub Own : Device → Factor → ℕ → Float → Type 0
 Own Device.TwoStep f b y =
     T (fits binary32 (f .applied .high)) → T (fits binary32 (f .applied .low)) → (x : Float) → HasValue x false (significandOf binary32 b) (hid binary32) → StoredSteps f (significandOf binary32 b) x
-Own Device.OneStep f b y = Unit {0}
+Own Device.OneStep f b y = OneOperation multiplying f b (valueOf (prec binary32) (productAt Device.OneStep f b)) (answerAt Device.OneStep f b) y
 
 -- what the answer a to a reading with the bits b tells, unless it is a zero
 pub record Tells (d : Device) (f : Factor) (b : ℕ) (a : Marked Float) : Type 0 where
@@ -90,6 +90,7 @@ pub record Tells (d : Device) (f : Factor) (b : ℕ) (a : Marked Float) : Type 0
   -- its mark says what is true of every fraction between the ends, sign and scale on, and no other mark does
   pub says : SaysOf f b (a .value) (a .mark)
   pub alone : (m : Mark) → SaysOf f b (a .value) m → a .mark ≡ m
+  -- and it has what is its device's own
   pub own : Own d f b (a .value)
 
 -- of every answer: a zero is answered with plus zero, right; a refusal tells nothing
@@ -116,19 +117,10 @@ module _ (f : Factor) (b : ℕ) (v : Product) (y : Float) (is : HasValue y (sign
       RN-scaled (contextOf f .rule) (prec binary32) (two-le-pos (prec binary32) (two binary32)) (times C (argument (prec binary32) (significandOf binary32 b))) (exact f b C)
       (mul-pos positive (le-trans (pow-pos (prec binary32 - 1)) (significand-bits binary32 b .least)))
       (mul-pos some (pow-pos (prec binary32 - 1)))
-      (mul-pos (mul-pos some (down-pos k)) (mul-pos (pow-pos (prec binary32 - 1)) (down-pos e)))
-      z
-      (regroup (C .num) (C .den) (significandOf binary32 b) (hid binary32) (up e) (up k) (up (e +ℤ k)) (down e) (down k) (down (e +ℤ k)) (powers-add e k))
-    where
-      regroup : (N d X H u v w a c g : ℕ) → u * v * g ≡ w * (a * c) → N * v * (X * u) * (d * H * g) ≡ N * X * w * (d * c * (H * a))
-      regroup N d X H u v w a c g e = omega (arith, ap (λ (t : ℕ). t * (N * X * d * H)) e)
+      (mul-pos (mul-pos some (down-pos k)) (number-some binary32 e)) z (times-scaled C (argument (prec binary32) (significandOf binary32 b)) e k)
 
   q-sign : signOf binary32 b ≡ q .minus
-  q-sign = sym (ap (λ (m : Bool). unlike (unlike m false) (signOf binary32 b)) sign ∙ own (signOf binary32 b))
-    where
-      own : (s : Bool) → unlike (unlike false false) s ≡ s
-      own true = refl
-      own false = refl
+  q-sign = sym (ap (λ (m : Bool). unlike (unlike m false) (signOf binary32 b)) sign ∙ unlike-comm false (signOf binary32 b) ∙ unlike-plus (signOf binary32 b))
 
   pub to-reading : Same r (valueOf (prec binary32) v) → GivesNumber f b y C
   to-reading e =
@@ -148,12 +140,30 @@ module _ (f : Factor) (b : ℕ) (v : Product) (y : Float) (is : HasValue y (sign
       meet N H u c Q d R g G e w = eq-of-mul-eq-mul-right (u * d) G (R * H) (N * g) (omega (arith, ap (λ (t : ℕ). t * g) e, ap (λ (t : ℕ). t * H) w))
 
 -- the binade as a power of its own
-binade-apart : (y : Float) (s : Bool) (S B H : ℕ) → 0 < H → (e k : ℤ) → HasValue y s (S * up (e +ℤ (k +ℤ pos B))) (H * down (e +ℤ (k +ℤ pos B))) → HasValue y s (S * 2 ^ B * up (e +ℤ k)) (H * down (e +ℤ k))
-binade-apart y s S B H some e k is =
+binade-apart : (S B H : ℕ) (e k : ℤ) → S * up (e +ℤ (k +ℤ pos B)) * (H * down (e +ℤ k)) ≡ S * 2 ^ B * up (e +ℤ k) * (H * down (e +ℤ (k +ℤ pos B)))
+binade-apart S B H e k =
     let z = e +ℤ k in
-    revalue y s (S * up (z +ℤ pos B)) (H * down (z +ℤ pos B)) (S * 2 ^ B * up z) (H * down z) (mul-pos some (down-pos (z +ℤ pos B)))
-    (omega (arith, ap (λ (t : ℕ). t * (S * H)) (powers-add z (pos B))))
-    (subst (λ (w : ℤ). HasValue y s (S * up w) (H * down w)) (sym (+ℤ-assoc e k (pos B))) is)
+    subst (λ (w : ℤ). S * up w * (H * down z) ≡ S * 2 ^ B * up z * (H * down w)) (+ℤ-assoc e k (pos B)) (omega (arith, ap (λ (t : ℕ). t * (S * H)) (powers-add z (pos B))))
+
+-- ---- what is a device's own
+-- the one-step product is RN(Ch * x), ties to even
+one-step-rounds : (f : Factor) → Sound f → (X : ℕ) → HasBits (f .precision .bits) X → Same (RN toEven (f .precision .bits) (byHigh (f .precision .bits) (f .parts) X)) (valueOf (f .precision .bits) (oneStepBy f X))
+unfolding tieRule
+one-step-rounds = sound-value
+
+own : (d : Device) (f : Factor) (b : ℕ) → NoneHolds (unreadable f b) → let v = productAt d f b in exponentOut binary32 (productExponent f b v) ≡ false → Own d f b (numberOf binary32 (signOf binary32 b) (v .significand) (productExponent f b v))
+own Device.TwoStep f b h o = stored-steps f (intact-sound f (is-intact f b h)) (precision-is f b h) (significandOf binary32 b) (significand-bits binary32 b)
+own Device.OneStep f b h o =
+    let X = significandOf binary32 b in
+    let v = productAt Device.OneStep f b in
+    let sound = intact-sound f (is-intact f b h) in
+    let n = precision-is f b h in
+    let x-bits = subst (λ (m : ℕ). HasBits m X) (sym n) (significand-bits binary32 b) in
+    let is = formed Device.OneStep f sound X x-bits in
+    let rounds = subst (λ (m : ℕ). Same (RN toEven m (byHigh m (f .parts) X)) (valueOf m v)) n (one-step-rounds f sound X x-bits) in
+    one-operation f sound n multiplying multiplies b (v .significand) (pos (v .binade)) (productExponent f b v) (omega (arith, rounds .1)) (sym (+ℤ-assoc (exponentOf binary32 b) (f .applied .scale) (pos (v .binade))))
+    (subst (λ (m : ℕ). HasBits m (v .significand)) n (is .bits)) (out-none binary32 (pos (v .binade)) (v .binade + emax binary32) refl (omega arith) (omega (arith, is .binade))) o
+    (valueOf (prec binary32) v) (answerAt Device.OneStep f b) (refl, omega arith) (number-some binary32 (scaled f b)) (refl, binade-apart (v .significand) (v .binade) (hid binary32) (exponentOf binary32 b) (f .applied .scale))
 
 -- ---- a reading that is let through, and not a zero
 module _ (d : Device) (f : Factor) (b : ℕ) (h : NoneHolds (unreadable f b)) (nonzero : zeroBits binary32 b ≡ false) (o : exponentOut binary32 (productExponent f b (productAt d f b)) ≡ false) where
@@ -180,8 +190,10 @@ module _ (d : Device) (f : Factor) (b : ℕ) (h : NoneHolds (unreadable f b)) (n
 
   y-value : Is y (answerAt d f b)
   y-value =
-      let t = let-through binary32 (productExponent f b v) o in
-      binade-apart y (signOf binary32 b) (v .significand) (v .binade) (hid binary32) (pow-pos (prec binary32 - 1)) (exponentOf binary32 b) (f .applied .scale) (number-value binary32 (signOf binary32 b) (v .significand) (productExponent f b v) v-bits (t .0) (t .1) (t .2) (t .3))
+      let c = productExponent f b v in
+      let t = let-through binary32 c o in
+      revalue y (signOf binary32 b) (v .significand * up c) (hid binary32 * down c) _ _ (number-some binary32 c) (binade-apart (v .significand) (v .binade) (hid binary32) (exponentOf binary32 b) (f .applied .scale))
+      (number-value binary32 (signOf binary32 b) (v .significand) c v-bits (t .0) (t .1) (t .2) (t .3))
 
   y-normal : Normal binary32 (toBits binary32 y)
   y-normal = let t = let-through binary32 (productExponent f b v) o in number-normal binary32 (signOf binary32 b) (v .significand) (productExponent f b v) v-bits (t .0) (t .1) (t .2) (t .3)
@@ -198,35 +210,21 @@ module _ (d : Device) (f : Factor) (b : ℕ) (h : NoneHolds (unreadable f b)) (n
   from : (C : Fraction) → Ends C → GivesNumber f b y C → Gives (contextOf f) X v C
   from C k g = subst (λ (m : ℕ). Same (RN (contextOf f .rule) m (times C (argument m X))) (valueOf m v)) (sym n) (from-reading f b v y y-value C (above-zero C k) (k .some) (k .sign) g)
 
-  own : (d : Device) (y : Float) → Own d f b y
-  own Device.TwoStep y = λ i j x w. stored-steps f sound n X (significand-bits binary32 b) i j x w
-  own Device.OneStep y = tt
-
   tells : Tells d f b (record { mark = markBy f X v; value = y })
   tells =
       record {
-        reading = λ x fit e. subst (λ (c : ℕ). Is x (readingAt c)) e (normal-value binary32 x fit (subst (Normal binary32) (sym e) (is-normal f b h nonzero)));
+        reading = reading-is f b h nonzero;
         value = y-value;
         normal = y-normal;
         says = says-alike Ends (Gives (contextOf f) X v) (GivesNumber f b y) to from (markBy f X v) (mark-tells f sound X x-bits v (formed d f sound X x-bits .bits));
         alone = λ m s. mark-alone f sound X x-bits v (formed d f sound X x-bits .bits) m (says-alike Ends (GivesNumber f b y) (Gives (contextOf f) X v) from to m s);
-        own = own d y;
+        own = own d f b h o;
       }
 
 -- every answer to a reading tells the truth, whatever the device, the factor and the reading
 pub reading-tells : (d : Device) (f : Factor) (x : Float) → AnswerTells d f (toBits binary32 x) (applied d f x)
 unfolding applied
-reading-tells d f x = of-answer (AnswerTells d f b) (conditions f b (productExponent f b (productAt d f b))) (numbered d f b) (λ k. tt) (λ h. go (zeroBits binary32 b) refl h)
-  where
-    b : ℕ
-    b = toBits binary32 x
-
-    go : (z : Bool) → zeroBits binary32 b ≡ z → NoneHolds (conditions f b (productExponent f b (productAt d f b))) → AnswerTells d f b (accepted (numbered d f b))
-    go true z h = rw z (inl (refl, refl, refl))
-    go false z h =
-        let t = none-apart (unreadable f b) ((23, not (zeroBits binary32 b) && exponentOut binary32 (productExponent f b (productAt d f b))) ∷ []) h in
-        let o : exponentOut binary32 (productExponent f b (productAt d f b)) ≡ false = rw z at (t .1 .0) in
-        rw z (inr (refl, tells d f b (t .0) z o))
+reading-tells d f x = let b = toBits binary32 x in of-reading (AnswerTells d f b) f b (productOf f b (productAt d f b)) (λ k. tt) (λ z. inl (z, refl, refl)) (λ h z o. inr (z, tells d f b h z o))
 
 -- and a reading that none of 31 and 20 to 23 refuses is answered, with plus zero or the number with its mark
 pub reading-answered : (d : Device) (f : Factor) (x : Float) → let b = toBits binary32 x in NoneHolds (conditions f b (productExponent f b (productAt d f b))) → applied d f x ≡ accepted (numbered d f b)

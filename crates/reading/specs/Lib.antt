@@ -6,6 +6,8 @@ pub mod FirstLaws
 pub mod ReadingLaws
 pub mod AnswerLaws
 pub mod Standard
+pub mod OneOperation
+pub mod OneOperationLaws
 pub mod Demand2
 pub mod QuotientTells
 pub mod FromProduct

@@ -1,28 +1,28 @@
 -- Laws: both steps in the standard's own operations, on the values of the stored parts: u1 is the binary32 product of the stored low part and x, and u2 is
 -- IEEE 754-2019's fusedMultiplyAdd of the stored high part, x and u1: their exact sum of product and u1, rounded once to binary32. Assumes nothing.
-use mathlib.Core.Path.{_≡_, sym, ap, _∙_, subst}
+use mathlib.Core.Path.{_≡_, refl, sym, ap, _∙_, subst}
 use mathlib.Core.Bool.{Bool, false}
-use Prim.Native.Nat.{ℕ, _+_, _-_, _*_, _^_, _≤_, _<_}
-use native.Mathlib.Nat.{mul-pos, mul-le-mul, mul-le-mul-right, le-of-mul-le-mul-right, le-of-lt}
+use Prim.Native.Nat.{ℕ, _+_, _-_, _*_, _^_, _<_}
+use native.Mathlib.Nat.{mul-pos}
 use native.Mathlib.Omega.{arith}
-use lib.Dec.{T, lit≤}
+use lib.Dec.{T, lit<}
+use lib.IntN.{pos}
 use lib.Pow.{pow-pos}
 use lib.Ieee
-use lib.Ieee.{Float, binary32, prec, emax, hid, mul, down, unlike, fits}
+use lib.Ieee.{Float, binary32, prec, emax, hid, mul, unlike, fits}
 use lib.Ieee.Exact.{HasValue}
-use lib.Ieee.Fits.{down-pos}
 use lib.Ieee.Scale.{round-same}
 use Rattle.marks.specs.Answers.{accepted}
-use Rattle.rounding.specs.Round.{rounded, HasBits}
+use Rattle.rounding.specs.Round.{HasBits}
 use Rattle.rounding.specs.Fraction.{Fraction, times, plus, Same}
-use Rattle.rounding.specs.FractionLaws.{InUnits, plus-some, plus-same}
-use Rattle.rounding.specs.Ieee.{revalue, one-value, InRange, rounded-is-ieee}
+use Rattle.rounding.specs.FractionLaws.{InUnits, unlike-plus, plus-some, plus-same}
+use Rattle.rounding.specs.Ieee.{revalue, one-value}
 use Rattle.floats.specs.Fields.{unitAt}
-use Rattle.floats.specs.Times.{unlike-plus, unit-is}
+use Rattle.floats.specs.Times.{unit-is}
+use Rattle.floats.specs.NormalLaws.{rounds-normal}
 use Rattle.factor.specs.declared.Description.{Description}
 use Rattle.factor.specs.declared.Factor.{Factor}
 use Rattle.factor.specs.declared.Parts.{Parts}
-use Rattle.factor.specs.Precision.{scaleOf}
 use Rattle.factor.specs.Context.{tieRule, contextAt, lowerOf}
 use Rattle.factor.specs.Parts.{partsAt}
 use Rattle.factor.specs.UnitParts.{UnitParts, unitParts, unitPartsOf}
@@ -33,7 +33,7 @@ use Rattle.factor.specs.SetUpLaws.{intact-sound, accepted-intact}
 use Rattle.factor.specs.StoredLaws.{high-number, low-number, accepted-fits}
 use Rattle.product.specs.Product.{argument, high, low, first, fused, product, productBy, valueOf}
 use Rattle.product.specs.Units.{firstUnits, fusedUnits}
-use Rattle.product.specs.ProductLaws.{first-in-units, fused-in-units, fused-least, fused-near, product-value}
+use Rattle.product.specs.ProductLaws.{first-in-units, fused-in-units, fused-some, product-is, product-value}
 use Rattle.reading.specs.FirstLaws.{K32, fine-32, near-32, first-float}
 
 -- a float has the value q
@@ -63,37 +63,16 @@ module _ (c : ℕ) (ce : End K32 c) (X : ℕ) (xb : HasBits (prec binary32) X) w
   counts : InUnits (2 ^ t) false (fusedUnits K32 (unitParts K32 c) X) y
   counts = fused-in-units K32 fine-32 c ce X (xb .most)
 
-  -- from 1 to below 8
-  from-one : y .den ≤ y .num
-  unfolding scaleOf
-  from-one =
-      let U = fusedUnits K32 (unitParts K32 c) X in
-      let u : 2 ^ t ≤ U = omega (arith, fused-least K32 fine-32 c ce X (xb .most), xb .least) in
-      le-of-mul-le-mul-right {k = 2 ^ t} (omega (arith, counts .count, mul-le-mul-right (y .den) u)) (pow-pos t)
-
-  to-eight : y .num ≤ 8 * y .den
-  unfolding scaleOf
-  to-eight =
-      let U = fusedUnits K32 (unitParts K32 c) X in
-      let u : U ≤ 8 * 2 ^ t = omega (arith, fused-near K32 fine-32 c ce X (xb .most) .0, mul-le-mul (le-of-lt (ce .to)) (le-of-lt (xb .most))) in
-      le-of-mul-le-mul-right {k = 2 ^ t} (omega (arith, counts .count, mul-le-mul-right (y .den) u)) (pow-pos t)
-
-  in-range : InRange binary32 (y .num) (y .den)
-  in-range = record { from = least (y .num) (y .den) (hid binary32) (2 ^ Ieee.low binary32) from-one (lit≤ tt); to = most (y .num) (y .den) (2 ^ Ieee.low binary32) ((2 ^ prec binary32 - 1) * 2 ^ (2 * emax binary32 - 1)) to-eight (lit≤ tt) }
-    where
-      least : (N d a b : ℕ) → d ≤ N → a ≤ b → a * d ≤ N * b
-      least N d a b h k = omega (arith, mul-le-mul h k)
-
-      most : (N d a b : ℕ) → N ≤ 8 * d → 8 * a ≤ b → N * a ≤ b * d
-      most N d a b h k = omega (arith, mul-le-mul-right a h, mul-le-mul-right d k)
-
   fused-at : let v = product K32 (partsAt K32 c) X in HasValue (Ieee.round binary32 false (y .num) (y .den)) false (v .significand * 2 ^ v .binade) (hid binary32)
   unfolding tieRule
   fused-at =
-      let r = rounded tieRule (prec binary32) (y .num) (y .den) in
-      let x = Ieee.round binary32 false (y .num) (y .den) in
-      let v = valueOf (prec binary32) (product K32 (partsAt K32 c) X) in
-      revalue x false _ (down (r .exponent)) (v .num) (v .den) (down-pos (r .exponent)) (product-value K32 fine-32 c ce X (xb .most) (xb .least) .1) (rounded-is-ieee binary32 false (y .num) (y .den) (counts .some) in-range)
+      let v = product K32 (partsAt K32 c) X in
+      let S = v .significand in
+      let B = v .binade in
+      let is = product-is K32 fine-32 c ce X (xb .most) (xb .least) in
+      let some = fused-some K32 fine-32 c ce X (xb .most) (xb .least) in
+      revalue (Ieee.round binary32 false (y .num) (y .den)) false (S * 2 ^ B) (hid binary32 * 1) (S * 2 ^ B) (hid binary32) (lit< tt) (omega arith)
+      (rounds-normal binary32 false y (some .0) (some .1) S (pos B) (B + (emax binary32 - 1)) (is .bits) refl (omega (arith, is .binade)) (omega (arith, product-value K32 fine-32 c ce X (xb .most) (xb .least) .1)))
 
   first-count : let u = first K32 (partsAt K32 c) X in (0 < u .den) × (u .num * 2 ^ t ≡ firstUnits K32 (unitPartsOf K32 (partsAt K32 c)) X * u .den)
   first-count =

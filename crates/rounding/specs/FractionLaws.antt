@@ -92,7 +92,7 @@ module _ (rule : Rule) (n : ℕ) (P : 0 < n) (x y : Fraction) (X : 0 < x .num) (
   RN-scaled (negsuc b) = scaled-by (negsuc b) 0 (suc b) (omega arith)
 
 -- and so do the order and equality of two fractions
-pub at-most-scaled : (z : ℤ) (x y a b : Fraction) → 0 < x .den → 0 < y .den → Scaled z x a → Scaled z y b → AtMost x y → AtMost a b
+at-most-scaled : (z : ℤ) (x y a b : Fraction) → 0 < x .den → 0 < y .den → Scaled z x a → Scaled z y b → AtMost x y → AtMost a b
 at-most-scaled z x y a b X Y c d h =
     le-of-mul-le-mul-right {k = x .den * y .den * down z}
     (omega (arith, ap (λ (t : ℕ). t * (y .den * b .den)) c, ap (λ (t : ℕ). t * (x .den * a .den)) d, mul-le-mul-right (up z * a .den * b .den) h)) (mul-pos (mul-pos X Y) (down-pos z))
@@ -104,20 +104,37 @@ same-scaled z x y a b X Y c d e = le-antisymm (at-most-scaled z x y a b X Y c d 
 pub RN-negated : (rule : Rule) (n : ℕ) (x : Fraction) → RN rule n (negated x) ≡ negated (RN rule n x)
 RN-negated rule n x = refl
 
+-- ---- signs
+pub unlike-plus : (s : Bool) → unlike s false ≡ s
+unlike-plus true = refl
+unlike-plus false = refl
+
+pub unlike-comm : (s t : Bool) → unlike s t ≡ unlike t s
+unlike-comm true true = refl
+unlike-comm true false = refl
+unlike-comm false true = refl
+unlike-comm false false = refl
+
+unlike-assoc : (s t u : Bool) → unlike (unlike s t) u ≡ unlike s (unlike t u)
+unlike-assoc true true true = refl
+unlike-assoc true true false = refl
+unlike-assoc true false true = refl
+unlike-assoc true false false = refl
+unlike-assoc false true true = refl
+unlike-assoc false true false = refl
+unlike-assoc false false true = refl
+unlike-assoc false false false = refl
+
 -- ---- products
 pub times-in-units : (T S : ℕ) (a b : ℕ) (m : Bool) (x y : Fraction) → InUnits T m a x → InUnits S false b y → InUnits (T * S) m (a * b) (times x y)
 times-in-units T S a b m x y c d =
     record {
       unit = mul-pos (c .unit) (d .unit);
       some = mul-pos (c .some) (d .some);
-      sign = ap₂ unlike (c .sign) (d .sign) ∙ unlike-false m;
+      sign = ap₂ unlike (c .sign) (d .sign) ∙ unlike-plus m;
       count = regroup (x .num) (y .num) T S ∙ ap₂ (λ (p q : ℕ). p * q) (c .count) (d .count) ∙ regroup a (x .den) b (y .den);
     }
   where
-    unlike-false : (m : Bool) → unlike m false ≡ m
-    unlike-false true = refl
-    unlike-false false = refl
-
     regroup : (p q u v : ℕ) → p * q * (u * v) ≡ p * u * (q * v)
     regroup p q u v = omega arith
 
@@ -128,22 +145,18 @@ times-positive x y p q = record { sign = ap₂ unlike (p .sign) (q .sign); above
 pub ratio-positive : (x y : Fraction) → Positive x → Positive y → Positive (ratio x y)
 ratio-positive x y p q = record { sign = ap₂ unlike (p .sign) (q .sign); above = mul-pos (p .above) (q .some); some = mul-pos (p .some) (q .above) }
 
--- dividing twice is dividing by the product
+-- dividing twice is dividing by the product, and so with multiplying
 pub ratio-twice : (x y z : Fraction) → ratio (ratio x y) z ≡ ratio x (times z y)
 ratio-twice x y z =
     let n : x .num * y .den * z .den ≡ x .num * (z .den * y .den) = omega arith in
     let d : x .den * y .num * z .num ≡ x .den * (z .num * y .num) = omega arith in
-    λ i. record { minus = signs (x .minus) (y .minus) (z .minus) i; num = n i; den = d i }
-  where
-    signs : (a b c : Bool) → unlike (unlike a b) c ≡ unlike a (unlike c b)
-    signs true true true = refl
-    signs true true false = refl
-    signs true false true = refl
-    signs true false false = refl
-    signs false true true = refl
-    signs false true false = refl
-    signs false false true = refl
-    signs false false false = refl
+    λ i. record { minus = (unlike-assoc (x .minus) (y .minus) (z .minus) ∙ ap (unlike (x .minus)) (unlike-comm (y .minus) (z .minus))) i; num = n i; den = d i }
+
+pub times-twice : (x y z : Fraction) → times z (times y x) ≡ times (times z y) x
+times-twice x y z =
+    let n : z .num * (y .num * x .num) ≡ z .num * y .num * x .num = omega arith in
+    let d : z .den * (y .den * x .den) ≡ z .den * y .den * x .den = omega arith in
+    λ i. record { minus = sym (unlike-assoc (z .minus) (y .minus) (x .minus)) i; num = n i; den = d i }
 
 -- ---- sums
 -- the sign and the size of ± a ± b

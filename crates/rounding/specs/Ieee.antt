@@ -1,12 +1,12 @@
--- Laws: RN with ties to even is the toolchain's own account of the standard: over a format of 24 or 53 bits, for every fraction in its normal range,
+-- Laws: RN with ties to even is the toolchain's own account of the standard: over a format of 24 or 53 bits, wherever RN is one of its normal numbers,
 -- the value that `lib.Ieee.round` gives. Assumes nothing.
 use mathlib.Core.Path.{_≡_, refl, sym, ap, _∙_, subst}
 use mathlib.Core.Bool.{Bool, cond}
 use Prim.Native.Nat.{ℕ, _+_, _-_, _*_, _/_, _%_, _^_, _≤_, _<_, compare, Ordering, Ordering·lt, Ordering·eq, Ordering·gt}
-use native.Mathlib.Nat.{div-add-mod', mod-lt, mul-pos, mul-right-comm, eq-of-mul-eq-mul-right, lt-of-le-of-lt}
+use native.Mathlib.Nat.{div-add-mod', mod-lt, mul-pos, mul-le-mul, mul-le-mul-left, mul-right-comm, eq-of-mul-eq-mul-right, lt-of-le-of-lt}
 use native.Mathlib.Omega.{arith}
 use lib.Dec.{T, isLe, isEq, lit<}
-use lib.Pow.{pow-pos}
+use lib.Pow.{pow-add, pow-pos, pow-mono, le-ones}
 use lib.Ieee
 use lib.Ieee.{Float, nan, inf, fin, Format, binary32, binary64, prec, emax, low, up, down, hid, top, size, fits, toBits, ofBits}
 use lib.Ieee.Bits.{ofBits-toBits}
@@ -20,10 +20,10 @@ use borrow.Author.Tests.{leb-true, leb-false, eqb-true, eqb-false}
 use Rattle.rounding.specs.declared.Location.the-variants.{Half, AboveHalf}
 use Rattle.rounding.specs.Grid.{nearest, toEven}
 use Rattle.rounding.specs.GridLaws.{even-up, Nearest, tie-remainder, choose-nearest, nearest-only}
-use Rattle.rounding.specs.Digits.{pow-half}
+use Rattle.rounding.specs.Digits.{enough-digits}
 use Rattle.rounding.specs.Unit.{kept, rn}
-use Rattle.rounding.specs.UnitLaws.{rn-le, rn-fixed}
-use Rattle.rounding.specs.Round.{rounded, Equals}
+use Rattle.rounding.specs.UnitLaws.{rn-fixed, rn-coarser}
+use Rattle.rounding.specs.Round.{rounded, Equals, HasBits}
 use Rattle.rounding.specs.RoundLaws.{rounded-value}
 
 -- ---- the nearest whole number
@@ -70,30 +70,29 @@ pub round-value : (f : Format) (s : Bool) (a c : ℕ) → grid f a c < overflow 
 round-value f s a c h =
     subst (λ (z : Float). HasValue z s (grid f a c) (2 ^ low f)) (sym (round-is f s a c)) (units-val f s (Order.kept (prec f) (a * 2 ^ low f) c) (drop (prec f) (a * 2 ^ low f) c) h)
 
--- N / d is not below the least normal number of the format nor above its largest
-pub record InRange (f : Format) (N d : ℕ) : Type 0 where
-  pub from : 2 ^ (prec f - 1) * d ≤ N * 2 ^ low f
-  pub to : N * 2 ^ low f ≤ (2 ^ prec f - 1) * 2 ^ (2 * emax f - 1) * d
-
 -- the format's largest number, in units of its smallest, is below the overflow
 largest : (f : Format) → (2 ^ prec f - 1) * 2 ^ (2 * emax f - 1) < overflow f
 largest binary32 = lit< tt
 largest binary64 = lit< tt
 
-pub rounded-is-ieee : (f : Format) (s : Bool) (N d : ℕ) → 0 < d → InRange f N d
-    → HasValue (Ieee.round f s N d) s (rounded toEven (prec f) N d .significand * up (rounded toEven (prec f) N d .exponent)) (down (rounded toEven (prec f) N d .exponent))
-rounded-is-ieee f s N d D w =
+-- where RN of N / d, with exponents unbounded, is a normal number of the format, m * 2 ^ j times its smallest value, that is what the format rounds to; N / d itself may lie below the least one
+pub rounded-is-ieee : (f : Format) (s : Bool) (N d m j : ℕ) → 0 < N → 0 < d → HasBits (prec f) m → j ≤ 2 * emax f - 1 → Equals (rounded toEven (prec f) N d) (m * 2 ^ j) (2 ^ low f) → HasValue (Ieee.round f s N d) s (m * 2 ^ j) (2 ^ low f)
+rounded-is-ieee f s N d m j M D bits few is =
     let p = prec f in
     let P : 0 < p = two-le-pos p (two f) in
     let r = rounded toEven p N d in
-    let M = N * 2 ^ low f in
-    let h : 2 ^ p * d ≤ 2 * M = omega (arith, w .from, ap (λ (z : ℕ). z * d) (pow-half p P)) in
-    let v : Equals r (rn toEven p M d) (2 ^ low f) = rounded-value toEven p P N d (low f) M d D D refl h in
-    let g = rn-grid f N d D in
-    let b : rn toEven p M d ≤ (2 ^ p - 1) * 2 ^ (2 * emax f - 1) = rn-le toEven p P M d (2 ^ p - 1) (2 * emax f - 1) D (omega arith) (w .to) in
-    revalue (Ieee.round f s N d) s (grid f N d) (2 ^ low f) (r .significand * up (r .exponent)) (down (r .exponent)) (pow-pos (low f))
-    (sym (v ∙ ap (λ (z : ℕ). z * down (r .exponent)) g))
-    (round-value f s N d (lt-of-le-of-lt (subst (λ (z : ℕ). z ≤ (2 ^ p - 1) * 2 ^ (2 * emax f - 1)) g b) (largest f)))
+    let t = p + size d in
+    let A = N * 2 ^ low f in
+    let v : Equals r (rn toEven p (A * 2 ^ t) d) (2 ^ (low f + t)) = rounded-value toEven p P N d (low f + t) (A * 2 ^ t) d D D (finer N (2 ^ low f) (2 ^ t) (2 ^ (low f + t)) d (pow-add 2 (low f) t)) (enough-digits p A d t (mul-pos M (pow-pos (low f))) (omega arith)) in
+    let e : rn toEven p (A * 2 ^ t) d ≡ m * 2 ^ j * 2 ^ t = eq-of-mul-eq-mul-right (down (r .exponent)) (down-pos (r .exponent)) (rn toEven p (A * 2 ^ t) d) (m * 2 ^ j * 2 ^ t) (same (r .significand * up (r .exponent)) (2 ^ low f) (2 ^ t) (2 ^ (low f + t)) (rn toEven p (A * 2 ^ t) d) (m * 2 ^ j) (down (r .exponent)) (pow-add 2 (low f) t) v is) in
+    let g : grid f N d ≡ m * 2 ^ j = sym (rn-grid f N d D) ∙ rn-coarser toEven p P A d t (m * 2 ^ j) D e (omega (arith, bits .least, mul-le-mul-left m (pow-pos j))) in
+    subst (λ (z : ℕ). HasValue (Ieee.round f s N d) s z (2 ^ low f)) g (round-value f s N d (rw g (lt-of-le-of-lt (mul-le-mul (le-ones p (bits .most)) (pow-mono few)) (largest f))))
+  where
+    finer : (N A B C d : ℕ) → C ≡ A * B → N * C * d ≡ N * A * B * d
+    finer N A B C d e = omega (arith, ap (λ (z : ℕ). N * z * d) e)
+
+    same : (a A B C R U g : ℕ) → C ≡ A * B → a * C ≡ R * g → a * A ≡ U * g → R * g ≡ U * B * g
+    same a A B C R U g c v w = omega (arith, ap (λ (z : ℕ). a * z) c, ap (λ (z : ℕ). z * B) w)
 
 -- ---- floats by their values
 -- the bit pattern of a number of units of the smallest value

@@ -2,8 +2,8 @@
 -- scaled by powers of two, and constant where none of its midpoints lies. Assumes nothing.
 use mathlib.Core.Path.{_≡_, refl, sym, ap, _∙_, subst}
 use mathlib.Core.Logic.{inl, inr}
-use Prim.Native.Nat.{ℕ, suc, _+_, _-_, _*_, _^_, _≤_, _<_}
-use native.Mathlib.Nat.{mul-le-mul-right, le-trans, le-of-eq, le-antisymm, lt-of-not-le, mul-assoc, mul-pos, eq-or-lt-of-le, lt-of-mul-lt-mul-right, mul-lt-mul-of-pos-right, mul-one, pow-succ'}
+use Prim.Native.Nat.{ℕ, zero, suc, _+_, _-_, _*_, _^_, _≤_, _<_}
+use native.Mathlib.Nat.{mul-le-mul-right, le-trans, le-of-eq, le-antisymm, lt-of-not-le, mul-assoc, mul-pos, eq-or-lt-of-le, le-of-mul-le-mul-right, eq-of-mul-eq-mul-right, le-of-suc-le-suc, lt-of-mul-lt-mul-right, mul-lt-mul-of-pos-right, mul-one, pow-succ'}
 use native.Mathlib.Decide.{decLe, decLt}
 use native.Mathlib.Omega.{arith}
 use lib.Pow.{pow-add, pow-pos, pow-mono}
@@ -138,6 +138,26 @@ module _ (rule : Rule) (n : ℕ) (P : 0 < n) where
       go (no h) =
           let l : N ≤ 2 ^ n = omega (arith, lt-of-not-le h) in
           ap (λ (z : ℕ). rn rule n z 1) (omega arith) ∙ rn-fixed N t 1 (omega arith) l ∙ ap (λ (z : ℕ). z * 2 ^ t) (sym (rn-whole-small N l))
+
+  -- a value of n bits that a finer unit gives is what the unit itself gives, also where N / d lies below 2 ^ (n - 1) and is rounded up to it
+  pub rn-coarser : (N d t m : ℕ) → 0 < d → rn rule n (N * 2 ^ t) d ≡ m * 2 ^ t → 2 ^ (n - 1) ≤ m → rn rule n N d ≡ m
+  rn-coarser N d t m D e lo = go (decLe (2 ^ n * d) (2 * N))
+    where
+      below : (t : ℕ) → rn rule n (N * 2 ^ t) d ≡ m * 2 ^ t → 2 * N < 2 ^ n * d → rn rule n N d ≡ m
+      below zero e l = ap (λ (z : ℕ). rn rule n z d) (omega arith) ∙ e ∙ omega arith
+      below (suc u) e l =
+          let r = rn rule n N d in
+          let finer : N * 2 ^ suc u ≤ 2 ^ (n + u) * d = omega (arith, mul-lt-mul-of-pos-right l (pow-pos u), ap (λ (z : ℕ). N * z) (pow-succ' 2 u), ap (λ (z : ℕ). z * d) (pow-add 2 n u)) in
+          let up : 4 * (m * d) ≤ 4 * N + d = le-of-mul-le-mul-right {k = 2 ^ u} (omega (arith, rn-error (N * 2 ^ suc u) d u D finer .0, ap (λ (z : ℕ). z * d) e, ap (λ (z : ℕ). m * d * z) (pow-succ' 2 u), ap (λ (z : ℕ). N * z) (pow-succ' 2 u))) (pow-pos u) in
+          let whole : 2 ^ (n + 0) * d ≡ 2 ^ n * d = ap (λ (z : ℕ). 2 ^ z * d) (omega arith) in
+          let own = rn-error N d 0 D (omega arith) in
+          let under = mul-le-mul-right d lo in
+          let half = ap (λ (z : ℕ). z * d) (pow-half n P) in
+          le-antisymm (le-of-suc-le-suc (lt-of-mul-lt-mul-right d {m = r} {n = suc m} (omega (arith, own)))) (le-of-suc-le-suc (lt-of-mul-lt-mul-right d {m = m} {n = suc r} (omega (arith, own))))
+
+      go : Dec (2 ^ n * d ≤ 2 * N) → rn rule n N d ≡ m
+      go (yes h) = eq-of-mul-eq-mul-right (2 ^ t) (pow-pos t) (rn rule n N d) m (sym (rn-scale N d t D h) ∙ e)
+      go (no h) = below t e (lt-of-not-le h)
 
   -- ---- in a binade with both its ends
   pub rn-at : (N d k : ℕ) → 0 < d → 2 ^ (n + k) * d ≤ 2 * N → N ≤ 2 ^ (n + k) * d → rn rule n N d ≡ nearest rule N (d * 2 ^ k) * 2 ^ k

@@ -1,5 +1,5 @@
 -- `reading::product_of` meets its contract, device by device. Assumes nothing.
-use mathlib.Core.Path.{_≡_, sym, ap, ap₂, _∙_, subst}
+use mathlib.Core.Path.{sym, ap₂, _∙_, subst}
 use Prim.Native.Nat.{ℕ}
 use lib.Ieee.{binary32, prec}
 use borrow.Author.Needs.{needs}

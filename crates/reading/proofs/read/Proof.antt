@@ -1,7 +1,7 @@
 -- `reading::read` meets its contract: refused, a zero, or the product on the device and what becomes of it. Assumes nothing.
 use mathlib.Core.Path.{ap, _∙_, subst}
 use Prim.Native.Nat.{ℕ}
-use lib.Ieee.{Float, binary32, prec}
+use lib.Ieee.{Float, binary32}
 use borrow.Author.Needs.{needs}
 use Rattle.marks.specs.declared.Mark.{Mark}
 use Rattle.marks.specs.Answers.{accepted, Marked}

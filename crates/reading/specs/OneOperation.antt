@@ -1,0 +1,54 @@
+-- One operation of the standard on a reading and Ch * 2 ^ k, a division (request W1) or a multiplication (request W2), and what the answer is by it. Definitions only. Assumes nothing.
+use mathlib.Core.Path.{_≡_}
+use Prim.Native.Nat.{ℕ, _*_}
+use lib.Dec.{T}
+use lib.IntN.{ℤ, _+ℤ_, _-ℤ_}
+use lib.Ieee.{Float, binary32, prec, hid, up, down, fits, mul, div}
+use Rattle.rounding.specs.Fraction.{Fraction, over, power, times, ratio, distance, Below}
+use Rattle.rounding.specs.Ulp.{ulp}
+use Rattle.floats.specs.Fields.{signOf, significandOf, exponentOf}
+use Rattle.factor.specs.declared.Factor.{Factor}
+use Rattle.factor.specs.Context.{contextOf, lowerOf, upperOf}
+use Rattle.factor.specs.Ends.{Between}
+use Rattle.factor.specs.SetUp.{floatIn}
+use Rattle.product.specs.Product.{argument, high}
+use Rattle.reading.specs.Standard.{Is}
+
+-- a normal reading as a number, by its bits b
+abbrev pub readingAt : ℕ → Fraction
+readingAt b = record { minus = signOf binary32 b; num = significandOf binary32 b * up (exponentOf binary32 b); den = hid binary32 * down (exponentOf binary32 b) }
+
+-- a constant with the scale put on: C * 2 ^ k
+abbrev pub scaledBy : Factor → Fraction → Fraction
+scaledBy f C = times C (power (f .applied .scale))
+
+-- Ch * 2 ^ k
+abbrev pub appliedHigh : Factor → Fraction
+appliedHigh f = scaledBy f (high (prec binary32) (f .parts))
+
+-- ---- an operation on a number and a constant: on floats, rounded by the format; on fractions, exactly; and on the exponents of powers of two that they have
+pub record Operation : Type 0 where
+  pub inFormat : Float → Float → Float
+  pub exactly : Fraction → Fraction → Fraction
+  pub exponents : ℤ → ℤ → ℤ
+
+abbrev pub dividing : Operation
+dividing = record { inFormat = div binary32; exactly = ratio; exponents = λ e k. e -ℤ k }
+
+abbrev pub multiplying : Operation
+multiplying = record { inFormat = mul binary32; exactly = λ x c. times c x; exponents = λ e k. e +ℤ k }
+
+-- ---- what is said of an answer
+-- y is less than 3/2 ulp from x; the ulp is that of the size, exponents unbounded
+abbrev pub Near : (n : ℕ) → (y x : Fraction) → Type 0
+Near n y x = Below (distance y x) (times (over 3 1) (ulp n x))
+
+-- what the answer y to a reading with the bits b is by an operation, v being the value of the significands and a that of y
+pub record OneOperation (o : Operation) (f : Factor) (b : ℕ) (v a : Fraction) (y : Float) : Type 0 where
+  -- the operation on x, as a float, and the stored high part, which as every f32 fits the format, is v
+  pub significands : T (fits binary32 (f .applied .high)) → (x : Float) → Is x (argument (prec binary32) (significandOf binary32 b)) → Is (o .inFormat x (f .applied .high)) v
+  -- and that on the reading itself and Ch * 2 ^ k, which is a binary32 number, is y
+  pub held : Is (floatIn binary32 (appliedHigh f)) (appliedHigh f)
+  pub standard : (x g : Float) → Is x (readingAt b) → Is g (appliedHigh f) → o .inFormat x g ≡ y
+  -- and, with C * 2 ^ k in place of Ch * 2 ^ k and exactly, the operation is less than 3/2 ulp from a for every C between the ends, with signs
+  pub near : (C : Fraction) → Between (contextOf f) (lowerOf f) (upperOf f) C → Near (prec binary32) a (o .exactly (readingAt b) (scaledBy f C))
