@@ -1,4 +1,4 @@
--- Figures: document 01's two readings at scale 100, one reading of every kind, and one on which a fused step in binary64 would fail; request W1's girth, quotients of every kind of reading, and both limits of 23 in both binades. All by computation. Assumes nothing.
+-- Figures: document 01's two readings at scale 100, one reading of every kind, one that is rounded up to the least normal number, and one on which a fused step in binary64 would fail, on both devices; a girth on which the one-step device fails (request W2); request W1's girth, quotients of every kind of reading, and both limits of 23 in both binades. All by computation. Assumes nothing.
 use mathlib.Core.Path.{_≡_, refl}
 use mathlib.Core.Bool.{true, false}
 use Prim.Native.Nat.{ℕ, _+_, _*_, _^_}
@@ -17,56 +17,83 @@ use Rattle.product.specs.declared.Device.{Device}
 use Rattle.reading.specs.Reading.{applied}
 use Rattle.reading.specs.Divided.{dividedReading}
 
--- both ends at c / 2 ^ 62, and what is right
+-- both ends at c / 2 ^ 62, and what is right or wrong
 abbrev at : (n : ℕ) → ℤ → (c : ℕ) → Description
 at n k c = record { precision = n; scale = k; lower = c; upper = c }
 
 abbrev right : Float → Outcome (Marked Float)
 right y = accepted (record { mark = Mark.Right; value = y })
 
+abbrev wrong : Float → Outcome (Marked Float)
+wrong y = accepted (record { mark = Mark.Wrong; value = y })
+
 -- C = 3/2, n = 24, at a scale
 threeHalves : ℤ → Factor
 unfolding scaleOf tieRule partsAt appliedOf
 threeHalves k = factorOf (at 24 k (3 * 2 ^ 61))
 
--- what a reading is answered with there
-abbrev Gives : ℤ → Float → Outcome (Marked Float) → Type 0
-Gives k x o = applied Device.TwoStep (threeHalves k) x ≡ o
+-- 1/π, n = 24, scale -2
+byPi : Factor
+unfolding scaleOf tieRule partsAt appliedOf
+byPi = factorOf (record { precision = 24; scale = negsuc 1; lower = 0x517CC1B727220A94; upper = 0x517CC1B727220A95 })
+
+-- ---- multiplied
+-- what a reading is answered with there, on a device: C = 3/2 has no low part, so that both answer alike
+abbrev Gives : Device → ℤ → Float → Outcome (Marked Float) → Type 0
+Gives d k x o = applied d (threeHalves k) x ≡ o
 
 -- 2 ^ 27 at scale 100 is accepted, 2 ^ 28 refused with 23
-scale-100 : Gives (pos 100) (fin false 1 (pos 27)) (right (fin false 3 (pos 126))) × Gives (pos 100) (fin false 1 (pos 28)) (refused 23)
+scale-100 : (d : Device) → Gives d (pos 100) (fin false 1 (pos 27)) (right (fin false 3 (pos 126))) × Gives d (pos 100) (fin false 1 (pos 28)) (refused 23)
 unfolding threeHalves applied answer judged Ieee.toBits
-scale-100 = (refl, refl)
+scale-100 Device.TwoStep = (refl, refl)
+scale-100 Device.OneStep = (refl, refl)
 
--- a zero with a sign, an infinity, a NaN, a subnormal, and a negative reading
+-- a zero of either sign, an infinity, a NaN, a subnormal, and a negative reading; n = 23, and a factor that no set-up gives
 kinds :
-    Gives (pos 0) (fin true 0 (pos 0)) (right (fin false 0 (pos 0)))
-    × Gives (pos 0) (inf true) (refused 21)
-    × Gives (pos 0) nan (refused 21)
-    × Gives (pos 0) (fin false 1 (negsuc 148)) (refused 22)
-    × Gives (pos 0) (fin true 3 (pos 0)) (right (fin true 9 (negsuc 0)))
-unfolding threeHalves applied answer judged Ieee.toBits
-kinds = (refl, refl, refl, refl, refl)
+    (d : Device)
+    → Gives d (pos 0) (fin true 0 (pos 0)) (right (fin false 0 (pos 0)))
+    × Gives d (pos 0) (fin false 0 (pos 0)) (right (fin false 0 (pos 0)))
+    × Gives d (pos 0) (inf true) (refused 21)
+    × Gives d (pos 0) nan (refused 21)
+    × Gives d (pos 0) (fin false 1 (negsuc 148)) (refused 22)
+    × Gives d (pos 0) (fin true 3 (pos 0)) (right (fin true 9 (negsuc 0)))
+    × (applied d (factorOf (at 23 (pos 0) (3 * 2 ^ 61))) (inf false) ≡ refused 20)
+    × (applied d (factorOf (at 3 (pos 0) (3 * 2 ^ 61))) nan ≡ refused 31)
+unfolding threeHalves scaleOf tieRule partsAt appliedOf applied answer judged Ieee.toBits
+kinds Device.TwoStep = (refl, refl, refl, refl, refl, refl, refl, refl)
+kinds Device.OneStep = (refl, refl, refl, refl, refl, refl, refl, refl)
 
 -- the least exponent of a product, and one below it
-least-exponent : Gives (negsuc 99) (fin false 1 (negsuc 25)) (right (fin false 3 (negsuc 126))) × Gives (negsuc 99) (fin false 1 (negsuc 26)) (refused 23)
+least-exponent : (d : Device) → Gives d (negsuc 99) (fin false 1 (negsuc 25)) (right (fin false 3 (negsuc 126))) × Gives d (negsuc 99) (fin false 1 (negsuc 26)) (refused 23)
 unfolding threeHalves applied answer judged Ieee.toBits
-least-exponent = (refl, refl)
+least-exponent Device.TwoStep = (refl, refl)
+least-exponent Device.OneStep = (refl, refl)
 
--- n = 23 is refused with 20, an infinity offered to it too
-short : applied Device.TwoStep (factorOf (at 23 (pos 0) (3 * 2 ^ 61))) (inf false) ≡ refused 20
+-- C = 11000005 / 2 ^ 23 and x = 12794311 / 2 ^ 23: Ch * x lies below 2 and rounds up to it. So at scale -100 a product below the least normal number is that number, and half of it is refused with 23
+carried :
+    (d : Device)
+    → (applied d (factorOf (at 24 (negsuc 99) (11000005 * 2 ^ 39))) (fin false 12794311 (negsuc 49)) ≡ right (fin false 1 (negsuc 125)))
+    × (applied d (factorOf (at 24 (negsuc 99) (11000005 * 2 ^ 39))) (fin false 12794311 (negsuc 50)) ≡ refused 23)
 unfolding scaleOf tieRule partsAt appliedOf applied answer judged Ieee.toBits
-short = refl
+carried Device.TwoStep = (refl, refl)
+carried Device.OneStep = (refl, refl)
 
--- C = 3/2 + 2 ^ -62 and x = 11184814 / 2 ^ 23: Ch * x lies half way between two numbers, and u1, 63 places below its leading digit, decides. In binary64 it would be lost, and the tie go down to 8388610
-fused-once : applied Device.TwoStep (factorOf (at 24 (pos 0) (3 * 2 ^ 61 + 1))) (fin false 5592407 (negsuc 21)) ≡ right (fin false 8388611 (negsuc 21))
+-- C = 3/2 + 2 ^ -62 and x = 11184814 / 2 ^ 23: Ch * x lies half way between two numbers, and u1, 63 places below its leading digit, decides. In binary64 it would be lost, and the tie go down to 8388610, as it does on the one-step device
+fused-once :
+    (applied Device.TwoStep (factorOf (at 24 (pos 0) (3 * 2 ^ 61 + 1))) (fin false 5592407 (negsuc 21)) ≡ right (fin false 8388611 (negsuc 21)))
+    × (applied Device.OneStep (factorOf (at 24 (pos 0) (3 * 2 ^ 61 + 1))) (fin false 5592407 (negsuc 21)) ≡ wrong (fin false 4194305 (negsuc 20)))
 unfolding scaleOf tieRule partsAt appliedOf applied answer judged Ieee.toBits
-fused-once = refl
+fused-once = (refl, refl)
+
+-- 1/π: the girth 0.942477822, bits 3F71463A, gives the diameter 0.300000012, bits 3E99999A, right, and 0.299999982, bits 3E999999, wrong, on the one-step device
+diameter : (applied Device.TwoStep byPi (fin false 7906077 (negsuc 22)) ≡ right (fin false 5033165 (negsuc 23))) × (applied Device.OneStep byPi (fin false 7906077 (negsuc 22)) ≡ wrong (fin false 10066329 (negsuc 24)))
+unfolding byPi applied answer judged Ieee.toBits
+diameter = (refl, refl)
 
 -- ---- divided
--- 1/π, n = 24, scale -2: a diameter of 1/2 gives the girth 1.5707964, whose bits are 3FC90FDB
-girth : dividedReading (factorOf (record { precision = 24; scale = negsuc 1; lower = 0x517CC1B727220A94; upper = 0x517CC1B727220A95 })) (fin false 1 (negsuc 0)) ≡ accepted (fin false 13176795 (negsuc 22))
-unfolding scaleOf tieRule partsAt appliedOf dividedReading answer judged Ieee.toBits
+-- 1/π: a diameter of 1/2 gives the girth 1.5707964, whose bits are 3FC90FDB
+girth : dividedReading byPi (fin false 1 (negsuc 0)) ≡ accepted (fin false 13176795 (negsuc 22))
+unfolding byPi dividedReading answer judged Ieee.toBits
 girth = refl
 
 -- C = 3/2: a zero of either sign, an infinity, a NaN, a subnormal, and a negative reading; n = 23, and a factor that no set-up gives
