@@ -14,7 +14,7 @@ use lib.Ieee.Fits.{up-pos, down-pos}
 use Rattle.marks.specs.Answers.{NoneHolds}
 use Rattle.rounding.specs.Grid.{toEven}
 use Rattle.rounding.specs.Round.{HasBits}
-use Rattle.rounding.specs.Fraction.{Fraction, over, power, withSign, times, RN, Same, Positive}
+use Rattle.rounding.specs.Fraction.{Fraction, over, power, signedAs, times, RN, Same, Positive}
 use Rattle.rounding.specs.FractionLaws.{RN-some, Scaled, unlike-plus, unlike-comm, times-positive, ratio-positive, ratio-twice, times-twice, distance-same}
 use Rattle.rounding.specs.Ulp.{ulp}
 use Rattle.rounding.specs.UlpLaws.{error-signed}
@@ -51,7 +51,7 @@ pub record Lawful (o : Operation) : Type 0 where
   -- of floats it is the exact value, rounded
   pub value : (x g : Float) (p c : Fraction) → 0 < p .den → Positive c → Is x p → Is g c → o .inFormat x g ≡ floatIn binary32 (o .exactly p c)
   -- the number's sign is put on last
-  pub signs : (s : Bool) (p c : Fraction) → c .minus ≡ false → o .exactly (withSign s p) c ≡ withSign s (o .exactly p c)
+  pub signs : (s : Bool) (p c : Fraction) → c .minus ≡ false → o .exactly (signedAs s p) c ≡ signedAs s (o .exactly p c)
   pub positive : (p c : Fraction) → Positive p → Positive c → Positive (o .exactly p c)
   -- powers of two go along, and one constant after another is their product
   pub along : (p c : Fraction) (e k : ℤ) → Scaled (o .exponents e k) (o .exactly p c) (o .exactly (times p (power e)) (times c (power k)))
@@ -63,7 +63,7 @@ pub divides : Lawful dividing
 divides =
     record {
       value = λ x g p c P C i j. div-value binary32 x g (p .minus) (c .minus) (p .num) (p .den) (c .num) (c .den) P (C .above) (C .some) i j;
-      signs = λ s p c m. ap (λ (t : Bool). withSign t (dividing .exactly p c)) (ap (unlike s) m ∙ unlike-plus s);
+      signs = λ s p c m. ap (λ (t : Bool). signedAs t (dividing .exactly p c)) (ap (unlike s) m ∙ unlike-plus s);
       positive = ratio-positive;
       along = ratio-scaled;
       twice = ratio-twice;
@@ -74,7 +74,7 @@ pub multiplies : Lawful multiplying
 multiplies =
     record {
       value = λ x g p c P C i j. mul-value binary32 x g (p .minus) (c .minus) (p .num) (p .den) (c .num) (c .den) P (C .some) i j ∙ turned (p .minus) (c .minus) (p .num) (p .den) (c .num) (c .den);
-      signs = λ s p c m. ap (λ (t : Bool). withSign t (multiplying .exactly p c)) (ap (λ (t : Bool). unlike t s) m ∙ unlike-comm false s ∙ unlike-plus s);
+      signs = λ s p c m. ap (λ (t : Bool). signedAs t (multiplying .exactly p c)) (ap (λ (t : Bool). unlike t s) m ∙ unlike-comm false s ∙ unlike-plus s);
       positive = λ p c P C. times-positive c p C P;
       along = λ p c. times-scaled c p;
       twice = times-twice;
@@ -180,10 +180,10 @@ module _ (f : Factor) (sound : Sound f) (n : f .precision .bits ≡ prec binary3
         q-positive C t = lawful .positive r (scaledBy f C) r-positive (times-positive C (power k) (sound-positive f sound C t) power-positive)
 
         -- of sizes, for a C that is written without a sign
-        size-near : (C : Fraction) → Between (contextOf f) (lowerOf f) (upperOf f) (withSign false C) → Near (prec binary32) (numberAt binary32 S c) (o .exactly r (scaledBy f (withSign false C)))
+        size-near : (C : Fraction) → Between (contextOf f) (lowerOf f) (upperOf f) (signedAs false C) → Near (prec binary32) (numberAt binary32 S c) (o .exactly r (scaledBy f (signedAs false C)))
         size-near C t =
             let m = prec binary32 in
-            let D = withSign false C in
+            let D = signedAs false C in
             let p = o .exactly r (power k) in
             let q = o .exactly r (scaledBy f D) in
             let by-p = subst (λ (m : ℕ). Near m (RN toEven m (o .exactly p (high m (f .parts)))) (o .exactly p D)) n (lawful .near f sound p (lawful .positive r (power k) r-positive power-positive) D t) in
@@ -192,16 +192,16 @@ module _ (f : Factor) (sound : Sound f) (n : f .precision .bits ≡ prec binary3
             (subst (Near m (RN toEven m of-r)) (lawful .twice r (power k) D) by-r)
 
         -- signs put on
-        near : (a : Fraction) → 0 < a .den → Same (withSign s (numberAt binary32 S c)) a → (C : Fraction) → Between (contextOf f) (lowerOf f) (upperOf f) C → Near (prec binary32) a (o .exactly (readingAt b) (scaledBy f C))
+        near : (a : Fraction) → 0 < a .den → Same (signedAs s (numberAt binary32 S c)) a → (C : Fraction) → Between (contextOf f) (lowerOf f) (upperOf f) C → Near (prec binary32) a (o .exactly (readingAt b) (scaledBy f C))
         near a A a-is C t =
             let m = prec binary32 in
-            let D = withSign false C in
+            let D = signedAs false C in
             let q = o .exactly r (scaledBy f D) in
             let u : Between (contextOf f) (lowerOf f) (upperOf f) D = record { some = t .some; sign = refl; least = t .least; most = t .most } in
             let w = q-positive D u in
             let signed = error-signed m s (numberAt binary32 S c) q (over 3 1) (sym (w .sign)) (size-near C u) in
-            let told = distance-same (withSign s (numberAt binary32 S c)) a (withSign s q) (times (over 3 1) (ulp m (withSign s q))) (number-some binary32 c) A (w .some) a-is signed in
-            subst (λ (l : Bool). Near m a (o .exactly (readingAt b) (scaledBy f (withSign l C)))) (sym (t .sign)) (subst (Near m a) (sym (lawful .signs s r (scaledBy f D) refl)) told)
+            let told = distance-same (signedAs s (numberAt binary32 S c)) a (signedAs s q) (times (over 3 1) (ulp m (signedAs s q))) (number-some binary32 c) A (w .some) a-is signed in
+            subst (λ (l : Bool). Near m a (o .exactly (readingAt b) (scaledBy f (signedAs l C)))) (sym (t .sign)) (subst (Near m a) (sym (lawful .signs s r (scaledBy f D) refl)) told)
 
-        pub one-operation : (v a : Fraction) → Same (numberAt binary32 S z) v → 0 < a .den → Same (withSign s (numberAt binary32 S c)) a → OneOperation o f b v a (numberOf binary32 s S c)
+        pub one-operation : (v a : Fraction) → Same (numberAt binary32 S z) v → 0 < a .den → Same (signedAs s (numberAt binary32 S c)) a → OneOperation o f b v a (numberOf binary32 s S c)
         one-operation v a v-is A a-is = record { significands = significands v v-is; held = applied-held; standard = standard; near = near a A a-is }

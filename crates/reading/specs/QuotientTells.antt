@@ -13,7 +13,7 @@ use Rattle.marks.specs.Answers.{NoneHolds, Outcome, refused, accepted}
 use Rattle.marks.specs.AnswerLaws.{none-refuses}
 use Rattle.rounding.specs.Grid.{toEven}
 use Rattle.rounding.specs.Round.{HasBits}
-use Rattle.rounding.specs.Fraction.{Fraction, withSign, RN, Same}
+use Rattle.rounding.specs.Fraction.{Fraction, signedAs, RN, Same}
 use Rattle.floats.specs.Fields.{plusZero, signOf, zeroBits, Normal, significandOf, exponentOf}
 use Rattle.floats.specs.Pattern.{significand-bits}
 use Rattle.floats.specs.NormalLaws.{numberAt, number-some}
@@ -40,7 +40,7 @@ quotientAt f b = quotientBy f (significandOf binary32 b)
 
 -- with sign and exponent put on: sign * RN(x / Ch) * 2 ^ (e - k)
 abbrev pub answerAt : Factor → ℕ → Fraction
-answerAt f b = let v = quotientAt f b in withSign (signOf binary32 b) (numberAt binary32 (v .significand) (quotientExponent f b v))
+answerAt f b = let v = quotientAt f b in signedAs (signOf binary32 b) (numberAt binary32 (v .significand) (quotientExponent f b v))
 
 -- the number, or plus zero
 abbrev pub numbered : Factor → ℕ → Float

@@ -28,8 +28,8 @@ abbrev pub negated : Fraction → Fraction
 negated x = record { minus = not (x .minus); num = x .num; den = x .den }
 
 -- the size of x with another sign
-abbrev pub withSign : Bool → Fraction → Fraction
-withSign s x = record { minus = s; num = x .num; den = x .den }
+abbrev pub signedAs : Bool → Fraction → Fraction
+signedAs s x = record { minus = s; num = x .num; den = x .den }
 
 abbrev pub times : Fraction → Fraction → Fraction
 times x y = record { minus = unlike (x .minus) (y .minus); num = x .num * y .num; den = x .den * y .den }

@@ -15,7 +15,7 @@ use Rattle.rounding.specs.Digits.{pow-half, enough-digits, drop-lower, d
 use Rattle.rounding.specs.Unit.{rn}
 use Rattle.rounding.specs.UnitLaws.{rn-half, rn-near}
 use Rattle.rounding.specs.RoundLaws.{minus-add, minus-shift, minus-zero, zero-minus}
-use Rattle.rounding.specs.Fraction.{Fraction, over, power, withSign, times, distance, RN, Same, Below, AtMost, Positive}
+use Rattle.rounding.specs.Fraction.{Fraction, over, power, signedAs, times, distance, RN, Same, Below, AtMost, Positive}
 use Rattle.rounding.specs.FractionLaws.{InUnits, over-in-units, power-in-units, units-finer, RN-in-units-fraction, times-in-units, distance-in-units, units-same, units-at-most, at-most-units, units-below}
 use Rattle.rounding.specs.Ulp.{InBinade, binadeOf, ulp}
 
@@ -74,11 +74,11 @@ module _ (v : Fraction) (p : Positive v) where
   ulp-is n e b = ap (λ (z : ℤ). power (z -ℤ pos (n - 1))) (binade-only e b)
 
 -- an error in ulps is that of the sizes: of two fractions of one sign it is so with every sign
-pub error-signed : (n : ℕ) (s : Bool) (x v u : Fraction) → x .minus ≡ v .minus → Below (distance x v) (times u (ulp n v)) → Below (distance (withSign s x) (withSign s v)) (times u (ulp n (withSign s v)))
+pub error-signed : (n : ℕ) (s : Bool) (x v u : Fraction) → x .minus ≡ v .minus → Below (distance x v) (times u (ulp n v)) → Below (distance (signedAs s x) (signedAs s v)) (times u (ulp n (signedAs s v)))
 unfolding ulp
-error-signed n s x v u e h = turned (v .minus) s (subst (λ (m : Bool). Below (distance (withSign m x) v) (times u (ulp n v))) e h)
+error-signed n s x v u e h = turned (v .minus) s (subst (λ (m : Bool). Below (distance (signedAs m x) v) (times u (ulp n v))) e h)
   where
-    turned : (m s : Bool) → Below (distance (withSign m x) (withSign m v)) (times u (ulp n (withSign m v))) → Below (distance (withSign s x) (withSign s v)) (times u (ulp n (withSign s v)))
+    turned : (m s : Bool) → Below (distance (signedAs m x) (signedAs m v)) (times u (ulp n (signedAs m v))) → Below (distance (signedAs s x) (signedAs s v)) (times u (ulp n (signedAs s v)))
     turned true true h = h
     turned true false h = h
     turned false true h = h
