@@ -1,6 +1,7 @@
--- What the exported functions answer and write, in words, and what callers may rely on.
+-- What the exported functions answer and write, in words, what callers may rely on, and figures.
 pub mod Words
 pub mod Answers
 pub mod AnswerLaws
 pub mod WordLaws
 pub mod Demand3
+pub mod Examples

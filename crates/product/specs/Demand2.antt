@@ -30,15 +30,15 @@ use Rattle.factor.specs.SetUp.{setUp, intact, Sound}
 use Rattle.factor.specs.SetUpLaws.{intact-sound, accepted-intact}
 use Rattle.product.specs.declared.Product.{Product}
 use Rattle.product.specs.declared.Device.{Device}
-use Rattle.product.specs.Product.{argument, high, low, first, fused, second, product, productBy, valueOf}
+use Rattle.product.specs.Product.{argument, high, low, first, fused, second, product, valueOf}
 use Rattle.product.specs.Marks.{markBy, SaysBy}
 use Rattle.product.specs.ProductLaws.{fused-some, product-is, product-value}
 use Rattle.product.specs.MarkLaws.{mark-says, mark-only}
 use Rattle.product.specs.Answer.{conditions, marked, multiplied, Tells}
 use Rattle.product.specs.AnswerLaws.{significand-in, let-through}
 use Rattle.product.specs.SoundLaws.{sound-fine}
-use Rattle.product.specs.Devices.{productOn}
-use Rattle.product.specs.OneStepLaws.{formed}
+use Rattle.product.specs.Devices.{productOn, markOn}
+use Rattle.product.specs.DeviceLaws.{formed}
 
 -- RN of x is x rounded to nearest in the sense of IEEE 754-2019, 4.3.1: it has n bits, no number of n bits is nearer, and half way between two the rule decides
 abbrev pub ToNearest : Context → Fraction → Type 0
@@ -148,12 +148,13 @@ answer-tells d f X =
 pub record Demand2 (f : Factor) : Type 0 where
   -- the parts are those of every fraction between the ends
   pub parts : (C : Fraction) → Between (contextOf f) (lowerOf f) (upperOf f) C → PartsTell (contextOf f) (f .parts) C
-  -- every significand that 17 lets through is answered with its two steps' product and a mark
-  pub answers : (X : ℕ) → significandOut (f .precision .bits) X ≡ false → multiplied Device.TwoStep f X ≡ accepted (marked f X (productBy f X))
+  -- every significand that 17 lets through is answered with its product on the device and a mark
+  pub answers : (d : Device) (X : ℕ) → significandOut (f .precision .bits) X ≡ false → multiplied d f X ≡ accepted (marked f X (productOn d f X))
+  -- that of the two-step device is made by both steps
   pub steps : (X : ℕ) → significandOut (f .precision .bits) X ≡ false → TwoSteps (contextOf f) (f .parts) X
-  -- which says what is true of every fraction between the ends, and no other mark does
-  pub marks : (X : ℕ) → significandOut (f .precision .bits) X ≡ false → SaysBy f X (productBy f X) (markBy f X (productBy f X))
-  pub alone : (X : ℕ) → significandOut (f .precision .bits) X ≡ false → (m : Mark) → SaysBy f X (productBy f X) m → markBy f X (productBy f X) ≡ m
+  -- the mark says what is true of every fraction between the ends, and no other mark does
+  pub marks : (d : Device) (X : ℕ) → significandOut (f .precision .bits) X ≡ false → SaysBy f X (productOn d f X) (markOn d f X)
+  pub alone : (d : Device) (X : ℕ) → significandOut (f .precision .bits) X ≡ false → (m : Mark) → SaysBy f X (productOn d f X) m → markOn d f X ≡ m
 
 -- of every factor that 31 lets through
 pub demand-2 : (f : Factor) → intact f ≡ true → Demand2 f
@@ -161,10 +162,10 @@ demand-2 f i =
     let s = intact-sound f i in
     record {
       parts = parts-tell f s;
-      answers = λ X h. unfold multiplied in sym (accepts (pass (ap not i) (pass h end)) (marked f X (productBy f X)));
+      answers = λ d X h. unfold multiplied in sym (accepts (pass (ap not i) (pass h end)) (marked f X (productOn d f X)));
       steps = λ X h. two-steps f s X (significand-in (f .precision .bits) X h);
-      marks = λ X h. let x = significand-in (f .precision .bits) X h in mark-tells f s X x (productBy f X) (two-steps f s X x .bits);
-      alone = λ X h. let x = significand-in (f .precision .bits) X h in mark-alone f s X x (productBy f X) (two-steps f s X x .bits);
+      marks = λ d X h. let x = significand-in (f .precision .bits) X h in mark-tells f s X x (productOn d f X) (formed d f s X x .bits);
+      alone = λ d X h. let x = significand-in (f .precision .bits) X h in mark-alone f s X x (productOn d f X) (formed d f s X x .bits);
     }
 
 -- and so of every one that set-up accepted

@@ -1,8 +1,8 @@
 -- The two-step and the one-step product, their marks and answers, with their laws.
 pub mod Product
 pub mod OneStep
-pub mod Devices
 pub mod Marks
+pub mod Devices
 pub mod Answer
 pub mod Units
 pub mod ProductLaws
@@ -10,6 +10,7 @@ pub mod Near
 pub mod StepLaws
 pub mod SoundLaws
 pub mod OneStepLaws
+pub mod DeviceLaws
 pub mod MarkLaws
 pub mod AnswerLaws
 pub mod Demand2

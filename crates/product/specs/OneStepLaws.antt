@@ -1,11 +1,10 @@
 -- Laws of the one-step product: Ch * x is a whole number of 2 ^ - 2(n - 1), from 1 to below 4, and the product is what it rounds to, a significand of n bits in binade 0 or 1. Assumes nothing.
 use mathlib.Core.Path.{_≡_, sym, ap, _∙_, subst}
 use mathlib.Core.Bool.{false}
-use Prim.Native.Nat.{ℕ, zero, suc, _+_, _-_, _*_, _/_, _^_, _≤_, _<_}
-use native.Mathlib.Nat.{mul-le-mul, mul-le-mul-left, eq-of-mul-eq-mul-right, pow-succ'}
+use Prim.Native.Nat.{ℕ, suc, _+_, _-_, _*_, _^_, _≤_, _<_}
+use native.Mathlib.Nat.{mul-le-mul, eq-of-mul-eq-mul-right}
 use native.Mathlib.Omega.{arith}
 use lib.Pow.{pow-add, pow-pos, le-ones}
-use Rattle.rounding.specs.Digits.{pow-half}
 use Rattle.rounding.specs.Unit.{rn}
 use Rattle.rounding.specs.UnitLaws.{rn-le}
 use Rattle.rounding.specs.Round.{HasBits}
@@ -15,14 +14,11 @@ use Rattle.factor.specs.declared.Parts.{Parts}
 use Rattle.factor.specs.declared.Factor.{Factor}
 use Rattle.factor.specs.Context.{Context, contextOf}
 use Rattle.factor.specs.SetUp.{Sound}
-use Rattle.product.specs.declared.Device.{Device}
-use Rattle.product.specs.declared.Product.{Product}
 use Rattle.product.specs.Product.{argument, high, stepsOf, valueOf}
 use Rattle.product.specs.Units.{Within}
 use Rattle.product.specs.ProductLaws.{IsProduct, rounded-product-is, rounded-product-value}
-use Rattle.product.specs.SoundLaws.{HighBits, sound-fine, sound-high, sound-product}
+use Rattle.product.specs.SoundLaws.{HighBits, sound-fine, sound-high}
 use Rattle.product.specs.OneStep.{byHigh, once, oneStep, oneStepBy}
-use Rattle.product.specs.Devices.{productOn}
 
 -- in the unit 2 ^ - 2(n - 1): the context whose scale is n - 1
 abbrev pub atStep : Context → Context
@@ -67,30 +63,3 @@ module _ (K : Context) (P : 0 < K .n) (p : Parts) (X : ℕ) (h : HighBits (K .n)
 -- of a sound factor and a significand in range: n bits, in binade 0 or 1
 pub sound-one-step : (f : Factor) → Sound f → (X : ℕ) → HasBits (f .precision .bits) X → IsProduct (atStep (contextOf f)) (rn (contextOf f .rule) (f .precision .bits) (f .parts .high * X) 1) (oneStepBy f X)
 sound-one-step f s X x = one-step-is (contextOf f) (sound-fine f s .some) (f .parts) X (sound-high f s) x
-
--- ---- a product by its steps: significand and binade
-module _ (n : ℕ) (P : 0 < n) (v : Product) (bits : HasBits n (v .significand)) (b : v .binade ≤ 1) (s : ℕ) (e : s ≡ stepsOf v) where
-  pub by-steps-low : s < 2 ^ n → _≡_ {A = Product} (record { significand = s; binade = 0 }) v
-  by-steps-low l = go (v .binade) (v .significand) b bits e
-    where
-      go : (j t : ℕ) → j ≤ 1 → HasBits n t → s ≡ t * 2 ^ j → _≡_ {A = Product} (record { significand = s; binade = 0 }) (record { significand = t; binade = j })
-      go zero t h k q = let r : s ≡ t = omega arith in λ i. record { significand = r i; binade = 0 }
-      go (suc j) t h k q = absurd (omega (arith, pow-half n P, k .least, mul-le-mul-left t (pow-pos j), ap (λ (z : ℕ). t * z) (pow-succ' 2 j)))
-
-  pub by-steps-high : 2 ^ n ≤ s → _≡_ {A = Product} (record { significand = s / 2; binade = 1 }) v
-  by-steps-high l = go (v .binade) (v .significand) b bits e
-    where
-      go : (j t : ℕ) → j ≤ 1 → HasBits n t → s ≡ t * 2 ^ j → _≡_ {A = Product} (record { significand = s / 2; binade = 1 }) (record { significand = t; binade = j })
-      go zero t h k q = absurd (omega (arith, k .most))
-      go (suc zero) t h k q = let r : s / 2 ≡ t = omega (arith, q) in λ i. record { significand = r i; binade = 1 }
-      go (suc (suc j)) t h k q = absurd (omega arith)
-
--- ---- on either device
--- a product of a significand: n bits, in binade 0 or 1
-pub record Formed (n : ℕ) (v : Product) : Type 0 where
-  pub bits : HasBits n (v .significand)
-  pub binade : v .binade ≤ 1
-
-pub formed : (d : Device) (f : Factor) → Sound f → (X : ℕ) → HasBits (f .precision .bits) X → Formed (f .precision .bits) (productOn d f X)
-formed Device.TwoStep f s X x = let is = sound-product f s X x in record { bits = is .bits; binade = is .binade }
-formed Device.OneStep f s X x = let is = sound-one-step f s X x in record { bits = is .bits; binade = is .binade }

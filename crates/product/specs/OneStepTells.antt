@@ -10,9 +10,9 @@ use Rattle.marks.specs.AnswerLaws.{of-answer}
 use Rattle.rounding.specs.Grid.{Rule}
 use Rattle.rounding.specs.Round.{HasBits}
 use Rattle.rounding.specs.Standard.{rounds-to}
-use Rattle.rounding.specs.Fraction.{Fraction, over, times, distance, RN, Same, Below, Positive}
+use Rattle.rounding.specs.Fraction.{Fraction, over, times, RN, Same, Positive}
 use Rattle.rounding.specs.FractionLaws.{RN-some, times-positive, distance-same}
-use Rattle.rounding.specs.Ulp.{ulp}
+use Rattle.rounding.specs.Ulp.{ulp, WithinThreeHalves}
 use Rattle.rounding.specs.OneRounding.{times-error}
 use Rattle.factor.specs.declared.Factor.{Factor}
 use Rattle.factor.specs.Context.{Context, contextOf, lowerOf, upperOf}
@@ -31,8 +31,8 @@ use Rattle.product.specs.OneStepLaws.{one-step-value, sound-one-step}
 
 -- ---- what is said
 -- C * x, for a significand X
-abbrev pub exactBy : (n X : ℕ) → Fraction → Fraction
-exactBy n X C = times C (argument n X)
+abbrev pub exactProduct : (n X : ℕ) → Fraction → Fraction
+exactProduct n X C = times C (argument n X)
 
 pub record Tells (f : Factor) (X : ℕ) (a : Marked Product) : Type 0 where
   -- a significand of n bits, in binade 0 or 1
@@ -45,7 +45,7 @@ pub record Tells (f : Factor) (X : ℕ) (a : Marked Product) : Type 0 where
   pub says : SaysBy f X (a .value) (a .mark)
   pub alone : (m : Mark) → SaysBy f X (a .value) m → a .mark ≡ m
   -- |RN(Ch * x) - C * x| < 3/2 ulp(C * x) for every C between the ends, in whole numbers, cross-multiplied
-  pub near : (C : Fraction) → Between (contextOf f) (lowerOf f) (upperOf f) C → let y = exactBy (f .precision .bits) X C in Below (distance (valueOf (f .precision .bits) (a .value)) y) (times (over 3 1) (ulp (f .precision .bits) y))
+  pub near : (C : Fraction) → Between (contextOf f) (lowerOf f) (upperOf f) C → WithinThreeHalves (f .precision .bits) (valueOf (f .precision .bits) (a .value)) (exactProduct (f .precision .bits) X C)
 
 -- of every answer: a refusal tells nothing
 abbrev pub AnswerTells : Factor → ℕ → Outcome (Marked Product) → Type 0
@@ -61,7 +61,7 @@ module _ (f : Factor) (s : Sound f) where
   n = f .precision .bits
 
   -- |RN(Ch * x) - C * x| < 3/2 ulp(C * x), of every x > 0 and by every tie rule
-  pub sound-near : (rule : Rule) (x : Fraction) → Positive x → (C : Fraction) → Between K (lowerOf f) (upperOf f) C → Below (distance (RN rule n (times (high n (f .parts)) x)) (times C x)) (times (over 3 1) (ulp n (times C x)))
+  pub sound-near : (rule : Rule) (x : Fraction) → Positive x → (C : Fraction) → Between K (lowerOf f) (upperOf f) C → WithinThreeHalves n (RN rule n (times (high n (f .parts)) x)) (times C x)
   sound-near rule x p C k = times-error n C (high n (f .parts)) (sound-positive f s C k) (sound-high-positive f s) (sound-close-high f s C k) x p (sound-one f s C k) rule (sound-fine f s .some)
 
   -- and a significand in range
@@ -78,12 +78,12 @@ module _ (f : Factor) (s : Sound f) where
     pub sound-value : Same (once K (f .parts) X) (valueOf n v)
     sound-value = one-step-value K (sound-fine f s .some) (f .parts) X (sound-high f s) x
 
-    near : (C : Fraction) → Between K (lowerOf f) (upperOf f) C → Below (distance (valueOf n v) (exactBy n X C)) (times (over 3 1) (ulp n (exactBy n X C)))
+    near : (C : Fraction) → Between K (lowerOf f) (upperOf f) C → WithinThreeHalves n (valueOf n v) (exactProduct n X C)
     near C k =
-        distance-same (once K (f .parts) X) (valueOf n v) (exactBy n X C) (times (over 3 1) (ulp n (exactBy n X C)))
+        distance-same (once K (f .parts) X) (valueOf n v) (exactProduct n X C) (times (over 3 1) (ulp n (exactProduct n X C)))
         (RN-some (K .rule) n (byHigh n (f .parts) X)) (pow-pos (n - 1)) (times-positive C (argument n X) (sound-positive f s C k) x-positive .some) sound-value (sound-near (K .rule) (argument n X) x-positive C k)
 
-    pub sound-once : Tells f X (marked f X v)
+    sound-once : Tells f X (marked f X v)
     sound-once =
         let is = sound-one-step f s X x in
         let y = byHigh n (f .parts) X in

@@ -32,11 +32,11 @@ use Rattle.product.specs.Product.{product}
 use Rattle.product.specs.Units.{firstUnits, fusedUnits, secondUnits, roundedUnits, Within, PartsAtEnd}
 use Rattle.product.specs.ProductLaws.{IsProduct, is-product, rn-from, exponent-from, product-only, product-is, first-most, first-under, fused-least, second-most}
 
--- a significand is half a word
+-- a significand fits in half a word
 pub significand-word : (n X : ℕ) → ValidPrecision n → HasBits n X → X < 2 ^ 32
 significand-word n X N x = lt-of-lt-of-le (x .most) (pow-mono {i = n} {j = 32} (omega (arith, N)))
 
--- two numbers of at most n bits have a product of less than a word
+-- two numbers of at most 2 ^ n have a product that fits in a word
 pub product-word : (n a b : ℕ) → ValidPrecision n → a ≤ 2 ^ n → b ≤ 2 ^ n → a * b ≤ 2 ^ 48
 product-word n a b N p q = let t : 2 ^ n ≤ 2 ^ mostPrecision = pow-mono (N .most) in mul-le-mul (le-trans p t) (le-trans q t)
 

@@ -105,7 +105,7 @@ fn two_steps(f: Factor, x: u64) -> Product
 }
 
 // RN(Ch * x) of a factor that was accepted and a significand in range, in steps of binade 0, 2 ^ (1 - n): in the unit 2 ^ - 2(n - 1) Ch * x is a whole number, and n - 1 digits stand behind such a step.
-fn once(f: Factor, x: u64) -> u64
+fn steps_once(f: Factor, x: u64) -> u64
     requires { ⌜ Sound f × HasBits (f .precision .bits) x ⌝ }
     ensures { λ r. ⌜ r ≡ stepsOf (oneStepBy f x) ⌝ }
 {
@@ -119,7 +119,7 @@ pub fn one_step(f: Factor, x: u64) -> Product
     requires { ⌜ Sound f × HasBits (f .precision .bits) x ⌝ }
     ensures { λ r. ⌜ r ≡ oneStepBy f x ⌝ }
 {
-    let steps = once(f, x);
+    let steps = steps_once(f, x);
     if steps < wide::power(f.precision.bits) {
         return Product {
             significand: steps,
@@ -158,7 +158,7 @@ pub fn steps_on(d: Device, f: Factor, x: u64) -> u64
 {
     match d {
         Device::TwoStep => steps_of(two_steps(f, x)),
-        Device::OneStep => once(f, x),
+        Device::OneStep => steps_once(f, x),
     }
 }
 

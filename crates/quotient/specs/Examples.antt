@@ -16,7 +16,7 @@ use Rattle.factor.specs.SetUp.{appliedOf, factorOf}
 use Rattle.quotient.specs.declared.Quotient.{Quotient}
 use Rattle.quotient.specs.Quotient.{quotientBy, valueOf}
 use Rattle.quotient.specs.Answer.{divided}
-use Rattle.quotient.specs.Tells.{exactBy}
+use Rattle.quotient.specs.Tells.{exactQuotient}
 
 -- both ends at c / 2 ^ 62, n bits
 factorAt : (n c : ℕ) → Factor
@@ -52,6 +52,6 @@ unfolding factorAt divided answer judged Ieee.toBits size
 refusals = (refl, refl, refl)
 
 -- C = 1 + 2 ^ -13 - 2 ^ -24 and x = 2 - 2 ^ -12 at 24 bits (source document 003, Example 2): more than 191/128 ulp
-nearly-met : let y = exactBy 24 16775168 (over (2 ^ 62 + 2 ^ 49 - 2 ^ 38) 62) in Below (times (over 191 7) (ulp 24 y)) (distance (valueOf 24 (quotientBy (factorAt 24 (2 ^ 62 + 2 ^ 49 - 2 ^ 38)) 16775168)) y)
+nearly-met : let y = exactQuotient 24 16775168 (over (2 ^ 62 + 2 ^ 49 - 2 ^ 38) 62) in Below (times (over 191 7) (ulp 24 y)) (distance (valueOf 24 (quotientBy (factorAt 24 (2 ^ 62 + 2 ^ 49 - 2 ^ 38)) 16775168)) y)
 unfolding factorAt divided ulp size
 nearly-met = lit< tt

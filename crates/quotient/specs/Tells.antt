@@ -13,9 +13,9 @@ use Rattle.marks.specs.AnswerLaws.{of-answer}
 use Rattle.rounding.specs.declared.Location.the-variants.{Half}
 use Rattle.rounding.specs.Grid.{Rule}
 use Rattle.rounding.specs.Round.{rounded, HasBits}
-use Rattle.rounding.specs.Fraction.{Fraction, over, times, ratio, distance, RN, Same, Below, Positive}
+use Rattle.rounding.specs.Fraction.{Fraction, over, times, ratio, RN, Same, Positive}
 use Rattle.rounding.specs.FractionLaws.{RN-some, ratio-positive, distance-same}
-use Rattle.rounding.specs.Ulp.{ulp}
+use Rattle.rounding.specs.Ulp.{ulp, WithinThreeHalves}
 use Rattle.rounding.specs.OneRounding.{ratio-error}
 use Rattle.factor.specs.declared.Factor.{Factor}
 use Rattle.factor.specs.Context.{Context, Fine, contextOf, lowerOf, upperOf}
@@ -32,8 +32,8 @@ use Rattle.quotient.specs.QuotientLaws.{never-tied, quotient-any-rule, q
 
 -- ---- what is said
 -- x / C, for a significand X
-abbrev pub exactBy : (n X : ℕ) → Fraction → Fraction
-exactBy n X C = ratio (argument n X) C
+abbrev pub exactQuotient : (n X : ℕ) → Fraction → Fraction
+exactQuotient n X C = ratio (argument n X) C
 
 pub record Tells (f : Factor) (X : ℕ) (v : Quotient) : Type 0 where
   -- a significand of n bits, in binade -1 below 1, where X is below the high significand, and in binade 0 from there on
@@ -44,7 +44,7 @@ pub record Tells (f : Factor) (X : ℕ) (v : Quotient) : Type 0 where
   pub value : (rule : Rule) → Same (RN rule (f .precision .bits) (byHigh (f .precision .bits) (f .parts) X)) (valueOf (f .precision .bits) v)
   pub untied : (rule : Rule) → let y = byHigh (f .precision .bits) (f .parts) X in rounded rule (f .precision .bits) (y .num) (y .den) .location ≡ Half → ⊥
   -- |RN(x / Ch) - x / C| < 3/2 ulp(x / C) for every C between the ends, in whole numbers, cross-multiplied
-  pub near : (C : Fraction) → Between (contextOf f) (lowerOf f) (upperOf f) C → let y = exactBy (f .precision .bits) X C in Below (distance (valueOf (f .precision .bits) v) y) (times (over 3 1) (ulp (f .precision .bits) y))
+  pub near : (C : Fraction) → Between (contextOf f) (lowerOf f) (upperOf f) C → WithinThreeHalves (f .precision .bits) (valueOf (f .precision .bits) v) (exactQuotient (f .precision .bits) X C)
 
 -- of every answer: a refusal tells nothing
 abbrev pub AnswerTells : Factor → ℕ → Outcome Quotient → Type 0
@@ -69,7 +69,7 @@ module _ (f : Factor) (s : Sound f) where
   ok = sound-fine f s
 
   -- |RN(x / Ch) - x / C| < 3/2 ulp(x / C), of every x > 0 and by every tie rule
-  pub sound-near : (rule : Rule) (x : Fraction) → Positive x → (C : Fraction) → Between K L U C → Below (distance (RN rule n (ratio x (high n (f .parts)))) (ratio x C)) (times (over 3 1) (ulp n (ratio x C)))
+  pub sound-near : (rule : Rule) (x : Fraction) → Positive x → (C : Fraction) → Between K L U C → WithinThreeHalves n (RN rule n (ratio x (high n (f .parts)))) (ratio x C)
   sound-near rule x p C k = ratio-error n C (high n (f .parts)) (sound-positive f s C k) (sound-high-positive f s) (sound-close-high f s C k) x p (omega (arith, sound-high f s .least)) rule (ok .some)
 
   module _ (X : ℕ) (x : HasBits n X) where
@@ -81,10 +81,10 @@ module _ (f : Factor) (s : Sound f) where
         let other : Context = record { rule = rule; n = n; E = K .E } in
         subst (λ (v : Quotient). Same (once other (f .parts) X) (valueOf n v)) (quotient-any-rule K (ok .some) (f .parts) X (sound-high f s) x rule) (quotient-value other (ok .some) (f .parts) X (sound-high f s) x)
 
-    near : (C : Fraction) → Between K L U C → Below (distance (valueOf n (quotientBy f X)) (exactBy n X C)) (times (over 3 1) (ulp n (exactBy n X C)))
+    near : (C : Fraction) → Between K L U C → WithinThreeHalves n (valueOf n (quotientBy f X)) (exactQuotient n X C)
     near C k =
         let v = quotientBy f X in
-        distance-same (once K (f .parts) X) (valueOf n v) (exactBy n X C) (times (over 3 1) (ulp n (exactBy n X C)))
+        distance-same (once K (f .parts) X) (valueOf n v) (exactQuotient n X C) (times (over 3 1) (ulp n (exactQuotient n X C)))
         (RN-some (K .rule) n (byHigh n (f .parts) X)) (mul-pos (down-pos (v .binade)) (pow-pos (n - 1))) (ratio-positive (argument n X) C x-positive (sound-positive f s C k) .some) (value (K .rule)) (sound-near (K .rule) (argument n X) x-positive C k)
 
     pub sound-quotient : Tells f X (quotientBy f X)

@@ -38,7 +38,7 @@ use Rattle.product.specs.declared.Product.{Product}
 use Rattle.product.specs.Product.{argument, valueOf}
 use Rattle.product.specs.Marks.{Gives, markBy}
 use Rattle.product.specs.OneStep.{byHigh, oneStepBy}
-use Rattle.product.specs.OneStepLaws.{formed}
+use Rattle.product.specs.DeviceLaws.{formed}
 use Rattle.product.specs.OneStepTells.{sound-value}
 use Rattle.product.specs.Demand2.{mark-tells, mark-alone}
 use Rattle.reading.specs.Reading.{unreadable, exponentOut, numberOf, conditions, productExponent, productOf, productAt, applied}

@@ -4,8 +4,8 @@ use Prim.Native.Nat.{ℕ, _*_}
 use lib.Dec.{T}
 use lib.IntN.{ℤ, _+ℤ_, _-ℤ_}
 use lib.Ieee.{Float, binary32, prec, hid, up, down, fits, mul, div}
-use Rattle.rounding.specs.Fraction.{Fraction, over, power, times, ratio, distance, Below}
-use Rattle.rounding.specs.Ulp.{ulp}
+use Rattle.rounding.specs.Fraction.{Fraction, power, times, ratio}
+use Rattle.rounding.specs.Ulp.{WithinThreeHalves}
 use Rattle.floats.specs.Fields.{signOf, significandOf, exponentOf}
 use Rattle.factor.specs.declared.Factor.{Factor}
 use Rattle.factor.specs.Context.{contextOf, lowerOf, upperOf}
@@ -39,10 +39,6 @@ abbrev pub multiplying : Operation
 multiplying = record { inFormat = mul binary32; exactly = λ x c. times c x; exponents = λ e k. e +ℤ k }
 
 -- ---- what is said of an answer
--- y is less than 3/2 ulp from x; the ulp is that of the size, exponents unbounded
-abbrev pub Near : (n : ℕ) → (y x : Fraction) → Type 0
-Near n y x = Below (distance y x) (times (over 3 1) (ulp n x))
-
 -- what the answer y to a reading with the bits b is by an operation, v being the value of the significands and a that of y
 pub record OneOperation (o : Operation) (f : Factor) (b : ℕ) (v a : Fraction) (y : Float) : Type 0 where
   -- the operation on x, as a float, and the stored high part, which as every f32 fits the format, is v
@@ -50,5 +46,5 @@ pub record OneOperation (o : Operation) (f : Factor) (b : ℕ) (v a : Fraction) 
   -- and that on the reading itself and Ch * 2 ^ k, which is a binary32 number, is y
   pub held : Is (floatIn binary32 (appliedHigh f)) (appliedHigh f)
   pub standard : (x g : Float) → Is x (readingAt b) → Is g (appliedHigh f) → o .inFormat x g ≡ y
-  -- and, with C * 2 ^ k in place of Ch * 2 ^ k and exactly, the operation is less than 3/2 ulp from a for every C between the ends, with signs
-  pub near : (C : Fraction) → Between (contextOf f) (lowerOf f) (upperOf f) C → Near (prec binary32) a (o .exactly (readingAt b) (scaledBy f C))
+  -- and, with C * 2 ^ k in place of Ch * 2 ^ k and exactly, the operation is less than 3/2 ulp from a for every C between the ends, with signs; the ulp is that of the size, exponents unbounded
+  pub near : (C : Fraction) → Between (contextOf f) (lowerOf f) (upperOf f) C → WithinThreeHalves (prec binary32) a (o .exactly (readingAt b) (scaledBy f C))

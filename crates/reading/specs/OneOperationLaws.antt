@@ -16,7 +16,7 @@ use Rattle.rounding.specs.Grid.{toEven}
 use Rattle.rounding.specs.Round.{HasBits}
 use Rattle.rounding.specs.Fraction.{Fraction, over, power, signedAs, times, RN, Same, Positive}
 use Rattle.rounding.specs.FractionLaws.{RN-some, Scaled, unlike-plus, unlike-comm, times-positive, ratio-positive, ratio-twice, times-twice, distance-same}
-use Rattle.rounding.specs.Ulp.{ulp}
+use Rattle.rounding.specs.Ulp.{ulp, WithinThreeHalves}
 use Rattle.rounding.specs.UlpLaws.{error-signed}
 use Rattle.rounding.specs.Ieee.{revalue, round-itself}
 use Rattle.floats.specs.Fields.{signOf, zeroBits, Normal, significandOf, exponentOf}
@@ -33,14 +33,14 @@ use Rattle.factor.specs.SetUp.{floatIn, Sound}
 use Rattle.factor.specs.StoredLaws.{high-number}
 use Rattle.product.specs.Product.{argument, high}
 use Rattle.product.specs.SoundLaws.{HighBits, sound-high, sound-high-positive, sound-positive}
-use Rattle.product.specs.OneStepTells.{sound-near as times-near}
-use Rattle.quotient.specs.Tells.{sound-near as ratio-near}
+use Rattle.product.specs.OneStepTells.{sound-near as product-near}
+use Rattle.quotient.specs.Tells.{sound-near as quotient-near}
 use Rattle.reading.specs.Reading.{unreadable, exponentOut, numberOf}
 use Rattle.reading.specs.Exponents.{scale-size, let-through}
 use Rattle.reading.specs.ReadingLaws.{number-value, number-rounds}
 use Rattle.reading.specs.AnswerLaws.{is-normal}
 use Rattle.reading.specs.Standard.{Is}
-use Rattle.reading.specs.OneOperation.{readingAt, scaledBy, appliedHigh, Operation, dividing, multiplying, Near, OneOperation}
+use Rattle.reading.specs.OneOperation.{readingAt, scaledBy, appliedHigh, Operation, dividing, multiplying, OneOperation}
 
 -- ---- a reading that is let through, and not a zero, is a normal number
 pub reading-is : (f : Factor) (b : ℕ) → NoneHolds (unreadable f b) → zeroBits binary32 b ≡ false → (x : Float) → T (fits binary32 x) → toBits binary32 x ≡ b → Is x (readingAt b)
@@ -57,7 +57,7 @@ pub record Lawful (o : Operation) : Type 0 where
   pub along : (p c : Fraction) (e k : ℤ) → Scaled (o .exponents e k) (o .exactly p c) (o .exactly (times p (power e)) (times c (power k)))
   pub twice : (p x y : Fraction) → o .exactly (o .exactly p x) y ≡ o .exactly p (times y x)
   -- with Ch for C it is less than 3/2 ulp off, once rounded
-  pub near : (f : Factor) → Sound f → (p : Fraction) → Positive p → (C : Fraction) → Between (contextOf f) (lowerOf f) (upperOf f) C → let n = f .precision .bits in Near n (RN toEven n (o .exactly p (high n (f .parts)))) (o .exactly p C)
+  pub near : (f : Factor) → Sound f → (p : Fraction) → Positive p → (C : Fraction) → Between (contextOf f) (lowerOf f) (upperOf f) C → let n = f .precision .bits in WithinThreeHalves n (RN toEven n (o .exactly p (high n (f .parts)))) (o .exactly p C)
 
 pub divides : Lawful dividing
 divides =
@@ -67,7 +67,7 @@ divides =
       positive = ratio-positive;
       along = ratio-scaled;
       twice = ratio-twice;
-      near = λ f s. ratio-near f s toEven;
+      near = λ f s. quotient-near f s toEven;
     }
 
 pub multiplies : Lawful multiplying
@@ -78,7 +78,7 @@ multiplies =
       positive = λ p c P C. times-positive c p C P;
       along = λ p c. times-scaled c p;
       twice = times-twice;
-      near = λ f s. times-near f s toEven;
+      near = λ f s. product-near f s toEven;
     }
   where
     turned : (s t : Bool) (a c b d : ℕ) → Ieee.round binary32 (unlike s t) (a * b) (c * d) ≡ Ieee.round binary32 (unlike t s) (b * a) (d * c)
@@ -180,19 +180,19 @@ module _ (f : Factor) (sound : Sound f) (n : f .precision .bits ≡ prec binary3
         q-positive C t = lawful .positive r (scaledBy f C) r-positive (times-positive C (power k) (sound-positive f sound C t) power-positive)
 
         -- of sizes, for a C that is written without a sign
-        size-near : (C : Fraction) → Between (contextOf f) (lowerOf f) (upperOf f) (signedAs false C) → Near (prec binary32) (numberAt binary32 S c) (o .exactly r (scaledBy f (signedAs false C)))
+        size-near : (C : Fraction) → Between (contextOf f) (lowerOf f) (upperOf f) (signedAs false C) → WithinThreeHalves (prec binary32) (numberAt binary32 S c) (o .exactly r (scaledBy f (signedAs false C)))
         size-near C t =
             let m = prec binary32 in
             let D = signedAs false C in
             let p = o .exactly r (power k) in
             let q = o .exactly r (scaledBy f D) in
-            let by-p = subst (λ (m : ℕ). Near m (RN toEven m (o .exactly p (high m (f .parts)))) (o .exactly p D)) n (lawful .near f sound p (lawful .positive r (power k) r-positive power-positive) D t) in
-            let by-r = subst (λ (a : Fraction). Near m (RN toEven m a) (o .exactly p D)) (lawful .twice r (power k) (high m (f .parts))) by-p in
+            let by-p = subst (λ (m : ℕ). WithinThreeHalves m (RN toEven m (o .exactly p (high m (f .parts)))) (o .exactly p D)) n (lawful .near f sound p (lawful .positive r (power k) r-positive power-positive) D t) in
+            let by-r = subst (λ (a : Fraction). WithinThreeHalves m (RN toEven m a) (o .exactly p D)) (lawful .twice r (power k) (high m (f .parts))) by-p in
             distance-same (RN toEven m of-r) (numberAt binary32 S c) q (times (over 3 1) (ulp m q)) (RN-some toEven m of-r) (number-some binary32 c) (q-positive D t .some) (r-exact .sign, r-rounds)
-            (subst (Near m (RN toEven m of-r)) (lawful .twice r (power k) D) by-r)
+            (subst (WithinThreeHalves m (RN toEven m of-r)) (lawful .twice r (power k) D) by-r)
 
         -- signs put on
-        near : (a : Fraction) → 0 < a .den → Same (signedAs s (numberAt binary32 S c)) a → (C : Fraction) → Between (contextOf f) (lowerOf f) (upperOf f) C → Near (prec binary32) a (o .exactly (readingAt b) (scaledBy f C))
+        near : (a : Fraction) → 0 < a .den → Same (signedAs s (numberAt binary32 S c)) a → (C : Fraction) → Between (contextOf f) (lowerOf f) (upperOf f) C → WithinThreeHalves (prec binary32) a (o .exactly (readingAt b) (scaledBy f C))
         near a A a-is C t =
             let m = prec binary32 in
             let D = signedAs false C in
@@ -201,7 +201,7 @@ module _ (f : Factor) (sound : Sound f) (n : f .precision .bits ≡ prec binary3
             let w = q-positive D u in
             let signed = error-signed m s (numberAt binary32 S c) q (over 3 1) (sym (w .sign)) (size-near C u) in
             let told = distance-same (signedAs s (numberAt binary32 S c)) a (signedAs s q) (times (over 3 1) (ulp m (signedAs s q))) (number-some binary32 c) A (w .some) a-is signed in
-            subst (λ (l : Bool). Near m a (o .exactly (readingAt b) (scaledBy f (signedAs l C)))) (sym (t .sign)) (subst (Near m a) (sym (lawful .signs s r (scaledBy f D) refl)) told)
+            subst (λ (l : Bool). WithinThreeHalves m a (o .exactly (readingAt b) (scaledBy f (signedAs l C)))) (sym (t .sign)) (subst (WithinThreeHalves m a) (sym (lawful .signs s r (scaledBy f D) refl)) told)
 
         pub one-operation : (v a : Fraction) → Same (numberAt binary32 S z) v → 0 < a .den → Same (signedAs s (numberAt binary32 S c)) a → OneOperation o f b v a (numberOf binary32 s S c)
         one-operation v a v-is A a-is = record { significands = significands v v-is; held = applied-held; standard = standard; near = near a A a-is }

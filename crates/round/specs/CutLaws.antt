@@ -20,7 +20,7 @@ pub cut-short : (k N : ℕ) → cutAt k N .rest < 2 ^ k
 cut-short k N = mod-lt N (pow-pos k)
 
 -- whatever is N, with a rest of k digits, is its cut
-pub cut-only : (k N : ℕ) (c : Cut) → c .rest < 2 ^ k → uncut k c ≡ N → c ≡ cutAt k N
+cut-only : (k N : ℕ) (c : Cut) → c .rest < 2 ^ k → uncut k c ≡ N → c ≡ cutAt k N
 cut-only k N c short e =
     let kept : c .kept ≡ N / 2 ^ k = sym (ap (λ (z : ℕ). z / 2 ^ k) (sym e) ∙ mul-add-div-right (pow-pos k) (c .kept) (c .rest) ∙ ap (λ (z : ℕ). c .kept + z) (div-eq-of-lt short) ∙ add-zero (c .kept)) in
     let rest : c .rest ≡ N % 2 ^ k = sym (ap (λ (z : ℕ). z % 2 ^ k) (sym e) ∙ mul-add-mod-self-right (c .kept) (2 ^ k) (c .rest) ∙ mod-eq-of-lt short) in

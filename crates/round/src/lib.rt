@@ -53,12 +53,11 @@ pub fn choose_neighbour(q: u64, r: Wide, half: Wide, rule: TieRule) -> u64
 }
 
 // The same where the remainder and the half are words.
-pub fn choose_word(q: u64, r: u64, half: u64, rule: TieRule) -> u64
+fn choose_word(q: u64, r: u64, half: u64, rule: TieRule) -> u64
     requires { ⌜ (q + 1 < 2 ^ wordBits) × (r + 1 < 2 ^ wordBits) × (0 < half) ⌝ }
     ensures { λ v. ⌜ v ≡ choose (ruleOf rule) q (location r (half * 2)) ⌝ }
 {
-    let past = r + tie_up(q, rule) as u64;
-    q + (half < past) as u64
+    choose_neighbour(q, wide::from_word(r), wide::from_word(half), rule)
 }
 
 // A whole number that a fraction was rounded to, and where the fraction lay.

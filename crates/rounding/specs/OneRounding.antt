@@ -7,9 +7,9 @@ use native.Mathlib.Omega.{arith}
 use Rattle.rounding.specs.Apart.{apart}
 use Rattle.rounding.specs.ApartLaws.{apart-mul}
 use Rattle.rounding.specs.Grid.{Rule}
-use Rattle.rounding.specs.Fraction.{Fraction, over, times, ratio, distance, RN, Below, AtMost, Positive}
+use Rattle.rounding.specs.Fraction.{Fraction, over, times, ratio, distance, RN, AtMost, Positive}
 use Rattle.rounding.specs.FractionLaws.{InUnits, over-in-units, times-positive, ratio-positive, distance-in-units, times-in-units, units-at-most, at-most-units}
-use Rattle.rounding.specs.Ulp.{ulp}
+use Rattle.rounding.specs.Ulp.{WithinThreeHalves}
 use Rattle.rounding.specs.UlpLaws.{ulp-near}
 
 module _ (n : ℕ) (C h : Fraction) (c : Positive C) (k : Positive h) (close : AtMost (distance h C) (over 1 n)) where
@@ -41,7 +41,7 @@ module _ (n : ℕ) (C h : Fraction) (c : Positive C) (k : Positive h) (close : A
         (omega (arith, mul-le-mul-right S far, mul-le-mul-right (h .den * x .num * S) one))
 
     -- |RN(h * x) - C * x| < 3/2 ulp(C * x) (request W2; source document 003, Property 2.1)
-    pub times-error : (rule : Rule) → 0 < n → Below (distance (RN rule n (times h x)) (times C x)) (times (over 3 1) (ulp n (times C x)))
+    pub times-error : (rule : Rule) → 0 < n → WithinThreeHalves n (RN rule n (times h x)) (times C x)
     times-error rule P = ulp-near rule n P (times C x) (times-positive C x c p) (times h x) (times-positive h x k p) times-near
 
   -- ---- x divided by it, where h is at least 1
@@ -61,5 +61,5 @@ module _ (n : ℕ) (C h : Fraction) (c : Positive C) (k : Positive h) (close : A
         (omega (arith, mul-le-mul-right S far, mul-le-mul-right (C .den * x .num * S) one))
 
     -- |RN(x / h) - x / C| < 3/2 ulp(x / C) (request W1; source document 003, Property 3.1, is a little sharper)
-    pub ratio-error : (rule : Rule) → 0 < n → Below (distance (RN rule n (ratio x h)) (ratio x C)) (times (over 3 1) (ulp n (ratio x C)))
+    pub ratio-error : (rule : Rule) → 0 < n → WithinThreeHalves n (RN rule n (ratio x h)) (ratio x C)
     ratio-error rule P = ulp-near rule n P (ratio x C) (ratio-positive x C p c) (ratio x h) (ratio-positive x h p k) ratio-near

@@ -3,7 +3,7 @@ use Prim.Native.Nat.{ℕ, _+_, _-_, _*_, _^_}
 use lib.IntN.{ℤ, pos, _-ℤ_}
 use lib.Ieee.{size, minus}
 use lib.Ieee.Order.{drop}
-use Rattle.rounding.specs.Fraction.{Fraction, over, power, times, Below, AtMost}
+use Rattle.rounding.specs.Fraction.{Fraction, over, power, times, distance, Below, AtMost}
 
 -- 2 ^ e ≤ v < 2 ^ (e + 1), of the size of v
 pub record InBinade (e : ℤ) (v : Fraction) : Type 0 where
@@ -18,3 +18,7 @@ binadeOf v = let t = 1 + size (v .den) in minus (drop 1 (v .num * 2 ^ t) (v .den
 unfoldable pub ulp : (n : ℕ) → Fraction → Fraction
 unfolding binadeOf
 ulp n v = power (binadeOf v -ℤ pos (n - 1))
+
+-- y is less than 3/2 units in the last place of v from v
+abbrev pub WithinThreeHalves : (n : ℕ) → (y v : Fraction) → Type 0
+WithinThreeHalves n y v = Below (distance y v) (times (over 3 1) (ulp n v))

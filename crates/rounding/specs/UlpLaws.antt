@@ -17,7 +17,7 @@ use Rattle.rounding.specs.UnitLaws.{rn-half, rn-near}
 use Rattle.rounding.specs.RoundLaws.{minus-add, minus-shift, minus-zero, zero-minus}
 use Rattle.rounding.specs.Fraction.{Fraction, over, power, signedAs, times, distance, RN, Same, Below, AtMost, Positive}
 use Rattle.rounding.specs.FractionLaws.{InUnits, over-in-units, power-in-units, units-finer, RN-in-units-fraction, times-in-units, distance-in-units, units-same, units-at-most, at-most-units, units-below}
-use Rattle.rounding.specs.Ulp.{InBinade, binadeOf, ulp}
+use Rattle.rounding.specs.Ulp.{InBinade, binadeOf, ulp, WithinThreeHalves}
 
 minus-plus : (a b j : ℕ) → minus (a + j) b ≡ minus a b +ℤ pos j
 minus-plus a b j = sym (minus-shift (a + j) b j) ∙ ap (λ (z : ℤ). z +ℤ pos j) (minus-add a b j)
@@ -134,7 +134,7 @@ module _ (rule : Rule) (n : ℕ) (P : 0 < n) (v : Fraction) (p : Positive v) whe
       (omega (arith, mul-le-mul-right (2 ^ t) (rn-half rule n P N d (p .some))))
 
   -- where |w - v| ≤ v / 2 ^ n, |RN(w) - v| < 3/2 ulp(v), also where w and v lie in two binades; in whole numbers of a unit it is `rn-near`
-  pub ulp-near : (w : Fraction) → Positive w → AtMost (distance w v) (times (over 1 n) v) → Below (distance (RN rule n w) v) (times (over 3 1) (ulp n v))
+  pub ulp-near : (w : Fraction) → Positive w → AtMost (distance w v) (times (over 1 n) v) → WithinThreeHalves n (RN rule n w) v
   ulp-near w q h =
       let e = v .den in
       let d = e * w .den in

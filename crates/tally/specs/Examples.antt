@@ -21,7 +21,7 @@ use Rattle.tally.specs.declared.Counts.{Counts}
 use Rattle.product.specs.OneStep.{oneStepBy}
 use Rattle.product.specs.Answer.{multiplied}
 use Rattle.tally.specs.Tally.{tallied}
-use Rattle.product.specs.OneStepTells.{exactBy}
+use Rattle.product.specs.OneStepTells.{exactProduct}
 
 -- n bits and the ends L / 2 ^ 62 and U / 2 ^ 62
 factorAt : (n L U : ℕ) → Factor
@@ -80,7 +80,7 @@ refusals = (refl, refl, refl, refl, refl, refl, refl, refl)
 
 -- source document 003, Example 1: C = 1 + 2 ^ -13 - 2 ^ -24 and x = 2 - 2 ^ -11 at 24 bits are 3/2 - 2 ^ -12 ulp apart; and C = 1 + 2 ^ -3 - 2 ^ -5 and x = 7/4 at 5 bits, where RN(Ch * x) = 2 is in the binade above C * x, 3/2 - 2 ^ -3
 nearly-met :
-    (let y = exactBy 24 16773120 (over (2 ^ 62 + 2 ^ 49 - 2 ^ 38) 62) in Same (distance (valueOf 24 (oneStepBy (factorAt 24 (2 ^ 62 + 2 ^ 49 - 2 ^ 38) (2 ^ 62 + 2 ^ 49 - 2 ^ 38)) 16773120)) y) (times (over 6143 12) (ulp 24 y)))
-    × (let y = exactBy 5 28 (over (2 ^ 62 + 2 ^ 59 - 2 ^ 57) 62) in Same (distance (valueOf 5 (oneStepBy (factorAt 5 (2 ^ 62 + 2 ^ 59 - 2 ^ 57) (2 ^ 62 + 2 ^ 59 - 2 ^ 57)) 28)) y) (times (over 11 3) (ulp 5 y)))
+    (let y = exactProduct 24 16773120 (over (2 ^ 62 + 2 ^ 49 - 2 ^ 38) 62) in Same (distance (valueOf 24 (oneStepBy (factorAt 24 (2 ^ 62 + 2 ^ 49 - 2 ^ 38) (2 ^ 62 + 2 ^ 49 - 2 ^ 38)) 16773120)) y) (times (over 6143 12) (ulp 24 y)))
+    × (let y = exactProduct 5 28 (over (2 ^ 62 + 2 ^ 59 - 2 ^ 57) 62) in Same (distance (valueOf 5 (oneStepBy (factorAt 5 (2 ^ 62 + 2 ^ 59 - 2 ^ 57) (2 ^ 62 + 2 ^ 59 - 2 ^ 57)) 28)) y) (times (over 11 3) (ulp 5 y)))
 unfolding factorAt multiplied ulp size
 nearly-met = ((refl, refl), (refl, refl))

@@ -9,10 +9,12 @@ use Rattle.marks.specs.Answers.{Outcome, refused, accepted, answer}
 use Rattle.factor.specs.declared.Factor.{Factor}
 use Rattle.factor.specs.Precision.{rangeOut}
 use Rattle.factor.specs.SetUp.{intact}
-use Rattle.product.specs.Marks.{mark, markBy}
+use Rattle.product.specs.declared.Device.{Device}
+use Rattle.product.specs.Marks.{mark}
 use Rattle.tally.specs.declared.Counts.{Counts}
 use Rattle.tally.specs.declared.TallyAnswer.{TallyAnswer}
-use Rattle.product.specs.OneStep.{oneStep, oneStepBy}
+use Rattle.product.specs.OneStep.{oneStep}
+use Rattle.product.specs.Devices.{markOn}
 
 -- ---- counting
 -- 1 if a mark is m, and else 0
@@ -51,7 +53,7 @@ together t u = record { rights = t .rights + u .rights; wrongs = t .wrongs + u .
 -- its mark of a significand
 unfoldable pub markOnce : Factor → ℕ → Mark
 unfolding oneStep mark
-markOnce f X = markBy f X (oneStepBy f X)
+markOnce f X = markOn Device.OneStep f X
 
 -- ---- a call
 -- so many significands go into one

@@ -71,8 +71,8 @@ pub data Adjoining (f : Factor) : (first end : ℕ) → Counts → Type 0 where
 -- they add up to the counts of the whole, however long it is
 pub tallies-add : (f : Factor) (first end : ℕ) (t : Counts) → Adjoining f first end t → (first ≤ end) × (t ≡ countsOf (markOnce f) first (end - first))
 tallies-add f first end t (none-left _) = let none : 0 ≡ end - end = omega arith in (omega arith, ap (countsOf (markOnce f) end) none)
-tallies-add f first end t (call _ last _ one others answered rest) =
-    let a = told f first last one answered in
+tallies-add f first end t (call _ last _ own others answered rest) =
+    let a = told f first last own answered in
     let b = tallies-add f (suc last) end others rest in
     let i = spanLength first last in
     let j = end - suc last in
@@ -95,23 +95,27 @@ module _ (f : Factor) (good : intact f ≡ true) (last : ℕ) where
   last-call : (first : ℕ) → InRange (f .precision .bits) first last → spanLength first last ≤ mostTallied → Covered first
   last-call first r short = (_, call first last (suc last) _ nothing (one-call first last r short) (none-left (suc last)))
 
-  full-call : (first : ℕ) → InRange (f .precision .bits) first last → mostTallied < spanLength first last → Covered (suc (first + 65535)) → Covered first
+  full-call : (first : ℕ) → InRange (f .precision .bits) first last → mostTallied < spanLength first last → Covered (suc (first + (mostTallied - 1))) → Covered first
   full-call first r long (t, rest) =
-      let to = first + 65535 in
+      let to = first + (mostTallied - 1) in
       let r' : InRange (f .precision .bits) first to = record { first-bits = r .first-bits; last-bits = record { least = omega (arith, r .first-bits .least); most = omega (arith, r .last-bits .most) }; ordered = omega arith } in
       (_, call first to (suc last) _ t (one-call first to r' (omega arith)) rest)
 
   -- from `first` on, where so many calls are enough
   covered : (calls first : ℕ) → InRange (f .precision .bits) first last → last ≤ calls + first → Covered first
   covered zero first r enough = last-call first r (omega arith)
-  covered (suc calls) first r enough = by (decLe (spanLength first last) mostTallied) (λ long. covered calls (suc (first + 65535)) (after long) (omega arith))
+  covered (suc calls) first r enough = by (decLe (spanLength first last) mostTallied) (λ long. covered calls (suc (first + (mostTallied - 1))) (after long) (omega arith))
     where
-      after : mostTallied < spanLength first last → InRange (f .precision .bits) (suc (first + 65535)) last
+      after : mostTallied < spanLength first last → InRange (f .precision .bits) (suc (first + (mostTallied - 1))) last
       after long = record { first-bits = record { least = omega (arith, r .first-bits .least); most = omega (arith, r .last-bits .most) }; last-bits = r .last-bits; ordered = omega arith }
 
-      by : Dec (spanLength first last ≤ mostTallied) → (mostTallied < spanLength first last → Covered (suc (first + 65535))) → Covered first
+      by : Dec (spanLength first last ≤ mostTallied) → (mostTallied < spanLength first last → Covered (suc (first + (mostTallied - 1)))) → Covered first
       by (yes short) rest = last-call first r short
       by (no long) rest = full-call first r (lt-of-not-le long) (rest (lt-of-not-le long))
 
   pub tallies-reach : (first : ℕ) → rangeOut (f .precision .bits) first last ≡ false → Covered first
   tallies-reach first e = covered last first (in-range (f .precision .bits) first last e) (omega arith)
+
+  -- where one call may take the whole, it answers the same
+  pub tallies-whole : (first : ℕ) (t : Counts) → Adjoining f first (suc last) t → rangeOut (f .precision .bits) first last ≡ false → spanLength first last ≤ mostTallied → tallied f first last ≡ accepted t
+  tallies-whole first t calls e short = one-call first last (in-range (f .precision .bits) first last e) short ∙ ap accepted (sym (tallies-add f first (suc last) t calls .1))

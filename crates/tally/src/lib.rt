@@ -31,8 +31,8 @@ pub enum TallyAnswer {
     Refused(u32),
 }
 
-// The mark of a significand, given both ends times it, each cut behind its step of binade 0: between these steps lies what a mark compares.
-fn trial(f: Factor, x: u64, lower: Cut, upper: Cut) -> Mark
+// The one-step product's mark, given both ends times the significand, each cut behind its step of binade 0: a mark compares whole numbers of such steps.
+fn mark_once(f: Factor, x: u64, lower: Cut, upper: Cut) -> Mark
     requires { ⌜ Sound f × HasBits (f .precision .bits) x × (lower ≡ cutAt (contextOf f .E) (lowerOf f * x)) × (upper ≡ cutAt (contextOf f .E) (upperOf f * x)) ⌝ }
     ensures { λ r. ⌜ r ≡ markOnce f x ⌝ }
 {
@@ -87,7 +87,7 @@ fn count(f: Factor, first: u64, last: u64) -> Counts
     let mut upper = round::cut_wide(wide::product_by_digit(f.upper, first), e);
     let mut x = first;
     while x <= last {
-        t = counted(t, trial(f, x, lower, upper));
+        t = counted(t, mark_once(f, x, lower, upper));
         lower = round::cut_sum(lower, lower_step, e);
         upper = round::cut_sum(upper, upper_step, e);
         x += 1;

@@ -9,7 +9,7 @@ use Rattle.factor.specs.declared.Factor.{Factor}
 use Rattle.factor.specs.SetUp.{Sound}
 use Rattle.product.specs.declared.Device.{Device}
 use Rattle.product.specs.declared.Product.{Product}
-use Rattle.product.specs.OneStepLaws.{formed}
+use Rattle.product.specs.DeviceLaws.{formed}
 use Rattle.product.specs.Answer.{conditions, marked, multiplied}
 use Rattle.product.specs.AnswerLaws.{let-through}
 use Rattle.product.proofs.multiply.Statement.{statement}

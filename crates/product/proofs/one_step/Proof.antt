@@ -4,7 +4,8 @@ use Prim.Native.Nat.{ℕ, _≤_, _<_}
 use borrow.Author.Needs.{needs}
 use Rattle.product.specs.OneStep.{oneStepBy}
 use Rattle.product.specs.SoundLaws.{sound-fine}
-use Rattle.product.specs.OneStepLaws.{sound-one-step, by-steps-low, by-steps-high}
+use Rattle.product.specs.OneStepLaws.{sound-one-step}
+use Rattle.product.specs.DeviceLaws.{by-steps-low, by-steps-high}
 use Rattle.product.proofs.one_step.Statement.{statement}
 use Rattle.product.proofs.one_step.Tie as tie
 
@@ -14,7 +15,7 @@ returns c =
     let a = told .before in
     let f = a .args .f in
     let is = sound-one-step f (a .pre .0) (a .args .x) (a .pre .1) in
-    by-steps-low (f .precision .bits) (sound-fine f (a .pre .0) .some) (oneStepBy f (a .args .x)) (is .bits) (is .binade) (told .once .result) (told .once .ensures) (subst (λ (u : ℕ). told .once .result < u) (c .before .power .ensures) (c .if1 .taken))
+    by-steps-low (f .precision .bits) (sound-fine f (a .pre .0) .some) (oneStepBy f (a .args .x)) (is .bits) (is .binade) (told .steps-once .result) (told .steps-once .ensures) (subst (λ (u : ℕ). told .steps-once .result < u) (c .before .power .ensures) (c .if1 .taken))
 
 returns-2 : tie.Need-returns-2
 returns-2 c =
@@ -22,7 +23,7 @@ returns-2 c =
     let a = told .before in
     let f = a .args .f in
     let is = sound-one-step f (a .pre .0) (a .args .x) (a .pre .1) in
-    by-steps-high (f .precision .bits) (sound-fine f (a .pre .0) .some) (oneStepBy f (a .args .x)) (is .bits) (is .binade) (told .once .result) (told .once .ensures) (subst (λ (u : ℕ). u ≤ told .once .result) (c .before .power .ensures) (c .if1 .left))
+    by-steps-high (f .precision .bits) (sound-fine f (a .pre .0) .some) (oneStepBy f (a .args .x)) (is .bits) (is .binade) (told .steps-once .result) (told .steps-once .ensures) (subst (λ (u : ℕ). u ≤ told .steps-once .result) (c .before .power .ensures) (c .if1 .left))
 
 pub one-step-spec : {M : Type 1} → statement M
 one-step-spec = tie.close (tie.spec (λ c κs. search needs) (λ c κs. search needs) returns returns-2)

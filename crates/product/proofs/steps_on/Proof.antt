@@ -23,7 +23,7 @@ returns c =
     c .steps-of .ensures ∙ ap stepsOf (c .before .two-steps .ensures ∙ ap (λ (d : Device). productOn d (a .f) (a .x)) (sym (k .enum-told .given .1)))
 
 returns-2 : tie.Need-returns-2
-returns-2 c = let k = c .before in let a = k .before .before .args in c .once .ensures ∙ ap (λ (d : Device). stepsOf (productOn d (a .f) (a .x))) (sym (k .enum-told2 .given .1))
+returns-2 c = let k = c .before in let a = k .before .before .args in c .steps-once .ensures ∙ ap (λ (d : Device). stepsOf (productOn d (a .f) (a .x))) (sym (k .enum-told2 .given .1))
 
 pub steps-on-spec : {M : Type 1} → statement M
 steps-on-spec = tie.close (tie.spec (λ c. search needs) (λ c κs. search needs) steps-of-requires (λ c. search needs) (λ c κs. search needs) returns returns-2)

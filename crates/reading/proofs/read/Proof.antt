@@ -9,7 +9,7 @@ use Rattle.rounding.specs.Round.{HasBits}
 use Rattle.floats.specs.Fields.{significandOf}
 use Rattle.factor.specs.declared.Factor.{Factor}
 use Rattle.product.specs.declared.Device.{Device}
-use Rattle.product.specs.OneStepLaws.{formed}
+use Rattle.product.specs.DeviceLaws.{formed}
 use Rattle.reading.specs.Reading.{Made, productOf, productAt, finished, applied}
 use Rattle.reading.specs.AnswerLaws.{Ready, ready, normal-answered, zero-answered, refused-answered}
 use Rattle.reading.proofs.read.Statement.{statement}

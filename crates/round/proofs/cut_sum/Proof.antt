@@ -1,11 +1,10 @@
 -- `round::cut_sum` meets its contract: the carry is 0 or 1. Assumes nothing.
 use mathlib.Core.Path.{sym, ap, _∙_, subst}
-use Prim.Native.Nat.{ℕ, _+_, _-_, _/_, _%_, _^_, _<_}
+use Prim.Native.Nat.{ℕ, _+_, _-_, _/_, _%_, _<_}
 use native.Mathlib.Omega.{arith}
 use lib.Pow.{pow-pos, pow-mono}
 use borrow.Author.Needs.{needs}
 use Rattle.wide.specs.Value.{wordBits}
-use Rattle.round.specs.declared.Cut.{Cut}
 use Rattle.round.specs.CutLaws.{cut-sum, carry-most}
 use Rattle.round.proofs.cut_sum.Statement.{statement}
 use Rattle.round.proofs.cut_sum.Tie as tie

@@ -1,11 +1,10 @@
 -- `round::cut_wide` meets its contract: both parts are one word. Assumes nothing.
-use mathlib.Core.Path.{_≡_, ap, _∙_, subst, sym}
-use Prim.Native.Nat.{ℕ, _+_, _*_, _/_, _%_, _^_, _<_}
+use mathlib.Core.Path.{_∙_}
 use native.Mathlib.Nat.{div-lt-iff-lt-mul, mod-lt, lt-of-lt-of-le}
 use native.Mathlib.Omega.{arith}
 use lib.Pow.{pow-add, pow-pos, pow-mono}
 use borrow.Author.Needs.{needs}
-use Rattle.wide.specs.Value.{wordBits, valueOf}
+use Rattle.wide.specs.Value.{wordBits}
 use Rattle.round.proofs.cut_wide.Statement.{statement}
 use Rattle.round.proofs.cut_wide.Tie as tie
 

@@ -3,7 +3,6 @@ use mathlib.Core.Path.{ap}
 use Prim.Native.Nat.{ℕ, _/_, _%_}
 use lib.Pow.{pow-pos}
 use borrow.Author.Needs.{needs}
-use Rattle.round.specs.declared.Cut.{Cut}
 use Rattle.round.proofs.cut_word.Statement.{statement}
 use Rattle.round.proofs.cut_word.Tie as tie
 

@@ -123,8 +123,8 @@ module _ (c : tie.In-loop Inv-loop μ-loop) where
   x-small : x < 2 ^ 32
   x-small = significand-word (f .precision .bits) x (sound .precision) x-bits
 
-trial-requires : tie.Need-trial-requires Inv-loop μ-loop
-trial-requires c κs = let i = c .before .loop .inv in (sound c, x-bits c, i .lower-is, i .upper-is)
+mark-once-requires : tie.Need-mark-once-requires Inv-loop μ-loop
+mark-once-requires c κs = let i = c .before .loop .inv in (sound c, x-bits c, i .lower-is, i .upper-is)
 
 counted-requires : tie.Need-counted-requires Inv-loop μ-loop
 counted-requires c κs = let t = c .before in small _ _ _ _ _ (t .before .loop .inv .begun) (x-small t)
@@ -155,7 +155,7 @@ loop-again c =
     let lower-step = upper-step .before in
     let i = t .before .loop .inv in
     record {
-      begun = rw (counted .counted .ensures, counted .before .trial .ensures) (one-more _ _ _ _ _ (i .begun) (omega (arith, t .loop-test .taken)));
+      begun = rw (counted .counted .ensures, counted .before .mark-once .ensures) (one-more _ _ _ _ _ (i .begun) (omega (arith, t .loop-test .taken)));
       lower-is =
           next-cut (f t) (sound t) (lowerOf (f t)) (sound t .lower-end) (k t .scale .result) (k t .scale .ensures) (x t) (x-bits t) (t .before .loop .lower) (i .lower-is) (lower-step .cut-word .result) (lower-step .cut-word .ensures)
           (c .before .cut-sum .result) (c .before .cut-sum .ensures);
@@ -170,5 +170,5 @@ returns c = all-done _ _ _ _ _ (c .before .loop .inv .begun) (c .loop-test .left
 pub count-spec : {M : Type 1} → statement M
 count-spec =
     tie.close
-    (tie.spec Inv-loop μ-loop (λ c κs. c .before .pre .0 .precision) (λ c κs. scale-word c) (λ c κs. scale-word (c .before)) product-by-digit-requires cut-wide-requires product-by-digit-requires-2 cut-wide-requires-2 loop-holds trial-requires counted-requires
+    (tie.spec Inv-loop μ-loop (λ c κs. c .before .pre .0 .precision) (λ c κs. scale-word c) (λ c κs. scale-word (c .before)) product-by-digit-requires cut-wide-requires product-by-digit-requires-2 cut-wide-requires-2 loop-holds mark-once-requires counted-requires
     cut-sum-requires cut-sum-requires-2 add-x loop-less loop-again returns)

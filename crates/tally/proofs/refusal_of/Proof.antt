@@ -1,6 +1,6 @@
 -- `tally::refusal_of` is the first refusal whose condition holds: 31, 17, 41. Assumes nothing.
 use mathlib.Core.Path.{_≡_, sym, ap, _∙_}
-use mathlib.Core.Bool.{false, not}
+use mathlib.Core.Bool.{true, false, not}
 use Prim.Native.Nat.{ℕ, _+_, _-_, _≤_}
 use native.Mathlib.Omega.{arith}
 use borrow.Author.Needs.{needs}
@@ -26,7 +26,10 @@ range-out-requires : tie.Need-range-out-requires
 range-out-requires c κs = let f = c .before .before .before .args .f in intact-sound f (not-false _ (through (c .before))) .precision
 
 returns-2 : tie.Need-returns-2
-returns-2 c = pass (through (c .before .before .before)) (stop (sym (c .before .range-out .ensures) ∙ c .if2 .taken))
+returns-2 c =
+    let a = c .before .before .before .before .before .args in
+    let out : rangeOut (a .f .precision .bits) (a .first) (a .last) ≡ true = sym (c .before .range-out .ensures) ∙ c .if2 .taken in
+    pass (through (c .before .before .before)) (stop out)
 
 -- ---- 17 lets the range through
 module _ (c : tie.Else2) where

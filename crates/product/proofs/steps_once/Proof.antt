@@ -1,19 +1,18 @@
--- `product::once` meets its contract: Ch * x is one word, which is cut behind the step of binade 0. Assumes nothing.
-use mathlib.Core.Path.{_≡_, sym, ap, _∙_, subst}
-use Prim.Native.Nat.{ℕ, _-_, _*_, _^_, _≤_, _<_}
+-- `product::steps_once` meets its contract: Ch * x is one word, which is cut behind the step of binade 0. Assumes nothing.
+use mathlib.Core.Path.{ap, _∙_}
+use Prim.Native.Nat.{ℕ, _-_, _*_}
 use native.Mathlib.Nat.{le-of-lt}
 use native.Mathlib.Omega.{arith}
 use borrow.Author.Needs.{needs}
 use Rattle.rounding.specs.Unit.{rn}
 use Rattle.round.specs.Cuts.{uncut}
 use Rattle.round.specs.CutLaws.{cut-whole, cut-short}
-use Rattle.factor.specs.declared.Factor.{Factor}
 use Rattle.factor.specs.Context.{tieRule, contextOf}
 use Rattle.product.specs.StepLaws.{product-word, kept-bits}
 use Rattle.product.specs.SoundLaws.{sound-fine, sound-high}
 use Rattle.product.specs.OneStepLaws.{atStep, exact-within, one-step-steps}
-use Rattle.product.proofs.once.Statement.{statement}
-use Rattle.product.proofs.once.Tie as tie
+use Rattle.product.proofs.steps_once.Statement.{statement}
+use Rattle.product.proofs.steps_once.Tie as tie
 
 mul-cut-word : tie.Need-mul-cut-word
 mul-cut-word c =
@@ -41,5 +40,5 @@ returns c =
     one-step-steps (contextOf f) (sound-fine f (a .pre .0) .some) (f .parts) (a .args .x) (sound-high f (a .pre .0)) (a .pre .1) (c .round-cut .result)
     (c .round-cut .ensures ∙ ap (λ (z : ℕ). rn tieRule n z 1) (ap (uncut (n - 1)) (c .before .cut-word .ensures) ∙ cut-whole (n - 1) N))
 
-pub once-spec : {M : Type 1} → statement M
-once-spec = tie.close (tie.spec (λ c. search needs) mul-cut-word (λ c κs. search needs) round-cut-requires returns)
+pub steps-once-spec : {M : Type 1} → statement M
+steps-once-spec = tie.close (tie.spec (λ c. search needs) mul-cut-word (λ c κs. search needs) round-cut-requires returns)

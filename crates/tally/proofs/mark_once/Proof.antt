@@ -1,4 +1,4 @@
--- `tally::trial` meets its contract: the mark by whole numbers of the step of binade 0. Assumes nothing.
+-- `tally::mark_once` meets its contract: the mark by whole numbers of the step of binade 0. Assumes nothing.
 use mathlib.Core.Path.{sym, ap, _∙_}
 use borrow.Author.Needs.{needs}
 use Rattle.factor.specs.Context.{tieRule, contextOf, lowerOf, upperOf}
@@ -8,8 +8,8 @@ use Rattle.product.specs.SoundLaws.{sound-fine}
 use Rattle.product.specs.MarkLaws.{mark-steps}
 use Rattle.tally.specs.Tally.{markOnce}
 use Rattle.tally.proofs.Laws.{ready, rounds}
-use Rattle.tally.proofs.trial.Statement.{statement}
-use Rattle.tally.proofs.trial.Tie as tie
+use Rattle.tally.proofs.mark_once.Statement.{statement}
+use Rattle.tally.proofs.mark_once.Tie as tie
 
 round-cut-requires : tie.Need-round-cut-requires
 round-cut-requires c κs = let a = c .before .before in let f = a .args .f in ready f (a .pre .0) (lowerOf f) (a .pre .0 .lower-end) (c .scale .result) (c .scale .ensures) (a .args .x) (a .pre .1) (a .args .lower) (a .pre .2)
@@ -38,5 +38,5 @@ returns c =
     (rounds f (a .pre .0) (upperOf f) (a .pre .0 .upper-end) (k .scale .result) (k .scale .ensures) X (a .pre .1) (a .args .upper) (a .pre .3) (upper .round-cut2 .result) (upper .round-cut2 .ensures))
     )
 
-pub trial-spec : {M : Type 1} → statement M
-trial-spec = tie.close (tie.spec (λ c κs. search needs) round-cut-requires round-cut-requires-2 (λ c κs. search needs) (λ c κs. search needs) returns)
+pub mark-once-spec : {M : Type 1} → statement M
+mark-once-spec = tie.close (tie.spec (λ c κs. search needs) round-cut-requires round-cut-requires-2 (λ c κs. search needs) (λ c κs. search needs) returns)
