@@ -96,8 +96,9 @@ fn single(output: &mut dyn Write) -> io::Result<()> {
     let mut random = Random::new(1);
     let count = 200_000;
     let all: Vec<Given> = (0..count).map(|i| given(&mut random, 4 + (i % 21) as u32, i % (KINDS - 1))).collect();
-    // The call alone: what `engine::set_up` does with the words is the reference's own work.
+    // The calls alone: what `engine::set_up` and the others do with the words is the reference's own work.
     let mut out = [0; engine::FACTOR_WORDS];
+    let mut bits = [0; 1];
     let ours = seconds(5, || {
         for g in &all {
             black_box(engine::set_up_to(g.bits, g.scale, g.lower, g.upper, &mut out));
@@ -131,7 +132,7 @@ fn single(output: &mut dyn Write) -> io::Result<()> {
     let as_words: Vec<_> = accepted.iter().map(|(factor, x)| (words(factor), *x)).collect();
     let ours = seconds(5, || {
         for (words, x) in &as_words {
-            black_box(engine::multiply(words, *x).is_ok());
+            black_box(engine::multiply_to(words, *x, &mut out));
         }
     });
     let theirs = seconds(5, || {
@@ -153,7 +154,7 @@ fn single(output: &mut dyn Write) -> io::Result<()> {
 
     let ours = seconds(5, || {
         for (words, x) in &as_words {
-            let _ = black_box(engine::divide(words, *x));
+            black_box(engine::divide_to(words, *x, &mut out));
         }
     });
     let theirs = seconds(5, || {
@@ -174,7 +175,7 @@ fn single(output: &mut dyn Write) -> io::Result<()> {
 
     let ours = seconds(5, || {
         for (words, x) in &as_words {
-            black_box(engine::multiply_once(words, *x).is_ok());
+            black_box(engine::multiply_once_to(words, *x, &mut out));
         }
     });
     let theirs = seconds(5, || {
@@ -207,8 +208,8 @@ fn single(output: &mut dyn Write) -> io::Result<()> {
         .collect();
     let as_words: Vec<_> = readings.iter().map(|(factor, bits)| (words(factor), *bits)).collect();
     let ours = seconds(5, || {
-        for (words, bits) in &as_words {
-            black_box(engine::read(words, *bits).is_ok());
+        for (words, reading) in &as_words {
+            black_box(engine::read_to(words, *reading, &mut bits));
         }
     });
     let theirs = seconds(5, || {
@@ -218,8 +219,8 @@ fn single(output: &mut dyn Write) -> io::Result<()> {
     });
     line(output, "product of a reading, the factor checked", ours / count, theirs / count)?;
     let ours = seconds(5, || {
-        for (words, bits) in &as_words {
-            let _ = black_box(engine::divide_reading(words, *bits));
+        for (words, reading) in &as_words {
+            black_box(engine::divide_reading_to(words, *reading, &mut bits));
         }
     });
     let theirs = seconds(5, || {
@@ -229,8 +230,8 @@ fn single(output: &mut dyn Write) -> io::Result<()> {
     });
     line(output, "quotient of a reading, the factor checked", ours / count, theirs / count)?;
     let ours = seconds(5, || {
-        for (words, bits) in &as_words {
-            black_box(engine::read_once(words, *bits).is_ok());
+        for (words, reading) in &as_words {
+            black_box(engine::read_once_to(words, *reading, &mut bits));
         }
     });
     let theirs = seconds(5, || {
