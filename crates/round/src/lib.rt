@@ -43,7 +43,7 @@ pub fn tie_up(q: u64, rule: TieRule) -> bool
     }
 }
 
-// The neighbour of q + r / (2 * half) that is taken, q or q + 1, for an r below 2 * half: the upper one past half, and at half where the rule says so. By a comparison and no branch, since which one it is cannot be foreseen.
+// The neighbour of q + r / (2 * half) that is taken, q or q + 1, for an r below 2 * half: the upper one past half, and at half where the rule says so. Every rounding comes down to this: a comparison and no branch, since which one it is cannot be foreseen.
 pub fn choose_neighbour(q: u64, r: Wide, half: Wide, rule: TieRule) -> u64
     requires { ⌜ (q + 1 < 2 ^ wordBits) × (r .hi + 1 < 2 ^ wordBits) × (0 < valueOf half) ⌝ }
     ensures { λ v. ⌜ v ≡ choose (ruleOf rule) q (location (valueOf r) (valueOf half * 2)) ⌝ }
@@ -52,7 +52,7 @@ pub fn choose_neighbour(q: u64, r: Wide, half: Wide, rule: TieRule) -> u64
     q + wide::below(half, past) as u64
 }
 
-// The same where the remainder and the half are words.
+// The neighbour that is taken where the remainder and the half are words.
 fn choose_word(q: u64, r: u64, half: u64, rule: TieRule) -> u64
     requires { ⌜ (q + 1 < 2 ^ wordBits) × (r + 1 < 2 ^ wordBits) × (0 < half) ⌝ }
     ensures { λ v. ⌜ v ≡ choose (ruleOf rule) q (location r (half * 2)) ⌝ }
@@ -66,7 +66,7 @@ pub struct Neighbour {
     pub location: Location,
 }
 
-// q + r / (2 * half) to the nearest whole number: what every rounding here comes down to.
+// q + r / (2 * half) to the nearest whole number, with where it lay.
 fn nearest_of(q: u64, r: Wide, half: Wide, rule: TieRule) -> Neighbour
     requires { ⌜ (q + 1 < 2 ^ wordBits) × (r .hi + 1 < 2 ^ wordBits) × (0 < valueOf half) ⌝ }
     ensures { λ v. ⌜ v ≡ neighbourAt (ruleOf rule) q (valueOf r) (valueOf half * 2) ⌝ }
