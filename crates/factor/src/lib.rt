@@ -12,7 +12,7 @@ ghost use Rattle.wide.specs.Value.{halfWord};
 ghost use Rattle.rounding.specs.Apart.{apart};
 ghost use Rattle.rounding.specs.Signed.{negative, signedOf};
 ghost use Rattle.factor.specs.Precision.{ValidPrecision, scaleOf, roundsOf, precisionOut, newPrecision, precisionSays, leastOf, mostOf};
-ghost use Rattle.factor.specs.Context.{contextAt};
+ghost use Rattle.factor.specs.Context.{contextAt, minusOf};
 ghost use Rattle.factor.specs.UnitParts.{partsFrom};
 ghost use Rattle.factor.specs.Ends.{End};
 ghost use Rattle.factor.specs.Parts.{partsAt};
@@ -229,7 +229,7 @@ fn low_float(n: u32, low: i64, places: u32) -> f32
 {
     let size = round::magnitude(low);
     if size == 0 {
-        return floats::plus_zero();
+        return floats::zero(false);
     }
     floats::narrow_float(low < 0, n, size, places)
 }
@@ -363,4 +363,11 @@ pub fn is_intact(f: Factor) -> bool
         SetUp::Accepted(g) => same_factor(f, g),
         SetUp::Refused(_) => false,
     }
+}
+
+// Whether a factor has a minus: none has, as its ends are positive.
+pub fn is_minus(f: Factor) -> bool
+    ensures { λ r. ⌜ r ≡ minusOf f ⌝ }
+{
+    false
 }

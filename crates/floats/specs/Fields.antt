@@ -4,7 +4,7 @@ use Prim.Native.Nat.{ℕ, suc, _+_, _-_, _*_, _/_, _%_, _^_, _≤_, _<_}
 use lib.Dec.{eqb, leb}
 use lib.IntN.{ℤ, pos}
 use lib.Ieee
-use lib.Ieee.{Float, fin, Format, prec, emax, low, hid, ones, top, minus, toBits}
+use lib.Ieee.{Float, nan, inf, fin, Format, prec, emax, low, hid, ones, top, minus, toBits}
 
 -- ---- the fields of a pattern b: the sign, the biased exponent, and the trailing significand, which is the digits below the leading one
 abbrev pub signOf : Format → ℕ → Bool
@@ -21,8 +21,15 @@ abbrev pub signAbove : Format → Bool → ℕ → ℕ
 signAbove f true b = top f + b
 signAbove f false b = b
 
-abbrev pub plusZero : Float
-plusZero = fin false 0 (pos 0)
+-- zero with a sign
+abbrev pub zeroOf : Bool → Float
+zeroOf s = fin s 0 (pos 0)
+
+-- whether a float has a minus: IEEE 754-2019's isSignMinus, zeros and infinities included; the one NaN has no sign
+abbrev pub isMinus : Float → Bool
+isMinus nan = false
+isMinus (inf s) = s
+isMinus (fin s m e) = s
 
 -- floats are compared bit for bit
 abbrev pub sameFloat : Format → Float → Float → Bool

@@ -2,9 +2,9 @@
 ghost use mathlib.Core.Path.{_≡_};
 ghost use Prim.Native.Nat.{_<_, _^_};
 ghost use lib.Ieee;
-ghost use lib.Ieee.{binary32, emax, ofBits, toBits};
+ghost use lib.Ieee.{binary32, emax, unlike, ofBits, toBits};
 ghost use Rattle.wide.specs.Value.{wordBits};
-ghost use Rattle.floats.specs.Fields.{signOf, biasedExponent, trailingSignificand, significandOf, plusZero, sameFloat, floatOf, Normalized, Narrow, unitAt, WholeInUnits, unitsOf};
+ghost use Rattle.floats.specs.Fields.{signOf, biasedExponent, trailingSignificand, significandOf, zeroOf, sameFloat, floatOf, Normalized, Narrow, unitAt, WholeInUnits, unitsOf};
 
 // How many digits a significand has, the leading one counted.
 pub const PRECISION: u32 = 24;
@@ -81,10 +81,20 @@ pub fn same_float(x: f32, y: f32) -> bool
     bits_of(x) == bits_of(y)
 }
 
-// Plus zero.
-pub fn plus_zero() -> f32
-    ensures { λ r. ⌜ r ≡ plusZero ⌝ }
+// The sign of a product or quotient by the signs of its two operands, zeros included: minus where one has it and the other has not.
+pub fn sign_by(x: bool, y: bool) -> bool
+    ensures { λ r. ⌜ r ≡ unlike x y ⌝ }
 {
+    x != y
+}
+
+// Zero with a sign.
+pub fn zero(minus: bool) -> f32
+    ensures { λ r. ⌜ r ≡ zeroOf minus ⌝ }
+{
+    if minus {
+        return f32::from_bits(SIGN);
+    }
     f32::from_bits(0)
 }
 

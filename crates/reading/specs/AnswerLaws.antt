@@ -26,7 +26,11 @@ module _ (f : Factor) (b : ℕ) (h : NoneHolds (unreadable f b)) where
   pub precision-is : f .precision .bits ≡ prec binary32
   precision-is = eqb-true (f .precision .bits) (prec binary32) (not-false _ (h .1 .0))
 
-  -- unless it is a zero, it is answered with what is made of it, if 23 does not refuse that
+  -- a zero is answered with what is made of a zero
+  pub zeros-answered : {A : Type 0} (m : Made A) → zeroBits binary32 b ≡ true → accepted (m .of-zero) ≡ answerTo f b m
+  zeros-answered m z = rw z (accepts (pass refl end) _ ∙ sym (rest-answers (unreadable f b) _ h _))
+
+  -- any other with what is made of it, if 23 does not refuse that
   pub others-answered : {A : Type 0} (m : Made A) → zeroBits binary32 b ≡ false → answer ((23, exponentOut binary32 (m .exponent)) ∷ []) (m .value) ≡ answerTo f b m
   others-answered m z = rw z (sym (rest-answers (unreadable f b) _ h _))
 
@@ -35,16 +39,15 @@ module _ (f : Factor) (b : ℕ) (h : NoneHolds (unreadable f b)) where
   is-normal z = normal-others binary32 b (h .1 .1 .0) z (h .1 .1 .1 .0)
 
 -- what holds of every answer to a reading: of a refusal, of what is made of a zero, and of what is made of any other that is let through
-pub of-reading : {A : Type 0} (P : Outcome A → Type 0) (f : Factor) (b : ℕ) (m : Made A) → ((k : ℕ) → P (refused k)) → (zeroBits binary32 b ≡ true → P (accepted (m .of-zero)))
+pub of-reading : {A : Type 0} (P : Outcome A → Type 0) (f : Factor) (b : ℕ) (m : Made A) → ((k : ℕ) → P (refused k)) → (NoneHolds (unreadable f b) → zeroBits binary32 b ≡ true → P (accepted (m .of-zero)))
     → (NoneHolds (unreadable f b) → zeroBits binary32 b ≡ false → exponentOut binary32 (m .exponent) ≡ false → P (accepted (m .value))) → P (answerTo f b m)
-of-reading P f b m none of-zero others = of-answer P (conditions f b (m .exponent)) (cond (zeroBits binary32 b) (m .of-zero) (m .value)) none (go (zeroBits binary32 b) refl)
+of-reading P f b m none of-zero others =
+    of-answer P (conditions f b (m .exponent)) (cond (zeroBits binary32 b) (m .of-zero) (m .value)) none
+    (λ h. let t = none-apart (unreadable f b) ((23, not (zeroBits binary32 b) && exponentOut binary32 (m .exponent)) ∷ []) h in go (zeroBits binary32 b) refl (t .0) (t .1 .0))
   where
-    go : (z : Bool) → zeroBits binary32 b ≡ z → NoneHolds (conditions f b (m .exponent)) → P (accepted (cond (zeroBits binary32 b) (m .of-zero) (m .value)))
-    go true z h = rw z (of-zero z)
-    go false z h =
-        let t = none-apart (unreadable f b) ((23, not (zeroBits binary32 b) && exponentOut binary32 (m .exponent)) ∷ []) h in
-        let o : exponentOut binary32 (m .exponent) ≡ false = rw z at (t .1 .0) in
-        rw z (others (t .0) z o)
+    go : (z : Bool) → zeroBits binary32 b ≡ z → NoneHolds (unreadable f b) → not (zeroBits binary32 b) && exponentOut binary32 (m .exponent) ≡ false → P (accepted (cond (zeroBits binary32 b) (m .of-zero) (m .value)))
+    go true z h o = rw z (of-zero h z)
+    go false z h o = let in-range : exponentOut binary32 (m .exponent) ≡ false = rw z at o in rw z (others h z in-range)
 
 -- what its work asks for
 pub record Ready (f : Factor) (b : ℕ) : Type 0 where
@@ -53,16 +56,16 @@ pub record Ready (f : Factor) (b : ℕ) : Type 0 where
   pub bits : HasBits (f .precision .bits) (significandOf binary32 b)
 
 -- ---- a reading as it was taken
--- a kind tells whether its reading is a zero, and the bits of a normal one
+-- a kind tells whether its reading is a zero, and its bits
 abbrev KindTells : ℕ → Kind → Type 0
-KindTells b zero = zeroBits binary32 b ≡ true
+KindTells b (zero c) = (zeroBits binary32 b ≡ true) × (b ≡ c)
 KindTells b (normal c) = (zeroBits binary32 b ≡ false) × (b ≡ c)
 
 kind-tells : (b : ℕ) → KindTells b (kindOf b)
 kind-tells b = go (zeroBits binary32 b) refl
   where
-    go : (z : Bool) → zeroBits binary32 b ≡ z → KindTells b (cond z zero (normal b))
-    go true e = e
+    go : (z : Bool) → zeroBits binary32 b ≡ z → KindTells b (cond z (zero b) (normal b))
+    go true e = (e, refl)
     go false e = (e, refl)
 
 module _ (f : Factor) (x : Float) (t : Taken) (is : takenOf t ≡ answer (unreadable f (toBits binary32 x)) (kindOf (toBits binary32 x))) where
@@ -91,11 +94,12 @@ module _ (f : Factor) (x : Float) (t : Taken) (is : takenOf t ≡ answer (unread
         let k = taken-normal e in
         others-answered f b (k .0) (g b) (k .1) ∙ ap (λ (b : ℕ). answerTo f b (g b)) (k .2)
 
-    -- a zero with what is made of a zero
-    pub zero-answered : t ≡ Taken.Zero → accepted (g c .of-zero) ≡ answerTo f c (g c)
-    zero-answered e =
-        let r = only-accepted (unreadable f c) (kindOf c) zero (sym is ∙ ap takenOf e) in
-        rw (subst (KindTells c) (r .1) (kind-tells c)) (accepts (pass refl end) _ ∙ sym (rest-answers (unreadable f c) _ (r .0) _))
+    -- a zero with what is made of it
+    pub zero-answered : {b : ℕ} → t ≡ Taken.Zero b → accepted (g b .of-zero) ≡ answerTo f c (g c)
+    zero-answered {b} e =
+        let r = only-accepted (unreadable f c) (kindOf c) (zero b) (sym is ∙ ap takenOf e) in
+        let k = subst (KindTells c) (r .1) (kind-tells c) in
+        ap (λ (b : ℕ). accepted (g b .of-zero)) (sym (k .1)) ∙ zeros-answered f c (r .0) (g c) (k .0)
 
     -- and a refusal before any work is the answer's
     pub refused-answered : {k : ℕ} → t ≡ Taken.Refused k → refused k ≡ answerTo f c (g c)

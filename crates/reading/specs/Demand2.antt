@@ -9,7 +9,7 @@ use native.Mathlib.Omega.{arith}
 use lib.Dec.{T}
 use lib.IntN.{ℤ, pos, _+ℤ_, +ℤ-assoc}
 use lib.Pow.{pow-pos}
-use lib.Ieee.{Float, binary32, prec, emax, hid, toBits, up, down, unlike, fits}
+use lib.Ieee.{Float, binary32, prec, emax, hid, toBits, up, down, unlike, fits, mul}
 use lib.Ieee.Exact.{HasValue}
 use lib.Ieee.Fits.{up-pos, down-pos, two, two-le-pos}
 use Rattle.marks.specs.declared.Mark.{Mark}
@@ -20,9 +20,9 @@ use Rattle.marks.specs.SaysLaws.{says-alike}
 use Rattle.rounding.specs.Grid.{toEven}
 use Rattle.rounding.specs.Round.{HasBits}
 use Rattle.rounding.specs.Fraction.{Fraction, times, RN, Same}
-use Rattle.rounding.specs.FractionLaws.{RN-some, Scaled, RN-scaled, same-scaled, unlike-plus, unlike-comm}
+use Rattle.rounding.specs.FractionLaws.{RN-some, Scaled, RN-scaled, same-scaled, unlike-comm}
 use Rattle.rounding.specs.Ieee.{revalue, one-value}
-use Rattle.floats.specs.Fields.{plusZero, signOf, zeroBits, Normal, significandOf, exponentOf}
+use Rattle.floats.specs.Fields.{zeroOf, signOf, zeroBits, Normal, significandOf, exponentOf}
 use Rattle.floats.specs.Powers.{powers-add}
 use Rattle.floats.specs.Pattern.{significand-bits}
 use Rattle.floats.specs.Times.{times-scaled}
@@ -31,7 +31,7 @@ use Rattle.factor.specs.declared.Factor.{Factor}
 use Rattle.factor.specs.Context.{tieRule, contextOf, lowerOf, upperOf}
 use Rattle.factor.specs.Accepted.{between-positive}
 use Rattle.factor.specs.Ends.{Between}
-use Rattle.factor.specs.SetUp.{Sound}
+use Rattle.factor.specs.SetUp.{intact, Sound}
 use Rattle.factor.specs.SetUpLaws.{intact-sound}
 use Rattle.product.specs.declared.Device.{Device}
 use Rattle.product.specs.declared.Product.{Product}
@@ -41,13 +41,14 @@ use Rattle.product.specs.OneStep.{byHigh, oneStepBy}
 use Rattle.product.specs.DeviceLaws.{formed}
 use Rattle.product.specs.OneStepTells.{sound-value}
 use Rattle.product.specs.Demand2.{mark-tells, mark-alone}
-use Rattle.reading.specs.Reading.{unreadable, exponentOut, numberOf, conditions, productExponent, productOf, productAt, applied}
+use Rattle.reading.specs.Reading.{unreadable, signWith, exponentOut, numberOf, conditions, productExponent, productOf, productAt, applied}
 use Rattle.reading.specs.Exponents.{let-through, out-none}
 use Rattle.reading.specs.ReadingLaws.{number-value, number-normal}
 use Rattle.reading.specs.AnswerLaws.{is-intact, precision-is, of-reading}
 use Rattle.reading.specs.Standard.{Is, StoredSteps, stored-steps}
-use Rattle.reading.specs.OneOperation.{readingAt, scaledBy, multiplying, OneOperation}
+use Rattle.reading.specs.OneOperation.{readingAt, scaledBy, multiplying, OneOperation, StandardSign}
 use Rattle.reading.specs.OneOperationLaws.{reading-is, multiplies, one-operation}
+use Rattle.reading.specs.SignLaws.{zero-sign, number-sign, zero-is-operation}
 
 -- ---- what is said
 -- a reading's exponent plus k
@@ -66,13 +67,13 @@ GivesNumber f b y C = Is y (RN (contextOf f .rule) (prec binary32) (exact f b C)
 abbrev pub SaysOf : Factor → ℕ → Float → Mark → Type 0
 SaysOf f b y m = Says (Between (contextOf f) (lowerOf f) (upperOf f)) (GivesNumber f b y) m
 
--- the number with its mark, or plus zero, right
+-- the number with its mark, or a zero, right
 abbrev pub numbered : Device → Factor → ℕ → Marked Float
 numbered d f b = let m = productOf f b (productAt d f b) in cond (zeroBits binary32 b) (m .of-zero) (m .value)
 
 -- sign * value * 2 ^ (e + k)
 abbrev pub answerAt : Device → Factor → ℕ → Fraction
-answerAt d f b = let v = productAt d f b in record { minus = signOf binary32 b; num = v .significand * 2 ^ v .binade * up (scaled f b); den = hid binary32 * down (scaled f b) }
+answerAt d f b = let v = productAt d f b in record { minus = signWith f b; num = v .significand * 2 ^ v .binade * up (scaled f b); den = hid binary32 * down (scaled f b) }
 
 -- what is a device's own: both steps of the two-step device are those of the reading's significand and of the stored parts' own values; the one-step device's answer is one multiplication of the standard
 abbrev pub Own : Device → Factor → ℕ → Float → Type 0
@@ -93,13 +94,13 @@ pub record Tells (d : Device) (f : Factor) (b : ℕ) (a : Marked Float) : Type 0
   -- and it has what is its device's own
   pub own : Own d f b (a .value)
 
--- of every answer: a zero is answered with plus zero, right; a refusal tells nothing
+-- of every answer: its sign is that of the standard's product, of a zero too, which is marked right; a refusal tells nothing
 abbrev pub AnswerTells : Device → Factor → ℕ → Outcome (Marked Float) → Type 0
 AnswerTells d f b (refused k) = Unit {0}
-AnswerTells d f b (accepted a) = ((zeroBits binary32 b ≡ true) × (a .mark ≡ Mark.Right) × (a .value ≡ plusZero)) ⊎ ((zeroBits binary32 b ≡ false) × Tells d f b a)
+AnswerTells d f b (accepted a) = StandardSign multiplying f b (a .value) × (((zeroBits binary32 b ≡ true) × (a .mark ≡ Mark.Right) × (a .value ≡ zeroOf (signWith f b))) ⊎ ((zeroBits binary32 b ≡ false) × Tells d f b a))
 
 -- ---- sign and scale change nothing of what a mark says
-module _ (f : Factor) (b : ℕ) (v : Product) (y : Float) (is : HasValue y (signOf binary32 b) (v .significand * 2 ^ v .binade * up (scaled f b)) (hid binary32 * down (scaled f b))) (C : Fraction) (positive : 0 < C .num) (some : 0 < C .den) (sign : C .minus ≡ false) where
+module _ (f : Factor) (b : ℕ) (v : Product) (y : Float) (is : HasValue y (signWith f b) (v .significand * 2 ^ v .binade * up (scaled f b)) (hid binary32 * down (scaled f b))) (C : Fraction) (positive : 0 < C .num) (some : 0 < C .den) (sign : C .minus ≡ false) where
   abbrev z : ℤ
   z = scaled f b
 
@@ -119,15 +120,15 @@ module _ (f : Factor) (b : ℕ) (v : Product) (y : Float) (is : HasValue y (sign
       (mul-pos some (pow-pos (prec binary32 - 1)))
       (mul-pos (mul-pos some (down-pos k)) (number-some binary32 e)) z (times-scaled C (argument (prec binary32) (significandOf binary32 b)) e k)
 
-  q-sign : signOf binary32 b ≡ q .minus
-  q-sign = sym (ap (λ (m : Bool). unlike (unlike m false) (signOf binary32 b)) sign ∙ unlike-comm false (signOf binary32 b) ∙ unlike-plus (signOf binary32 b))
+  q-sign : signWith f b ≡ q .minus
+  q-sign = unlike-comm (signOf binary32 b) false ∙ sym (ap (λ (m : Bool). unlike (unlike m false) (signOf binary32 b)) sign)
 
   pub to-reading : Same r (valueOf (prec binary32) v) → GivesNumber f b y C
   to-reading e =
       let N = v .significand * 2 ^ v .binade in
       let H = pow-pos (prec binary32 - 1) in
       subst (λ (s : Bool). HasValue y s (q .num) (q .den)) q-sign
-      (revalue y (signOf binary32 b) _ _ (q .num) (q .den) (mul-pos H (down-pos z))
+      (revalue y (signWith f b) _ _ (q .num) (q .den) (mul-pos H (down-pos z))
       (sym (same-scaled z r (valueOf (prec binary32) v) q (numberAt binary32 N z) (RN-some (contextOf f .rule) (prec binary32) (times C (argument (prec binary32) (significandOf binary32 b)))) H along refl (e .1))) is)
 
   pub from-reading : GivesNumber f b y C → Same r (valueOf (prec binary32) v)
@@ -151,7 +152,7 @@ one-step-rounds : (f : Factor) → Sound f → (X : ℕ) → HasBits (f .precisi
 unfolding tieRule
 one-step-rounds = sound-value
 
-own : (d : Device) (f : Factor) (b : ℕ) → NoneHolds (unreadable f b) → let v = productAt d f b in exponentOut binary32 (productExponent f b v) ≡ false → Own d f b (numberOf binary32 (signOf binary32 b) (v .significand) (productExponent f b v))
+own : (d : Device) (f : Factor) (b : ℕ) → NoneHolds (unreadable f b) → let v = productAt d f b in exponentOut binary32 (productExponent f b v) ≡ false → Own d f b (numberOf binary32 (signWith f b) (v .significand) (productExponent f b v))
 own Device.TwoStep f b h o = stored-steps f (intact-sound f (is-intact f b h)) (precision-is f b h) (significandOf binary32 b) (significand-bits binary32 b)
 own Device.OneStep f b h o =
     let X = significandOf binary32 b in
@@ -174,7 +175,7 @@ module _ (d : Device) (f : Factor) (b : ℕ) (h : NoneHolds (unreadable f b)) (n
   v = productAt d f b
 
   abbrev y : Float
-  y = numberOf binary32 (signOf binary32 b) (v .significand) (productExponent f b v)
+  y = numberOf binary32 (signWith f b) (v .significand) (productExponent f b v)
 
   sound : Sound f
   sound = intact-sound f (is-intact f b h)
@@ -192,11 +193,11 @@ module _ (d : Device) (f : Factor) (b : ℕ) (h : NoneHolds (unreadable f b)) (n
   y-value =
       let c = productExponent f b v in
       let t = let-through binary32 c o in
-      revalue y (signOf binary32 b) (v .significand * up c) (hid binary32 * down c) _ _ (number-some binary32 c) (binade-apart (v .significand) (v .binade) (hid binary32) (exponentOf binary32 b) (f .applied .scale))
-      (number-value binary32 (signOf binary32 b) (v .significand) c v-bits (t .0) (t .1) (t .2) (t .3))
+      revalue y (signWith f b) (v .significand * up c) (hid binary32 * down c) _ _ (number-some binary32 c) (binade-apart (v .significand) (v .binade) (hid binary32) (exponentOf binary32 b) (f .applied .scale))
+      (number-value binary32 (signWith f b) (v .significand) c v-bits (t .0) (t .1) (t .2) (t .3))
 
   y-normal : Normal binary32 (toBits binary32 y)
-  y-normal = let t = let-through binary32 (productExponent f b v) o in number-normal binary32 (signOf binary32 b) (v .significand) (productExponent f b v) v-bits (t .0) (t .1) (t .2) (t .3)
+  y-normal = let t = let-through binary32 (productExponent f b v) o in number-normal binary32 (signWith f b) (v .significand) (productExponent f b v) v-bits (t .0) (t .1) (t .2) (t .3)
 
   abbrev Ends : Fraction → Type 0
   Ends C = Between (contextOf f) (lowerOf f) (upperOf f) C
@@ -224,9 +225,16 @@ module _ (d : Device) (f : Factor) (b : ℕ) (h : NoneHolds (unreadable f b)) (n
 -- every answer to a reading tells the truth, whatever the device, the factor and the reading
 pub reading-tells : (d : Device) (f : Factor) (x : Float) → AnswerTells d f (toBits binary32 x) (applied d f x)
 unfolding applied
-reading-tells d f x = let b = toBits binary32 x in of-reading (AnswerTells d f b) f b (productOf f b (productAt d f b)) (λ k. tt) (λ z. inl (z, refl, refl)) (λ h z o. inr (z, tells d f b h z o))
+reading-tells d f x = let b = toBits binary32 x in of-reading (AnswerTells d f b) f b (productOf f b (productAt d f b)) (λ k. tt)
+    (λ h z. (zero-sign multiplying multiplies f b h, inl (z, refl, refl)))
+    (λ h z o. (let v = productAt d f b in number-sign multiplying multiplies f b h z (v .significand) (productExponent f b v), inr (z, tells d f b h z o)))
 
--- and a reading that none of 31 and 20 to 23 refuses is answered, with plus zero or the number with its mark
+-- and a reading that none of 31 and 20 to 23 refuses is answered, with a zero or the number with its mark
 pub reading-answered : (d : Device) (f : Factor) (x : Float) → let b = toBits binary32 x in NoneHolds (conditions f b (productExponent f b (productAt d f b))) → applied d f x ≡ accepted (numbered d f b)
 unfolding applied
 reading-answered d f x h = let b = toBits binary32 x in none-refuses (conditions f b (productExponent f b (productAt d f b))) (numbered d f b) h
+
+-- a zero of either sign is answered, right, with the standard's product of it and the stored high part, which as every f32 fits the format
+pub zero-multiplied : (d : Device) (f : Factor) → intact f ≡ true → f .precision .bits ≡ prec binary32 → T (fits binary32 (f .applied .high)) → (s : Bool) → applied d f (zeroOf s) ≡ accepted (record { mark = Mark.Right; value = mul binary32 (zeroOf s) (f .applied .high) })
+unfolding applied
+zero-multiplied d f i n h s = let b = toBits binary32 (zeroOf s) in zero-is-operation multiplying multiplies f i n h s (productOf f b (productAt d f b)) (λ y. record { mark = Mark.Right; value = y }) refl

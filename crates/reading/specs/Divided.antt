@@ -3,12 +3,12 @@ use Prim.Native.Nat.{ℕ}
 use lib.IntN.{ℤ, _+ℤ_, _-ℤ_}
 use lib.Ieee.{Float, binary32, toBits}
 use Rattle.marks.specs.Answers.{Outcome}
-use Rattle.floats.specs.Fields.{plusZero, significandOf, exponentOf}
+use Rattle.floats.specs.Fields.{zeroOf, significandOf, exponentOf}
 use Rattle.factor.specs.declared.Factor.{Factor}
 use Rattle.factor.specs.SetUp.{intact}
 use Rattle.quotient.specs.declared.Quotient.{Quotient}
 use Rattle.quotient.specs.Quotient.{quotient, quotientBy}
-use Rattle.reading.specs.Reading.{numberOf, signedLike, placed, Made, answerTo}
+use Rattle.reading.specs.Reading.{signWith, numberOf, placed, Made, answerTo}
 
 -- the exponent of a quotient: the reading's, plus the binade less k
 abbrev pub quotientExponent : Factor → ℕ → Quotient → ℤ
@@ -16,13 +16,13 @@ quotientExponent f b v = exponentOf binary32 b +ℤ (v .binade -ℤ f .applied .
 
 -- sign and exponent put on a quotient, unless 23 refuses it
 abbrev pub placedQuotient : Factor → ℕ → Quotient → Outcome Float
-placedQuotient f b v = placed b (v .significand) (quotientExponent f b v)
+placedQuotient f b v = placed (signWith f b) (v .significand) (quotientExponent f b v)
 
--- a zero, of either sign, gives plus zero; any other reading the quotient with its sign, and no mark
+-- a zero gives a zero, any other reading the quotient, both with the quotient's sign, and no mark
 abbrev pub quotientOf : Factor → ℕ → Made Float
 quotientOf f b =
     let v = quotientBy f (significandOf binary32 b) in
-    record { of-zero = plusZero; exponent = quotientExponent f b v; value = signedLike b (v .significand) (quotientExponent f b v) }
+    record { of-zero = zeroOf (signWith f b); exponent = quotientExponent f b v; value = numberOf binary32 (signWith f b) (v .significand) (quotientExponent f b v) }
 
 -- the answer to a reading x
 unfoldable pub dividedReading : Factor → Float → Outcome Float

@@ -4,7 +4,7 @@ use mathlib.Core.Bool.{true, false}
 use Prim.Native.Nat.{ℕ, _+_, _*_, _^_}
 use lib.IntN.{ℤ, pos, negsuc}
 use lib.Ieee
-use lib.Ieee.{Float, nan, inf, fin}
+use lib.Ieee.{Float, nan, inf, fin, binary32}
 use Rattle.marks.specs.declared.Mark.{Mark}
 use Rattle.marks.specs.Answers.{judged, Outcome, refused, accepted, answer, Marked}
 use Rattle.factor.specs.declared.Factor.{Factor}
@@ -48,10 +48,10 @@ unfolding threeHalves applied answer judged Ieee.toBits
 scale-100 Device.TwoStep = (refl, refl)
 scale-100 Device.OneStep = (refl, refl)
 
--- a zero of either sign, an infinity, a NaN, a subnormal, and a negative reading; n = 23, and a factor that no set-up gives
+-- a zero of either sign, which it keeps, an infinity, a NaN, a subnormal, and a negative reading; n = 23, and a factor that no set-up gives
 kinds :
     (d : Device)
-    → Gives d (pos 0) (fin true 0 (pos 0)) (right (fin false 0 (pos 0)))
+    → Gives d (pos 0) (fin true 0 (pos 0)) (right (fin true 0 (pos 0)))
     × Gives d (pos 0) (fin false 0 (pos 0)) (right (fin false 0 (pos 0)))
     × Gives d (pos 0) (inf true) (refused 21)
     × Gives d (pos 0) nan (refused 21)
@@ -90,15 +90,29 @@ diameter : (applied Device.TwoStep byPi (fin false 7906077 (negsuc 22)) ≡ righ
 unfolding byPi applied answer judged Ieee.toBits
 diameter = (refl, refl)
 
+-- π, n = 24, scale 1: the low part is negative. A minus zero stays one on both devices; the sum of the stored parts' products with it, which the two steps would make, is plus zero
+pi : Factor
+unfolding scaleOf tieRule partsAt appliedOf
+pi = factorOf (record { precision = 24; scale = pos 1; lower = 0x6487ED5110B4611A; upper = 0x6487ED5110B4611B })
+
+sighted : (d : Device) → (applied d pi (fin true 0 (pos 0)) ≡ right (fin true 0 (pos 0))) × (applied d pi (fin false 0 (pos 0)) ≡ right (fin false 0 (pos 0)))
+unfolding pi applied answer judged Ieee.toBits
+sighted Device.TwoStep = (refl, refl)
+sighted Device.OneStep = (refl, refl)
+
+lost-by-two-steps : let x = fin true 0 (pos 0) in Ieee.add binary32 (Ieee.mul binary32 (pi .applied .high) x) (Ieee.mul binary32 (pi .applied .low) x) ≡ fin false 0 (pos 0)
+unfolding pi Ieee.add Ieee.mul
+lost-by-two-steps = refl
+
 -- ---- divided
 -- 1/π: a diameter of 1/2 gives the girth 1.5707964, whose bits are 3FC90FDB
 girth : dividedReading byPi (fin false 1 (negsuc 0)) ≡ accepted (fin false 13176795 (negsuc 22))
 unfolding byPi dividedReading answer judged Ieee.toBits
 girth = refl
 
--- C = 3/2: a zero of either sign, an infinity, a NaN, a subnormal, and a negative reading; n = 23, and a factor that no set-up gives
+-- C = 3/2: a zero of either sign, which it keeps, an infinity, a NaN, a subnormal, and a negative reading; n = 23, and a factor that no set-up gives
 kinds-divided :
-    (dividedReading (threeHalves (pos 0)) (fin true 0 (pos 0)) ≡ accepted (fin false 0 (pos 0)))
+    (dividedReading (threeHalves (pos 0)) (fin true 0 (pos 0)) ≡ accepted (fin true 0 (pos 0)))
     × (dividedReading (threeHalves (pos 0)) (fin false 0 (pos 0)) ≡ accepted (fin false 0 (pos 0)))
     × (dividedReading (threeHalves (pos 0)) (inf true) ≡ refused 21)
     × (dividedReading (threeHalves (pos 0)) nan ≡ refused 21)

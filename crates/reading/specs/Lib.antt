@@ -8,6 +8,7 @@ pub mod AnswerLaws
 pub mod Standard
 pub mod OneOperation
 pub mod OneOperationLaws
+pub mod SignLaws
 pub mod Demand2
 pub mod QuotientTells
 pub mod FromProduct

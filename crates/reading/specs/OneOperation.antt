@@ -1,14 +1,15 @@
--- One operation of the standard on a reading and Ch * 2 ^ k, a division (request W1) or a multiplication (request W2), and what the answer is by it. Definitions only. Assumes nothing.
+-- One operation of the standard on a reading and Ch * 2 ^ k, a division (request W1) or a multiplication (request W2), and what the answer is by it; and the sign that it gives, zeros included (request W3). Definitions only. Assumes nothing.
 use mathlib.Core.Path.{_≡_}
-use Prim.Native.Nat.{ℕ, _*_}
+use mathlib.Core.Bool.{true}
+use Prim.Native.Nat.{ℕ, _*_, _<_}
 use lib.Dec.{T}
 use lib.IntN.{ℤ, _+ℤ_, _-ℤ_}
-use lib.Ieee.{Float, binary32, prec, hid, up, down, fits, mul, div}
+use lib.Ieee.{Float, binary32, prec, hid, up, down, toBits, fits, mul, div}
 use Rattle.rounding.specs.Fraction.{Fraction, power, times, ratio}
 use Rattle.rounding.specs.Ulp.{WithinThreeHalves}
-use Rattle.floats.specs.Fields.{signOf, significandOf, exponentOf}
+use Rattle.floats.specs.Fields.{isMinus, signOf, zeroBits, significandOf, exponentOf}
 use Rattle.factor.specs.declared.Factor.{Factor}
-use Rattle.factor.specs.Context.{contextOf, lowerOf, upperOf}
+use Rattle.factor.specs.Context.{contextOf, lowerOf, upperOf, minusOf}
 use Rattle.factor.specs.Ends.{Between}
 use Rattle.factor.specs.SetUp.{floatIn}
 use Rattle.product.specs.Product.{argument, high}
@@ -48,3 +49,21 @@ pub record OneOperation (o : Operation) (f : Factor) (b : ℕ) (v a : Fraction) 
   pub standard : (x g : Float) → Is x (readingAt b) → Is g (appliedHigh f) → o .inFormat x g ≡ y
   -- and, with C * 2 ^ k in place of Ch * 2 ^ k and exactly, the operation is less than 3/2 ulp from a for every C between the ends, with signs; the ulp is that of the size, exponents unbounded
   pub near : (C : Fraction) → Between (contextOf f) (lowerOf f) (upperOf f) C → WithinThreeHalves (prec binary32) a (o .exactly (readingAt b) (scaledBy f C))
+
+-- ---- what is said of the sign of every answer, zeros included
+-- a number with the factor's sign, and not zero
+pub record LikeFactor (f : Factor) (g : Float) : Type 0 where
+  pub value : Fraction
+  pub is : Is g value
+  pub sign : value .minus ≡ minusOf f
+  pub above : 0 < value .num
+  pub some : 0 < value .den
+
+-- the sign of the answer y to a reading with the bits b, by the operation on the reading x itself
+pub record StandardSign (o : Operation) (f : Factor) (b : ℕ) (y : Float) : Type 0 where
+  -- it is the one that the operation gives x and any number with the factor's sign
+  pub sign : (x g : Float) → T (fits binary32 x) → toBits binary32 x ≡ b → LikeFactor f g → isMinus y ≡ isMinus (o .inFormat x g)
+  -- and of a zero the operation gives y
+  pub zero : zeroBits binary32 b ≡ true → (x g : Float) → T (fits binary32 x) → toBits binary32 x ≡ b → LikeFactor f g → y ≡ o .inFormat x g
+  -- the stored high part is such a number
+  pub stored : T (fits binary32 (f .applied .high)) → LikeFactor f (f .applied .high)

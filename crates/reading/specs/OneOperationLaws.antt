@@ -15,7 +15,7 @@ use Rattle.marks.specs.Answers.{NoneHolds}
 use Rattle.rounding.specs.Grid.{toEven}
 use Rattle.rounding.specs.Round.{HasBits}
 use Rattle.rounding.specs.Fraction.{Fraction, over, power, signedAs, times, RN, Same, Positive}
-use Rattle.rounding.specs.FractionLaws.{RN-some, Scaled, unlike-plus, unlike-comm, times-positive, ratio-positive, ratio-twice, times-twice, distance-same}
+use Rattle.rounding.specs.FractionLaws.{RN-some, Scaled, unlike-comm, times-positive, ratio-positive, ratio-twice, times-twice, distance-same}
 use Rattle.rounding.specs.Ulp.{ulp, WithinThreeHalves}
 use Rattle.rounding.specs.UlpLaws.{error-signed}
 use Rattle.rounding.specs.Ieee.{revalue, round-itself}
@@ -35,7 +35,7 @@ use Rattle.product.specs.Product.{argument, high}
 use Rattle.product.specs.SoundLaws.{HighBits, sound-high, sound-high-positive, sound-positive}
 use Rattle.product.specs.OneStepTells.{sound-near as product-near}
 use Rattle.quotient.specs.Tells.{sound-near as quotient-near}
-use Rattle.reading.specs.Reading.{unreadable, exponentOut, numberOf}
+use Rattle.reading.specs.Reading.{unreadable, signWith, exponentOut, numberOf}
 use Rattle.reading.specs.Exponents.{scale-size, let-through}
 use Rattle.reading.specs.ReadingLaws.{number-value, number-rounds}
 use Rattle.reading.specs.AnswerLaws.{is-normal}
@@ -49,9 +49,10 @@ reading-is f b h z x fit e = subst (λ (c : ℕ). Is x (readingAt c)) e (normal-
 -- ---- what an operation is lawful by
 pub record Lawful (o : Operation) : Type 0 where
   -- of floats it is the exact value, rounded
-  pub value : (x g : Float) (p c : Fraction) → 0 < p .den → Positive c → Is x p → Is g c → o .inFormat x g ≡ floatIn binary32 (o .exactly p c)
-  -- the number's sign is put on last
-  pub signs : (s : Bool) (p c : Fraction) → c .minus ≡ false → o .exactly (signedAs s p) c ≡ signedAs s (o .exactly p c)
+  pub value : (x g : Float) (p c : Fraction) → 0 < p .den → 0 < c .num → 0 < c .den → Is x p → Is g c → o .inFormat x g ≡ floatIn binary32 (o .exactly p c)
+  -- both signs make its own, a zero is made a zero, and numbers above zero one above zero
+  pub signs : (s t : Bool) (p c : Fraction) → o .exactly (signedAs s p) (signedAs t c) ≡ signedAs (unlike s t) (o .exactly p c)
+  pub zero : (p c : Fraction) → 0 < p .den → 0 < c .num → 0 < c .den → p .num ≡ 0 → (o .exactly p c .num ≡ 0) × (0 < o .exactly p c .den)
   pub positive : (p c : Fraction) → Positive p → Positive c → Positive (o .exactly p c)
   -- powers of two go along, and one constant after another is their product
   pub along : (p c : Fraction) (e k : ℤ) → Scaled (o .exponents e k) (o .exactly p c) (o .exactly (times p (power e)) (times c (power k)))
@@ -62,8 +63,9 @@ pub record Lawful (o : Operation) : Type 0 where
 pub divides : Lawful dividing
 divides =
     record {
-      value = λ x g p c P C i j. div-value binary32 x g (p .minus) (c .minus) (p .num) (p .den) (c .num) (c .den) P (C .above) (C .some) i j;
-      signs = λ s p c m. ap (λ (t : Bool). signedAs t (dividing .exactly p c)) (ap (unlike s) m ∙ unlike-plus s);
+      value = λ x g p c P N D i j. div-value binary32 x g (p .minus) (c .minus) (p .num) (p .den) (c .num) (c .den) P N D i j;
+      signs = λ s t p c. refl;
+      zero = λ p c P N D e. (omega (arith, ap (λ (m : ℕ). m * c .den) e), mul-pos P N);
       positive = ratio-positive;
       along = ratio-scaled;
       twice = ratio-twice;
@@ -73,8 +75,9 @@ divides =
 pub multiplies : Lawful multiplying
 multiplies =
     record {
-      value = λ x g p c P C i j. mul-value binary32 x g (p .minus) (c .minus) (p .num) (p .den) (c .num) (c .den) P (C .some) i j ∙ turned (p .minus) (c .minus) (p .num) (p .den) (c .num) (c .den);
-      signs = λ s p c m. ap (λ (t : Bool). signedAs t (multiplying .exactly p c)) (ap (λ (t : Bool). unlike t s) m ∙ unlike-comm false s ∙ unlike-plus s);
+      value = λ x g p c P N D i j. mul-value binary32 x g (p .minus) (c .minus) (p .num) (p .den) (c .num) (c .den) P D i j ∙ turned (p .minus) (c .minus) (p .num) (p .den) (c .num) (c .den);
+      signs = λ s t p c. ap (λ (m : Bool). signedAs m (multiplying .exactly p c)) (unlike-comm t s);
+      zero = λ p c P N D e. (omega (arith, ap (λ (m : ℕ). c .num * m) e), mul-pos D P);
       positive = λ p c P C. times-positive c p C P;
       along = λ p c. times-scaled c p;
       twice = times-twice;
@@ -122,8 +125,9 @@ module _ (f : Factor) (sound : Sound f) (n : f .precision .bits ≡ prec binary3
     abbrev e : ℤ
     e = exponentOf binary32 b
 
+    -- the answer's sign
     abbrev s : Bool
-    s = signOf binary32 b
+    s = signWith f b
 
     -- x, the size of the reading, and what the operation makes of them exactly
     abbrev x : Fraction
@@ -164,7 +168,7 @@ module _ (f : Factor) (sound : Sound f) (n : f .precision .bits ≡ prec binary3
             let t = let-through binary32 z z-in in
             let g = subst (λ (m : ℕ). HasValue (f .applied .high) false (f .parts .high) (2 ^ (m - 1))) n (high-number f sound i) in
             let is : o .inFormat y (f .applied .high) ≡ numberOf binary32 false S z =
-            lawful .value y (f .applied .high) x (high (prec binary32) (f .parts)) hid-some high-positive j g ∙ ap (λ (m : Bool). Ieee.round binary32 m (of-x .num) (of-x .den)) (x-exact .sign)
+            lawful .value y (f .applied .high) x (high (prec binary32) (f .parts)) hid-some (high-positive .above) (high-positive .some) j g ∙ ap (λ (m : Bool). Ieee.round binary32 m (of-x .num) (of-x .den)) (x-exact .sign)
             ∙ number-rounds binary32 false of-x (x-exact .above) (x-exact .some) S z bits z-in rounds in
             subst (λ (w : Float). Is w v) (sym is)
             (subst (λ (m : Bool). HasValue (numberOf binary32 false S z) m (v .num) (v .den)) (v-is .0)
@@ -172,7 +176,7 @@ module _ (f : Factor) (sound : Sound f) (n : f .precision .bits ≡ prec binary3
 
         standard : (y g : Float) → Is y (readingAt b) → Is g (appliedHigh f) → o .inFormat y g ≡ numberOf binary32 s S c
         standard y g i j =
-            lawful .value y g (readingAt b) (appliedHigh f) (number-some binary32 e) applied-positive i j ∙ ap (floatIn binary32) (lawful .signs s r (appliedHigh f) refl)
+            lawful .value y g (readingAt b) (appliedHigh f) (number-some binary32 e) (applied-positive .above) (applied-positive .some) i j ∙ ap (floatIn binary32) (lawful .signs (signOf binary32 b) false r (appliedHigh f))
             ∙ number-rounds binary32 s of-r (r-exact .above) (r-exact .some) S c bits c-in r-rounds
 
         -- ---- the error
@@ -201,7 +205,7 @@ module _ (f : Factor) (sound : Sound f) (n : f .precision .bits ≡ prec binary3
             let w = q-positive D u in
             let signed = error-signed m s (numberAt binary32 S c) q (over 3 1) (sym (w .sign)) (size-near C u) in
             let told = distance-same (signedAs s (numberAt binary32 S c)) a (signedAs s q) (times (over 3 1) (ulp m (signedAs s q))) (number-some binary32 c) A (w .some) a-is signed in
-            subst (λ (l : Bool). WithinThreeHalves m a (o .exactly (readingAt b) (scaledBy f (signedAs l C)))) (sym (t .sign)) (subst (WithinThreeHalves m a) (sym (lawful .signs s r (scaledBy f D) refl)) told)
+            subst (λ (l : Bool). WithinThreeHalves m a (o .exactly (readingAt b) (scaledBy f (signedAs l C)))) (sym (t .sign)) (subst (WithinThreeHalves m a) (sym (lawful .signs (signOf binary32 b) false r (scaledBy f D))) told)
 
         pub one-operation : (v a : Fraction) → Same (numberAt binary32 S z) v → 0 < a .den → Same (signedAs s (numberAt binary32 S c)) a → OneOperation o f b v a (numberOf binary32 s S c)
         one-operation v a v-is A a-is = record { significands = significands v v-is; held = applied-held; standard = standard; near = near a A a-is }

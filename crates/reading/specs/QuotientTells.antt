@@ -1,37 +1,38 @@
 -- What an answer to a reading's division tells, for every factor and every reading (`divided-reading-answered`, `divided-reading-tells`): plus zero for a zero, which is left out of what follows; else RN(x / Ch) with sign and exponent put on, exactly; one division of the standard,
 -- of significands and of the reading itself by Ch * 2 ^ k, gives the same; and it is less than 3/2 units in the last place from the reading / (C * 2 ^ k) for every fraction C between the ends. Assumes nothing.
 use mathlib.Core.Path.{_≡_, refl, sym, ap, _∙_, subst}
-use mathlib.Core.Bool.{true, false, cond}
+use mathlib.Core.Bool.{Bool, true, false, cond}
 use mathlib.Core.Logic.{_⊎_, inl, inr}
 use Prim.Native.Nat.{ℕ, _*_, _<_}
 use native.Mathlib.Decide.{decLt}
 use native.Mathlib.Omega.{arith}
 use lib.Dec.{T}
 use lib.IntN.{ℤ, negℤ, _+ℤ_, _-ℤ_, +ℤ-assoc, +ℤ-comm}
-use lib.Ieee.{Float, binary32, prec, hid, toBits, up, down, fits}
+use lib.Ieee.{Float, binary32, prec, hid, toBits, up, down, fits, div}
 use Rattle.marks.specs.Answers.{NoneHolds, Outcome, refused, accepted}
 use Rattle.marks.specs.AnswerLaws.{none-refuses}
 use Rattle.rounding.specs.Grid.{toEven}
 use Rattle.rounding.specs.Round.{HasBits}
 use Rattle.rounding.specs.Fraction.{Fraction, signedAs, RN, Same}
-use Rattle.floats.specs.Fields.{plusZero, signOf, zeroBits, Normal, significandOf, exponentOf}
+use Rattle.floats.specs.Fields.{zeroOf, signOf, zeroBits, Normal, significandOf, exponentOf}
 use Rattle.floats.specs.Pattern.{significand-bits}
 use Rattle.floats.specs.NormalLaws.{numberAt, number-some}
 use Rattle.factor.specs.declared.Factor.{Factor}
-use Rattle.factor.specs.SetUp.{Sound}
+use Rattle.factor.specs.SetUp.{intact, Sound}
 use Rattle.factor.specs.SetUpLaws.{intact-sound}
 use Rattle.product.specs.Product.{high}
 use Rattle.quotient.specs.declared.Quotient.{Quotient}
 use Rattle.quotient.specs.Quotient.{byHigh, quotientBy, valueOf}
 use Rattle.quotient.specs.Tells.{Tells as TellsOf, sound-quotient}
-use Rattle.reading.specs.Reading.{unreadable, exponentOut, numberOf, conditions}
+use Rattle.reading.specs.Reading.{unreadable, signWith, exponentOut, numberOf, conditions}
 use Rattle.reading.specs.Divided.{quotientExponent, quotientOf, dividedReading}
 use Rattle.reading.specs.Exponents.{let-through}
 use Rattle.reading.specs.ReadingLaws.{number-value, number-normal}
 use Rattle.reading.specs.AnswerLaws.{is-intact, precision-is, of-reading}
 use Rattle.reading.specs.Standard.{Is}
-use Rattle.reading.specs.OneOperation.{readingAt, dividing, OneOperation}
+use Rattle.reading.specs.OneOperation.{readingAt, dividing, OneOperation, StandardSign}
 use Rattle.reading.specs.OneOperationLaws.{reading-is, divides, one-operation}
+use Rattle.reading.specs.SignLaws.{zero-sign, number-sign, zero-is-operation}
 
 -- ---- what is said
 -- RN(x / Ch) of the reading's significand
@@ -40,9 +41,9 @@ quotientAt f b = quotientBy f (significandOf binary32 b)
 
 -- with sign and exponent put on: sign * RN(x / Ch) * 2 ^ (e - k)
 abbrev pub answerAt : Factor → ℕ → Fraction
-answerAt f b = let v = quotientAt f b in signedAs (signOf binary32 b) (numberAt binary32 (v .significand) (quotientExponent f b v))
+answerAt f b = let v = quotientAt f b in signedAs (signWith f b) (numberAt binary32 (v .significand) (quotientExponent f b v))
 
--- the number, or plus zero
+-- the number, or a zero
 abbrev pub numbered : Factor → ℕ → Float
 numbered f b = cond (zeroBits binary32 b) (quotientOf f b .of-zero) (quotientOf f b .value)
 
@@ -56,10 +57,10 @@ pub record Tells (f : Factor) (b : ℕ) (y : Float) : Type 0 where
   -- and one division of the standard: of x by Ch it is RN(x / Ch), and of the reading by Ch * 2 ^ k y; it is less than 3/2 ulp from the reading / (C * 2 ^ k) for every C between the ends
   pub division : OneOperation dividing f b (valueOf (prec binary32) (quotientAt f b)) (answerAt f b) y
 
--- of every answer: a zero is answered with plus zero; a refusal tells nothing
+-- of every answer: its sign is that of the standard's quotient, of a zero too; a refusal tells nothing
 abbrev pub AnswerTells : Factor → ℕ → Outcome Float → Type 0
 AnswerTells f b (refused k) = Unit {0}
-AnswerTells f b (accepted y) = ((zeroBits binary32 b ≡ true) × (y ≡ plusZero)) ⊎ ((zeroBits binary32 b ≡ false) × Tells f b y)
+AnswerTells f b (accepted y) = StandardSign dividing f b y × (((zeroBits binary32 b ≡ true) × (y ≡ zeroOf (signWith f b))) ⊎ ((zeroBits binary32 b ≡ false) × Tells f b y))
 
 -- ---- a reading that is let through, and not a zero
 module _ (f : Factor) (b : ℕ) (h : NoneHolds (unreadable f b)) (nonzero : zeroBits binary32 b ≡ false) (o : exponentOut binary32 (quotientExponent f b (quotientAt f b)) ≡ false) where
@@ -79,7 +80,7 @@ module _ (f : Factor) (b : ℕ) (h : NoneHolds (unreadable f b)) (nonzero : zero
   c = quotientExponent f b u
 
   abbrev y : Float
-  y = numberOf binary32 (signOf binary32 b) (u .significand) c
+  y = numberOf binary32 (signWith f b) (u .significand) c
 
   sound : Sound f
   sound = intact-sound f (is-intact f b h)
@@ -124,17 +125,24 @@ module _ (f : Factor) (b : ℕ) (h : NoneHolds (unreadable f b)) (nonzero : zero
       let t = let-through binary32 c o in
       record {
         reading = reading-is f b h nonzero;
-        value = number-value binary32 (signOf binary32 b) (u .significand) c u-bits (t .0) (t .1) (t .2) (t .3);
-        normal = number-normal binary32 (signOf binary32 b) (u .significand) c u-bits (t .0) (t .1) (t .2) (t .3);
+        value = number-value binary32 (signWith f b) (u .significand) c u-bits (t .0) (t .1) (t .2) (t .3);
+        normal = number-normal binary32 (signWith f b) (u .significand) c u-bits (t .0) (t .1) (t .2) (t .3);
         division = division;
       }
 
 -- every answer to a reading tells the truth, whatever the factor and the reading
 pub divided-reading-tells : (f : Factor) (x : Float) → AnswerTells f (toBits binary32 x) (dividedReading f x)
 unfolding dividedReading
-divided-reading-tells f x = let b = toBits binary32 x in of-reading (AnswerTells f b) f b (quotientOf f b) (λ k. tt) (λ z. inl (z, refl)) (λ h z o. inr (z, tells f b h z o))
+divided-reading-tells f x = let b = toBits binary32 x in of-reading (AnswerTells f b) f b (quotientOf f b) (λ k. tt)
+    (λ h z. (zero-sign dividing divides f b h, inl (z, refl)))
+    (λ h z o. (let v = quotientAt f b in number-sign dividing divides f b h z (v .significand) (quotientExponent f b v), inr (z, tells f b h z o)))
 
--- and a reading that none of 31 and 20 to 23 refuses is answered, with plus zero or the number
+-- and a reading that none of 31 and 20 to 23 refuses is answered, with a zero or the number
 pub divided-reading-answered : (f : Factor) (x : Float) → let b = toBits binary32 x in NoneHolds (conditions f b (quotientOf f b .exponent)) → dividedReading f x ≡ accepted (numbered f b)
 unfolding dividedReading
 divided-reading-answered f x h = let b = toBits binary32 x in none-refuses (conditions f b (quotientOf f b .exponent)) (numbered f b) h
+
+-- a zero of either sign is answered with the standard's quotient of it by the stored high part, which as every f32 fits the format
+pub zero-divided : (f : Factor) → intact f ≡ true → f .precision .bits ≡ prec binary32 → T (fits binary32 (f .applied .high)) → (s : Bool) → dividedReading f (zeroOf s) ≡ accepted (div binary32 (zeroOf s) (f .applied .high))
+unfolding dividedReading
+zero-divided f i n h s = zero-is-operation dividing divides f i n h s (quotientOf f (toBits binary32 (zeroOf s))) (λ y. y) refl

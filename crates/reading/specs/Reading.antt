@@ -6,11 +6,12 @@ use lib.Dec.{eqb}
 use lib.IntN.{ℤ, pos, negsuc, _+ℤ_}
 use lib.Signed.{ltZ}
 use lib.Ieee
-use lib.Ieee.{Float, Format, binary32, prec, emax, hid, toBits, up, down}
+use lib.Ieee.{Float, Format, binary32, prec, emax, hid, unlike, toBits, up, down}
 use Rattle.marks.specs.declared.Mark.{Mark}
 use Rattle.marks.specs.Answers.{Outcome, refused, accepted, answer, Marked}
-use Rattle.floats.specs.Fields.{signOf, plusZero, infiniteOrNaN, zeroBits, subnormal, significandOf, exponentOf}
+use Rattle.floats.specs.Fields.{signOf, zeroOf, infiniteOrNaN, zeroBits, subnormal, significandOf, exponentOf}
 use Rattle.factor.specs.declared.Factor.{Factor}
+use Rattle.factor.specs.Context.{minusOf}
 use Rattle.factor.specs.SetUp.{intact}
 use Rattle.product.specs.declared.Device.{Device}
 use Rattle.product.specs.declared.Product.{Product}
@@ -28,13 +29,17 @@ use Rattle.reading.specs.declared.Taken.{Taken}
 abbrev pub unreadable : Factor → ℕ → List (ℕ × Bool)
 unreadable f b = (31, not (intact f)) ∷ (20, not (eqb (f .precision .bits) (prec binary32))) ∷ (21, infiniteOrNaN binary32 b) ∷ (22, subnormal binary32 b) ∷ []
 
--- what it is if it is let through: a zero, or a normal number by its bits
+-- what it is if it is let through: a zero or a normal number, by its bits
 pub data Kind : Type 0 where
-  zero : Kind
+  zero : ℕ → Kind
   normal : ℕ → Kind
 
 abbrev pub kindOf : ℕ → Kind
-kindOf b = cond (zeroBits binary32 b) zero (normal b)
+kindOf b = cond (zeroBits binary32 b) (zero b) (normal b)
+
+-- the sign of its product or quotient by a factor, of a zero too: minus where one of the two has it and the other has not (IEEE 754-2019, 6.3)
+abbrev pub signWith : Factor → ℕ → Bool
+signWith f b = unlike (signOf binary32 b) (minusOf f)
 
 -- ---- a significand at an exponent, as a number of the format
 -- 23: an exponent outside those of the format's normal numbers, 1 - emax to emax
@@ -46,13 +51,9 @@ unfoldable pub numberOf : Format → Bool → (S : ℕ) → ℤ → Float
 unfolding Ieee.round
 numberOf f s S e = Ieee.round f s (S * up e) (hid f * down e)
 
--- the binary32 number of a significand S, an exponent e and the sign of the reading b
-abbrev pub signedLike : (b S : ℕ) → ℤ → Float
-signedLike b S e = numberOf binary32 (signOf binary32 b) S e
-
--- or 23
-abbrev pub placed : (b S : ℕ) → ℤ → Outcome Float
-placed b S e = answer ((23, exponentOut binary32 e) ∷ []) (signedLike b S e)
+-- as a binary32 number, or 23
+abbrev pub placed : Bool → (S : ℕ) → ℤ → Outcome Float
+placed s S e = answer ((23, exponentOut binary32 e) ∷ []) (numberOf binary32 s S e)
 
 -- ---- an answer to a reading, whatever is made of it
 -- what is made of a zero, and of any other reading, with the exponent that this gets
@@ -75,7 +76,7 @@ productExponent f b v = exponentOf binary32 b +ℤ (f .applied .scale +ℤ pos (
 
 -- sign and exponent put on a value with its mark
 abbrev pub putOn : Factor → ℕ → Marked Product → Marked Float
-putOn f b a = record { mark = a .mark; value = signedLike b (a .value .significand) (productExponent f b (a .value)) }
+putOn f b a = record { mark = a .mark; value = numberOf binary32 (signWith f b) (a .value .significand) (productExponent f b (a .value)) }
 
 -- unless 23 refuses it
 abbrev pub ranged : Factor → ℕ → Marked Product → Outcome (Marked Float)
@@ -86,9 +87,9 @@ unfoldable pub finished : Factor → ℕ → Product → Outcome (Marked Float)
 unfolding mark numberOf
 finished f b v = ranged f b (marked f (significandOf binary32 b) v)
 
--- a zero gives plus zero, right; any other reading the number with its mark
+-- a zero gives a zero with the product's sign, right; any other reading the number with its mark
 abbrev pub productOf : Factor → ℕ → Product → Made (Marked Float)
-productOf f b v = record { of-zero = record { mark = Mark.Right; value = plusZero }; exponent = productExponent f b v; value = putOn f b (marked f (significandOf binary32 b) v) }
+productOf f b v = record { of-zero = record { mark = Mark.Right; value = zeroOf (signWith f b) }; exponent = productExponent f b v; value = putOn f b (marked f (significandOf binary32 b) v) }
 
 -- the product of a reading's significand on a device
 abbrev pub productAt : Device → Factor → ℕ → Product
@@ -113,6 +114,6 @@ numberSays (NumberAnswer.Refused k) = refused k
 
 -- and of a reading that is judged before any work: a refusal its number, or its kind
 abbrev pub takenOf : Taken → Outcome Kind
-takenOf Taken.Zero = accepted zero
+takenOf (Taken.Zero b) = accepted (zero b)
 takenOf (Taken.Normal b) = accepted (normal b)
 takenOf (Taken.Refused k) = refused k

@@ -15,7 +15,7 @@ ghost use Rattle.factor.specs.UnitParts.{unitPartsOf};
 ghost use Rattle.factor.specs.SetUp.{Sound};
 ghost use Rattle.product.specs.Devices.{productOn};
 ghost use Rattle.product.specs.Units.{firstUnits};
-ghost use Rattle.reading.specs.Reading.{unreadable, kindOf, placed, finished, applied, outcomeOf, numberSays, takenOf};
+ghost use Rattle.reading.specs.Reading.{unreadable, kindOf, signWith, placed, finished, applied, outcomeOf, numberSays, takenOf};
 ghost use Rattle.reading.specs.Divided.{dividedReading};
 
 // The biased exponents of normal numbers.
@@ -37,9 +37,9 @@ pub enum NumberAnswer {
     Refused(u32),
 }
 
-// A reading before any work: a zero, a normal number by its bits, or a refusal: 31, 20, 21 or 22.
+// A reading before any work: a zero or a normal number, by its bits, or a refusal: 31, 20, 21 or 22.
 enum Taken {
-    Zero,
+    Zero(u32),
     Normal(u32),
     Refused(u32),
 }
@@ -67,10 +67,17 @@ fn answer(m: Mark, y: f32) -> ReadingAnswer
     }
 }
 
-// A significand at a reading's exponent, raised, with the reading's sign put on last; 23 where no normal number has that exponent.
-fn place(bits: u32, raise: i32, significand: u64) -> NumberAnswer
+// The sign of a reading's product or quotient, by its own and the factor's; a zero has it too.
+fn sign_with(f: Factor, bits: u32) -> bool
+    ensures { λ r. ⌜ r ≡ signWith f bits ⌝ }
+{
+    floats::sign_by(floats::is_minus(bits), factor::is_minus(f))
+}
+
+// A significand at a reading's exponent, raised, with a sign put on last; 23 where no normal number has that exponent.
+fn place(minus: bool, bits: u32, raise: i32, significand: u64) -> NumberAnswer
     requires { ⌜ (natAbs raise ≤ 101) × HasBits (prec binary32) significand ⌝ }
-    ensures { λ r. ⌜ numberSays r ≡ placed bits significand (exponentOf binary32 bits +ℤ raise) ⌝ }
+    ensures { λ r. ⌜ numberSays r ≡ placed minus significand (exponentOf binary32 bits +ℤ raise) ⌝ }
 {
     let exponent = floats::biased_exponent(bits) as i32 + raise;
     if exponent < LEAST_EXPONENT {
@@ -80,7 +87,7 @@ fn place(bits: u32, raise: i32, significand: u64) -> NumberAnswer
         return NumberAnswer::Refused(23);
     }
     NumberAnswer::Number(floats::float_of(
-        floats::is_minus(bits),
+        minus,
         (exponent - LEAST_EXPONENT) as u32,
         significand as u32,
     ))
@@ -91,7 +98,7 @@ fn finish(f: Factor, bits: u32, v: Product) -> ReadingAnswer
     requires { ⌜ Sound f × (f .precision .bits ≡ prec binary32) × HasBits (prec binary32) (v .significand) × (v .binade ≤ 1) ⌝ }
     ensures { λ r. ⌜ outcomeOf r ≡ finished f bits v ⌝ }
 {
-    match place(bits, f.applied.scale + v.binade as i32, v.significand) {
+    match place(sign_with(f, bits), bits, f.applied.scale + v.binade as i32, v.significand) {
         NumberAnswer::Refused(number) => ReadingAnswer::Refused(number),
         NumberAnswer::Number(y) => {
             let x = floats::significand_of(bits);
@@ -100,7 +107,7 @@ fn finish(f: Factor, bits: u32, v: Product) -> ReadingAnswer
     }
 }
 
-// What a reading is judged to be before any work: the first of the refusals 31, 20, 21 and 22 whose condition holds, or a zero or a normal number by its bits.
+// What a reading is judged to be before any work: the first of the refusals 31, 20, 21 and 22 whose condition holds, or a zero or a normal number, by its bits.
 fn take(f: Factor, reading: f32) -> Taken
     ensures { λ r. ⌜ takenOf r ≡ answer (unreadable f (toBits binary32 reading)) (kindOf (toBits binary32 reading)) ⌝ }
 {
@@ -121,7 +128,7 @@ fn take(f: Factor, reading: f32) -> Taken
         if digits != 0 {
             return Taken::Refused(22);
         }
-        return Taken::Zero;
+        return Taken::Zero(bits);
     }
     Taken::Normal(bits)
 }
@@ -138,28 +145,28 @@ fn product_of(d: Device, f: Factor, bits: u32) -> Product
     }
 }
 
-// Multiplies a reading on a device: the product with its mark, or the first of the refusals 31, 20, 21, 22 and 23 whose condition holds. A zero of either sign gives plus zero, right.
+// Multiplies a reading on a device: the product with its mark, or the first of the refusals 31, 20, 21, 22 and 23 whose condition holds. A zero gives a zero, right, with the sign of the product.
 pub fn read(d: Device, f: Factor, reading: f32) -> ReadingAnswer
     ensures { λ r. ⌜ outcomeOf r ≡ applied d f reading ⌝ }
 {
     match take(f, reading) {
         Taken::Refused(number) => ReadingAnswer::Refused(number),
-        Taken::Zero => ReadingAnswer::Right(floats::plus_zero()),
+        Taken::Zero(bits) => ReadingAnswer::Right(floats::zero(sign_with(f, bits))),
         Taken::Normal(bits) => finish(f, bits, product_of(d, f, bits)),
     }
 }
 
-// Divides a reading: the quotient, or the first of the refusals 31, 20, 21, 22 and 23 whose condition holds. A zero of either sign gives plus zero.
+// Divides a reading: the quotient, or the first of the refusals 31, 20, 21, 22 and 23 whose condition holds. A zero gives a zero with the sign of the quotient.
 pub fn divide(f: Factor, reading: f32) -> NumberAnswer
     ensures { λ r. ⌜ numberSays r ≡ dividedReading f reading ⌝ }
 {
     match take(f, reading) {
         Taken::Refused(number) => NumberAnswer::Refused(number),
-        Taken::Zero => NumberAnswer::Number(floats::plus_zero()),
+        Taken::Zero(bits) => NumberAnswer::Number(floats::zero(sign_with(f, bits))),
         Taken::Normal(bits) => {
             let x = floats::significand_of(bits);
             let v = quotient::quotient_of(f, x as u64);
-            place(bits, v.binade - f.applied.scale, v.significand)
+            place(sign_with(f, bits), bits, v.binade - f.applied.scale, v.significand)
         }
     }
 }

@@ -4,6 +4,7 @@ use mathlib.Core.Bool.{Bool}
 use Prim.Native.Nat.{ℕ, _^_, _<_}
 use native.Mathlib.Nat.{pos-of-ne-zero, le-of-lt}
 use native.Mathlib.Omega.{arith}
+use lib.Dec.{lit<}
 use lib.IntN.{ℤ, pos, natAbs}
 use lib.Ieee
 use lib.Ieee.{binary32}
@@ -13,23 +14,18 @@ use mir.ValLaws.{toZ-ofZ}
 use borrow.Author.Needs.{needs}
 use Rattle.rounding.specs.Signed.{negative}
 use Rattle.round.proofs.Laws.{negative-is}
-use Rattle.floats.specs.Fields.{plusZero}
+use Rattle.floats.specs.Signs.{round-zero}
 use Rattle.factor.proofs.low_float.Statement.{statement}
 use Rattle.factor.proofs.low_float.Tie as tie
 
 size-is : (c : tie.After-magnitude) → c .magnitude .result ≡ natAbs (c .before .args .low)
 size-is c = c .magnitude .ensures ∙ ap natAbs (toZ-ofZ w64 (c .before .args .low) (c .before .fits .low))
 
--- zero over one is plus zero
-zero-is : plusZero ≡ Ieee.round binary32 Bool.false 0 1
-unfolding Ieee.odd Ieee.round Ieee.units Ieee.size
-zero-is = refl
-
 returns : tie.Need-returns
 returns c =
     let a = c .before .before .before in
     let z = a .pre .1 .none (sym (size-is (c .before .before)) ∙ c .before .if1 .taken) in
-    c .plus-zero .ensures ∙ zero-is ∙ ap₂ (λ (l : ℤ) (q : ℕ). Ieee.round binary32 (negative l) (natAbs l) (2 ^ q)) (sym (z .0)) (sym (z .1))
+    c .zero .ensures ∙ sym (round-zero binary32 Bool.false 0 1 refl (lit< tt)) ∙ ap₂ (λ (l : ℤ) (q : ℕ). Ieee.round binary32 (negative l) (natAbs l) (2 ^ q)) (sym (z .0)) (sym (z .1))
 
 some : (c : tie.Else1) → 0 < natAbs (c .before .before .args .low)
 some c = pos-of-ne-zero (λ e. c .if1 .left (size-is (c .before) ∙ e))

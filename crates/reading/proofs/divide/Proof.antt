@@ -1,5 +1,6 @@
 -- `reading::divide` meets its contract: refused, a zero, or the quotient and the binade less k put on. Assumes nothing.
 use mathlib.Core.Path.{_≡_, sym, ap, ap₂, _∙_, subst}
+use mathlib.Core.Bool.{Bool}
 use Prim.Native.Nat.{ℕ, _≤_, _<_}
 use native.Mathlib.Omega.{arith}
 use lib.IntN.{ℤ, natAbs, negℤ, _+ℤ_, _-ℤ_}
@@ -9,12 +10,12 @@ use mir.Val.{SFits, toZ, ofZ}
 use borrow.Author.Needs.{needs}
 use Rattle.marks.specs.Answers.{accepted}
 use Rattle.rounding.specs.Round.{HasBits}
-use Rattle.floats.specs.Fields.{significandOf, exponentOf}
+use Rattle.floats.specs.Fields.{zeroOf, significandOf, exponentOf}
 use Rattle.factor.specs.declared.Factor.{Factor}
 use Rattle.quotient.specs.declared.Quotient.{Quotient}
 use Rattle.quotient.specs.Quotient.{quotientBy}
 use Rattle.quotient.specs.Tells.{sound-quotient, sound-binade}
-use Rattle.reading.specs.Reading.{placed}
+use Rattle.reading.specs.Reading.{signWith, placed}
 use Rattle.reading.specs.Divided.{quotientExponent, quotientOf, dividedReading}
 use Rattle.reading.specs.Exponents.{size-sum, scale-size, size-negated}
 use Rattle.reading.specs.AnswerLaws.{Ready, ready, normal-answered, zero-answered, refused-answered}
@@ -23,7 +24,7 @@ use Rattle.reading.proofs.divide.Statement.{statement}
 use Rattle.reading.proofs.divide.Tie as tie
 
 -- ---- a normal reading
-module _ (c : tie.After-known-told2) where
+module _ (c : tie.After-known-told3) where
   abbrev f : Factor
   f = c .before .before .before .before .args .f
 
@@ -31,17 +32,17 @@ module _ (c : tie.After-known-told2) where
   x = c .before .before .before .before .args .reading
 
   abbrev b : ℕ
-  b = c .before .bits .given .0 .0
+  b = c .before .bits2 .given .0 .0
 
   is-ready : Ready f b
-  is-ready = ready f x (c .before .before .before .take .result) (c .before .before .before .take .ensures) (c .before .bits .given .1)
+  is-ready = ready f x (c .before .before .before .take .result) (c .before .before .before .take .ensures) (c .before .bits2 .given .1)
 
 quotient-of-requires : tie.Need-quotient-of-requires
 quotient-of-requires c κs = let k = c .before in (is-ready k .sound, rw (c .significand-of .ensures) (is-ready k .bits))
 
 -- ---- its quotient, and what is put on the exponent
 module _ (c : tie.After-quotient-of) where
-  abbrev k : tie.After-known-told2
+  abbrev k : tie.After-known-told3
   k = c .before .before
 
   abbrev scale : ℤ
@@ -74,10 +75,10 @@ module _ (c : tie.After-quotient-of) where
       kept left (v .binade -ℤ scale) (ap₂ (λ (x y : ℤ). x -ℤ y) told read) (omega (arith, few))
 
 sub-place : tie.Need-sub-place
-sub-place c = is-kept (c .before .before .before .before) .0
+sub-place c = is-kept (c .before .before .before .before .before) .0
 
 place-requires : tie.Need-place-requires
-place-requires c κs = let q = c .before .before .before .before in (subst (λ (z : ℤ). natAbs z ≤ 101) (sym (is-kept q .1)) (omega (arith, few q)), v-bits q)
+place-requires c κs = let q = c .before .before .before .before .before in (subst (λ (z : ℤ). natAbs z ≤ 101) (sym (is-kept q .1)) (omega (arith, few q)), v-bits q)
 
 returns : tie.Need-returns
 unfolding dividedReading
@@ -86,21 +87,21 @@ returns c = let t = c .before .before .before in let a = t .before .args in refu
 returns-2 : tie.Need-returns-2
 unfolding dividedReading
 returns-2 c =
-    let t = c .before .before .before in
+    let t = c .before .before .before .before .before in
     let a = t .before .args in
-    ap accepted (c .plus-zero .ensures) ∙ zero-answered (a .f) (a .reading) (t .take .result) (t .take .ensures) (quotientOf (a .f)) (c .before .enum-told .given .1)
+    ap accepted (c .zero .ensures ∙ ap zeroOf (c .before .sign-with .ensures)) ∙ zero-answered (a .f) (a .reading) (t .take .result) (t .take .ensures) (quotientOf (a .f)) (c .before .before .before .bits .given .1)
 
 returns-3 : tie.Need-returns-3
 unfolding dividedReading
 returns-3 c =
-    let q = c .before .before .before .before .before in
+    let q = c .before .before .before .before .before .before in
     let n = k q in
     c .place .ensures
-    ∙ ap (λ (z : ℤ). placed (b n) (v q .significand) (exponentOf binary32 (b n) +ℤ z)) (is-kept q .1)
-    ∙ ap (λ (w : Quotient). placed (b n) (w .significand) (quotientExponent (f n) (b n) w)) (v-is q)
-    ∙ normal-answered (f n) (x n) (n .before .before .before .take .result) (n .before .before .before .take .ensures) (quotientOf (f n)) (n .before .bits .given .1)
+    ∙ ap₂ (λ (m : Bool) (z : ℤ). placed m (v q .significand) (exponentOf binary32 (b n) +ℤ z)) (c .before .before .before .before .before .sign-with2 .ensures) (is-kept q .1)
+    ∙ ap (λ (w : Quotient). placed (signWith (f n) (b n)) (w .significand) (quotientExponent (f n) (b n) w)) (v-is q)
+    ∙ normal-answered (f n) (x n) (n .before .before .before .take .result) (n .before .before .before .take .ensures) (quotientOf (f n)) (n .before .bits2 .given .1)
 
 pub divide-spec : {M : Type 1} → statement M
 divide-spec =
     tie.close
-    (tie.spec (λ c κs. search needs) (λ c. search needs) (λ c. search needs) (λ c κs. search needs) (λ c. search needs) (λ c κs. search needs) (λ c. search needs) quotient-of-requires sub-place place-requires returns returns-2 returns-3)
+    (tie.spec (λ c κs. search needs) (λ c. search needs) (λ c. search needs) (λ c κs. search needs) (λ c κs. search needs) (λ c. search needs) (λ c κs. search needs) (λ c. search needs) quotient-of-requires (λ c κs. search needs) sub-place place-requires returns returns-2 returns-3)

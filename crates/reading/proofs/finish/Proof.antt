@@ -1,5 +1,6 @@
 -- `reading::finish` meets its contract: k plus the binade, the number or 23, and the mark. Assumes nothing.
 use mathlib.Core.Path.{_≡_, sym, ap, ap₂, _∙_, subst}
+use mathlib.Core.Bool.{Bool}
 use mathlib.Core.List.{[]}
 use Prim.Native.Nat.{ℕ, _+_, _<_}
 use native.Mathlib.Omega.{arith}
@@ -16,7 +17,7 @@ use Rattle.rounding.specs.Round.{HasBits}
 use Rattle.floats.specs.Fields.{exponentOf}
 use Rattle.floats.specs.Pattern.{significand-bits}
 use Rattle.product.specs.Marks.{markBy}
-use Rattle.reading.specs.Reading.{productExponent, placed, finished, numberSays}
+use Rattle.reading.specs.Reading.{signWith, productExponent, placed, finished, numberSays}
 use Rattle.reading.specs.Exponents.{size-sum, scale-size}
 use Rattle.reading.proofs.Laws.{kept}
 use Rattle.reading.proofs.finish.Statement.{statement}
@@ -25,7 +26,7 @@ use Rattle.reading.proofs.finish.Tie as tie
 -- ---- what is put on the exponent
 module _ (c : tie.After-struct-told) where
   abbrev a : tie.Start
-  a = c .before .before .before
+  a = c .before .before .before .before
 
   abbrev raise : ℤ
   raise = a .args .f .applied .scale +ℤ pos (a .args .v .binade)
@@ -48,10 +49,10 @@ place-requires : tie.Need-place-requires
 place-requires c κs = (rw (is-kept c .1) (omega (arith, few c)), a c .pre .2)
 
 -- ---- what the number is, or its refusal
-placed-is : (c : tie.After-place) → let s = a (c .before) .args in numberSays (c .place .result) ≡ placed (s .bits) (s .v .significand) (productExponent (s .f) (s .bits) (s .v))
+placed-is : (c : tie.After-place) → let s = a (c .before) .args in numberSays (c .place .result) ≡ placed (signWith (s .f) (s .bits)) (s .v .significand) (productExponent (s .f) (s .bits) (s .v))
 placed-is c =
     let s = a (c .before) .args in
-    c .place .ensures ∙ ap (λ (z : ℤ). placed (s .bits) (s .v .significand) (exponentOf binary32 (s .bits) +ℤ z)) (is-kept (c .before) .1)
+    c .place .ensures ∙ ap₂ (λ (m : Bool) (z : ℤ). placed m (s .v .significand) (exponentOf binary32 (s .bits) +ℤ z)) (c .before .before .before .before .sign-with .ensures) (is-kept (c .before) .1)
 
 mark-of-requires : tie.Need-mark-of-requires
 mark-of-requires c κs =
@@ -83,4 +84,4 @@ returns-2 c =
 
 pub finish-spec : {M : Type 1} → statement M
 finish-spec =
-    tie.close (tie.spec (λ c. search needs) add-place place-requires (λ c. search needs) (λ c. search needs) (λ c κs. search needs) (λ c. search needs) mark-of-requires (λ c κs. search needs) returns returns-2)
+    tie.close (tie.spec (λ c κs. search needs) (λ c. search needs) add-place place-requires (λ c. search needs) (λ c. search needs) (λ c κs. search needs) (λ c. search needs) mark-of-requires (λ c κs. search needs) returns returns-2)

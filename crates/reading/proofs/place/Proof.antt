@@ -81,27 +81,25 @@ module _ (c : tie.Else2) where
   less-one = kept (toZ w32 (ofZ w32 (summed k)) -ℤ pos 1) (pos (p - 1)) (ap (λ (z : ℤ). z -ℤ pos 1) (within .1) ∙ sub-le p 1 (p - 1) (omega (arith, within .2))) (omega (arith, within .3))
 
 sub-float-of : tie.Need-sub-float-of
-sub-float-of c = less-one (c .before) .0
+sub-float-of c = less-one c .0
 
 cast-float-of : tie.Need-cast-float-of
-cast-float-of c = let h = c .before in rw (less-one h .1) (tt, record { fits = omega (arith, within h .3) })
+cast-float-of c = rw (less-one c .1) (tt, record { fits = omega (arith, within c .3) })
 
 float-of-requires : tie.Need-float-of-requires
 float-of-requires c κs =
-    let h = c .before in
-    let s = a (k h) in
-    rw (less-one h .1) (number-normalized binary32 (signOf binary32 (s .args .bits)) (s .args .significand) (exponent (k h)) (s .pre .1) (p h) (at-p h) (within h .2) (within h .3))
+    let s = a (k c) in
+    rw (less-one c .1) (number-normalized binary32 (s .args .minus) (s .args .significand) (exponent (k c)) (s .pre .1) (p c) (at-p c) (within c .2) (within c .3))
 
 returns-3 : tie.Need-returns-3
 returns-3 c =
-    let m = c .before in
-    let h = m .before in
+    let h = c .before in
     let s = a (k h) in
     let j = natAbs (toZ w32 (ofZ w32 (toZ w32 (ofZ w32 (summed (k h))) -ℤ pos 1))) in
     ap accepted
-    (c .float-of .ensures ∙ ap₂ (λ (b : Bool) (z : ℕ). floatOf binary32 b z (s .args .significand)) (m .is-minus .ensures) (ap natAbs (less-one h .1))
-    ∙ number-is binary32 (signOf binary32 (s .args .bits)) (s .args .significand) (exponent (k h)) (s .pre .1) (p h) (at-p h) (within h .2) (within h .3))
+    (c .float-of .ensures ∙ ap (λ (z : ℕ). floatOf binary32 (s .args .minus) z (s .args .significand)) (ap natAbs (less-one h .1))
+    ∙ number-is binary32 (s .args .minus) (s .args .significand) (exponent (k h)) (s .pre .1) (p h) (at-p h) (within h .2) (within h .3))
     ∙ accepts (pass (out-none binary32 (exponent (k h)) (p h) (at-p h) (within h .2) (within h .3)) end) _
 
 pub place-spec : {M : Type 1} → statement M
-place-spec = tie.close (tie.spec (λ c κs. search needs) (λ c. search needs) add-exponent returns returns-2 (λ c κs. search needs) sub-float-of cast-float-of (λ c. search needs) float-of-requires returns-3)
+place-spec = tie.close (tie.spec (λ c κs. search needs) (λ c. search needs) add-exponent returns returns-2 sub-float-of cast-float-of (λ c. search needs) float-of-requires returns-3)

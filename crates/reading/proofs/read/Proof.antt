@@ -6,7 +6,7 @@ use borrow.Author.Needs.{needs}
 use Rattle.marks.specs.declared.Mark.{Mark}
 use Rattle.marks.specs.Answers.{accepted, Marked}
 use Rattle.rounding.specs.Round.{HasBits}
-use Rattle.floats.specs.Fields.{significandOf}
+use Rattle.floats.specs.Fields.{zeroOf, significandOf}
 use Rattle.factor.specs.declared.Factor.{Factor}
 use Rattle.product.specs.declared.Device.{Device}
 use Rattle.product.specs.DeviceLaws.{formed}
@@ -20,7 +20,7 @@ abbrev made : Device → Factor → ℕ → Made (Marked Float)
 made d f b = productOf f b (productAt d f b)
 
 -- ---- a normal reading
-module _ (c : tie.After-known-told2) where
+module _ (c : tie.After-known-told3) where
   abbrev d : Device
   d = c .before .before .before .before .args .d
 
@@ -31,10 +31,10 @@ module _ (c : tie.After-known-told2) where
   x = c .before .before .before .before .args .reading
 
   abbrev b : ℕ
-  b = c .before .bits .given .0 .0
+  b = c .before .bits2 .given .0 .0
 
   is-ready : Ready f b
-  is-ready = ready f x (c .before .before .before .take .result) (c .before .before .before .take .ensures) (c .before .bits .given .1)
+  is-ready = ready f x (c .before .before .before .take .result) (c .before .before .before .take .ensures) (c .before .bits2 .given .1)
 
 product-of-requires : tie.Need-product-of-requires
 product-of-requires c κs = (is-ready c .sound, is-ready c .precision)
@@ -54,15 +54,15 @@ returns c = let t = c .before .before .before in let a = t .before .args in refu
 returns-2 : tie.Need-returns-2
 unfolding applied
 returns-2 c =
-    let t = c .before .before .before in
+    let t = c .before .before .before .before .before in
     let a = t .before .args in
-    ap (λ (y : Float). accepted (record { mark = Mark.Right; value = y })) (c .plus-zero .ensures) ∙ zero-answered (a .f) (a .reading) (t .take .result) (t .take .ensures) (made (a .d) (a .f)) (c .before .enum-told .given .1)
+    ap (λ (y : Float). accepted (record { mark = Mark.Right; value = y })) (c .zero .ensures ∙ ap zeroOf (c .before .sign-with .ensures)) ∙ zero-answered (a .f) (a .reading) (t .take .result) (t .take .ensures) (made (a .d) (a .f)) (c .before .before .before .bits .given .1)
 
 returns-3 : tie.Need-returns-3
 unfolding applied finished
 returns-3 c =
     let k = c .before .before in
-    c .finish .ensures ∙ ap (finished (f k) (b k)) (c .before .product-of .ensures) ∙ normal-answered (f k) (x k) (k .before .before .before .take .result) (k .before .before .before .take .ensures) (made (d k) (f k)) (k .before .bits .given .1)
+    c .finish .ensures ∙ ap (finished (f k) (b k)) (c .before .product-of .ensures) ∙ normal-answered (f k) (x k) (k .before .before .before .take .result) (k .before .before .before .take .ensures) (made (d k) (f k)) (k .before .bits2 .given .1)
 
 pub read-spec : {M : Type 1} → statement M
-read-spec = tie.close (tie.spec (λ c κs. search needs) (λ c. search needs) (λ c. search needs) (λ c κs. search needs) (λ c. search needs) product-of-requires finish-requires returns returns-2 returns-3)
+read-spec = tie.close (tie.spec (λ c κs. search needs) (λ c. search needs) (λ c. search needs) (λ c κs. search needs) (λ c κs. search needs) (λ c. search needs) product-of-requires finish-requires returns returns-2 returns-3)

@@ -68,8 +68,8 @@ returns-5 c =
     let none = eq-eqb (biasedExponent binary32 (b d)) 0 (sym (field-is d) ∙ z .if4 .taken) in
     let nil = eq-eqb (trailingSignificand binary32 (b d)) 0 (sym (digits-is d) ∙ c .if5 .left) in
     let is : subnormal binary32 (b d) ≡ false = rw (none, nil) in
-    let kind : zero ≡ kindOf (b d) = rw (none, nil) in
-    ap accepted kind ∙ accepts (pass (through (t d)) (pass (precise (e d)) (pass (ended n) (pass is end)))) _
+    let kind : zero (b d) ≡ kindOf (b d) = rw (none, nil) in
+    ap (λ (z : ℕ). accepted (zero z)) (d .before .before .bits-of .ensures) ∙ ap accepted kind ∙ accepts (pass (through (t d)) (pass (precise (e d)) (pass (ended n) (pass is end)))) _
 
 returns-6 : tie.Need-returns-6
 returns-6 c =
