@@ -1,4 +1,5 @@
-//! Document 01's example and figures, those of quotients and of the one-step device, and the reference's methods held against each other.
+//! Document 01's example and figures, those of quotients, of the one-step device and of zeros, and the reference's methods held against
+//! each other.
 
 use crate::factor::{greatest, least, set_up, Factor};
 use crate::onestep::{self, count, count_by_values, multiply_once, near_ties, product_once, read_once, tally, Tally};
@@ -87,10 +88,12 @@ pub fn selftest(output: &mut dyn Write) -> io::Result<()> {
     tallies();
     table_1();
     one_step_of_every_precision();
+    zeros();
+    zeros_of_many_factors();
     methods();
     writeln!(
         output,
-        "selftest: document 01's example and figures stand, those of quotients and of the one-step device too, and the methods agree"
+        "selftest: document 01's example and figures stand, those of quotients, of the one-step device and of zeros too, and the methods agree"
     )
 }
 
@@ -184,7 +187,7 @@ fn quotients_of_readings() {
     let f = set_up(24, -2, 0x517CC1B727220A94, 0x517CC1B727220A95).expect("an accepted factor");
     assert_eq!(divide_reading(&f, 0x3F000000), Ok(0x3FC90FDB));
     assert_eq!(divide_reading(&f, 0xBF000000), Ok(0xBFC90FDB));
-    assert_eq!(divide_reading(&f, 0x80000000), Ok(0));
+    assert_eq!(divide_reading(&f, 0x80000000), Ok(0x80000000));
     assert_eq!(divide_reading(&f, 0x7F800000), Err(21));
     assert_eq!(divide_reading(&f, 0x807FFFFF), Err(22));
     assert_eq!(divide_reading(&Factor { scale: 101, ..f }, 0x7F800000), Err(31));
@@ -304,7 +307,7 @@ fn one_step_readings() {
     for girth in [1.57f32, -1.57, 1.0, 3.0e38, 4.0e-38] {
         assert_eq!(read_once(&f, girth.to_bits()).map(|answer| answer.1), Ok((girth * applied).to_bits()));
     }
-    assert_eq!(read_once(&f, 0x80000000), Ok((Mark::Right, 0)));
+    assert_eq!(read_once(&f, 0x80000000), Ok((Mark::Right, 0x80000000)));
     assert_eq!(read_once(&f, 0x7F800000), Err(21));
     assert_eq!(read_once(&f, 0x807FFFFF), Err(22));
     assert_eq!(read_once(&f, 0x00800000), Err(23));
@@ -416,6 +419,63 @@ fn one_step_of_every_precision() {
             }
         }
     }
+}
+
+/// Zeros of both signs keep their sign, whatever sign the low part has, at every scale; and the refusals that are judged before.
+fn zeros() {
+    // The low part of 3/2 + 2^-62 is positive, that of 3/2 zero; those of 3/2 - 2^-62 and of pi are negative.
+    let (end, (_, _, lower, upper)) = (3 << 61, KNOWN[1]);
+    for (lower, upper, sign) in [(end + 1, end + 1, 1), (end, end, 0), (end - 1, end - 1, -1), (lower, upper, -1)] {
+        for scale in -100..=100 {
+            let f = set_up(24, scale, lower, upper).expect("an accepted factor");
+            assert_eq!(f.low.signum(), sign);
+            for zero in [0x00000000, 0x80000000] {
+                assert_eq!(read(&f, zero), Ok((Mark::Right, zero)));
+                assert_eq!(read_once(&f, zero), Ok((Mark::Right, zero)));
+                assert_eq!(divide_reading(&f, zero), Ok(zero));
+            }
+            check_zeros(&f);
+        }
+    }
+    let other_sign = Factor { low_float: pi(24).low_float ^ 0x80000000, ..pi(24) };
+    for (f, refusal) in [(pi(23), 20), (other_sign, 31)] {
+        for zero in [0x00000000, 0x80000000] {
+            assert_eq!(read(&f, zero), Err(refusal));
+            assert_eq!(read_once(&f, zero), Err(refusal));
+            assert_eq!(divide_reading(&f, zero), Err(refusal));
+        }
+    }
+}
+
+/// A zero's answers are the machine's single product and quotient of the reading and Ch × 2^k, which is a normal number. The two steps
+/// themselves would make plus zero of minus zero where the low part is negative, and there alone.
+fn check_zeros(factor: &Factor) {
+    let (high, low) = (f32::from_bits(factor.high_float), f32::from_bits(factor.low_float));
+    let applied = high * 2f32.powi(factor.scale);
+    assert!(applied.is_normal());
+    for zero in [0.0f32, -0.0] {
+        let (bits, product, quotient) = (zero.to_bits(), (zero * applied).to_bits(), (zero / applied).to_bits());
+        assert_eq!(read(factor, bits), Ok((Mark::Right, product)), "{factor:X?}");
+        assert_eq!(read_once(factor, bits), Ok((Mark::Right, product)), "{factor:X?}");
+        assert_eq!(divide_reading(factor, bits), Ok(quotient), "{factor:X?}");
+        let lost = zero.is_sign_negative() && factor.low < 0;
+        let steps = high.mul_add(zero, low * zero).to_bits();
+        assert_eq!(steps, if lost { 0 } else { product }, "{factor:X?}");
+        assert!(!lost || product == 0x8000_0000, "{factor:X?}");
+    }
+}
+
+/// The same for factors of many kinds, low parts of every sign among them.
+fn zeros_of_many_factors() {
+    let mut random = Random::new(11);
+    let mut met = [0; 3];
+    for i in 0..20_000 {
+        let g = given(&mut random, 24, i % (KINDS - 1));
+        let Ok(factor) = set_up(24, g.scale, g.lower, g.upper) else { continue };
+        check_zeros(&factor);
+        met[(factor.low.signum() + 1) as usize] += 1;
+    }
+    assert!(met.iter().all(|&factors| factors > 1000), "{met:?}");
 }
 
 /// For many factors of small precision: what is not right is a suspect, both rows are one, the search finds the row, the

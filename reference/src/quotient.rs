@@ -29,9 +29,10 @@ pub fn quotient(factor: &Factor, x: u64) -> Quotient {
     Quotient { significand: rounded.whole as u64, binade: binade as i64 }
 }
 
+/// A zero's quotient is the machine's own by the high part, which tells its sign (W3).
 pub fn divide_reading(factor: &Factor, reading: u32) -> Result<u32, Refusal> {
     match taken(factor, reading)? {
-        None => Ok(0),
+        None => Ok((f32::from_bits(reading) / f32::from_bits(factor.high_float)).to_bits()),
         Some(fraction) => put_on(machine(factor, fraction), reading, -factor.scale),
     }
 }

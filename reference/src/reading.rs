@@ -7,18 +7,23 @@ pub fn read(factor: &Factor, reading: u32) -> Result<(Mark, u32), Refusal> {
     read_by(factor, reading, product)
 }
 
-/// The reading's product by a device, which gives mark and product of the significand whose fraction bits are given.
+/// The reading's product by a device, which gives mark and product of the significand whose fraction bits are given. A zero is right on
+/// either device, and its product is the machine's single one with the high part, which tells its sign (document 02, W3): two steps
+/// would lose it where the low part is negative.
 pub fn read_by(
     factor: &Factor,
     reading: u32,
     device: impl Fn(&Factor, u32) -> (Mark, f32),
 ) -> Result<(Mark, u32), Refusal> {
-    let Some(fraction) = taken(factor, reading)? else { return Ok((Mark::Right, 0)) };
+    let Some(fraction) = taken(factor, reading)? else {
+        let zero = f32::from_bits(reading) * f32::from_bits(factor.high_float);
+        return Ok((Mark::Right, zero.to_bits()));
+    };
     let (mark, product) = device(factor, fraction);
     Ok((mark, put_on(product, reading, factor.scale)?))
 }
 
-/// The fraction bits of a reading that a factor is applied to, none for a zero; or the refusals 31 and 20 to 22.
+/// The fraction bits of a reading that a factor is applied to, none for a zero of either sign; or the refusals 31 and 20 to 22.
 pub fn taken(factor: &Factor, reading: u32) -> Result<Option<u32>, Refusal> {
     if !factor.intact() {
         return Err(31);
