@@ -93,6 +93,7 @@ fn parts() -> Vec<Part> {
     parts.push(part("upper halves that are not as written, through every function", upper_halves));
     parts.push(part("lists that are too short", short_lists));
     parts.push(part("readings, random and extreme, with every refusal", readings));
+    parts.push(part("zeros of both signs, through every function that takes a reading", zeros));
     parts.push(part("quotients and one-step products of readings at every exponent, past both limits", every_exponent));
     for (name, scale, lower, upper) in KNOWN.into_iter().chain([("3/2", 0, 3 << 61, 3 << 61)]) {
         parts.push(part(format!("the whole sweep of {name} at 24 bits, in one call and in many"), move |random| {
@@ -620,7 +621,7 @@ fn short_lists(random: &mut Random) -> u64 {
                 let answer = engine::divide_reading_to(&words[..factor_length], 0x8000_0000, &mut out);
                 let refused = if factor.bits == 24 { 0 } else { 20 };
                 let number = if enough && length > 0 { refused } else { TOO_SHORT };
-                let left = if number == 0 { 0 } else { 5 };
+                let left = if number == 0 { 0x8000_0000 } else { 5 };
                 agree!((answer, out), (number, vec![left; length]), "a zero divided into {length} words");
                 answers += 1;
             }
@@ -630,7 +631,7 @@ fn short_lists(random: &mut Random) -> u64 {
                     let answer = to(&words[..factor_length], 0x8000_0000, &mut out);
                     let refused = if factor.bits == 24 { 1 } else { 20 };
                     let number = if enough && length > 0 { refused } else { TOO_SHORT };
-                    let left = if number == 1 { 0 } else { 5 };
+                    let left = if number == 1 { 0x8000_0000 } else { 5 };
                     agree!((answer, out), (number, vec![left; length]), "a reading of zero into {length} words");
                     answers += 1;
                 }
@@ -698,8 +699,8 @@ fn both_divide_reading(words: &[u64], bits: u32) {
     agree!(engine::divide_reading(words, bits), answer, "the reading {bits:X} divided by {words:X?}");
 }
 
-/// Bits of a reading: of every class, and such that the answer's exponent, moved by `scale` or by one more, lies at a limit.
-/// A product's is moved by k or by one more, a quotient's by -k - 1 or by one more.
+/// Bits of a reading: of every class, zeros of both signs too, and such that the answer's exponent, moved by `scale` or by one more, lies
+/// at a limit. A product's is moved by k or by one more, a quotient's by -k - 1 or by one more.
 fn reading_bits(random: &mut Random, scale: i32) -> u32 {
     let scale = scale.clamp(-200, 200);
     let sign = (random.below(2) as u32) << 31;
@@ -757,6 +758,79 @@ fn readings(random: &mut Random) -> u64 {
                 answers += near.len() as u64;
             }
         }
+    }
+    answers
+}
+
+type ReadingTo = fn(&[u64], u32, &mut [u32]) -> u32;
+type Operation = fn(f32, f32) -> f32;
+
+/// The functions that take a reading, with the number that an accepted zero is answered with and the machine's operation that is due.
+const OF_READINGS: [(ReadingTo, u32, Operation); 3] = [
+    (engine::read_to, 1, |reading, factor| reading * factor),
+    (engine::read_once_to, 1, |reading, factor| reading * factor),
+    (engine::divide_reading_to, 0, |reading, factor| reading / factor),
+];
+
+/// A zero through these functions, from and into lists of every length. With a good factor its answer is the machine's own operation on
+/// the zero and Ch × 2^k; a refusal writes nothing.
+fn zero_to_lists(words: &[u64], factor: Result<Factor, u32>, zero: f32) -> u64 {
+    let mut answers = 0;
+    for (to, number, operation) in OF_READINGS {
+        let applied = |factor: Factor| f32::from_bits(factor.high_float) * 2f32.powi(factor.scale);
+        let due = factor.map(|factor| operation(zero, applied(factor)).to_bits());
+        for factor_length in 0..=words.len() {
+            for length in 0..=2 {
+                let expected = match due {
+                    _ if factor_length < FACTOR_WORDS || length == 0 => (TOO_SHORT, [5; 2]),
+                    Err(refusal) => (refusal, [5; 2]),
+                    Ok(bits) => (number, [bits, 5]),
+                };
+                let mut out = [5; 2];
+                let answer = to(&words[..factor_length], zero.to_bits(), &mut out[..length]);
+                agree!((answer, out), expected, "{zero:?} and {factor_length} words of {words:X?} into {length}");
+                answers += 1;
+            }
+        }
+    }
+    answers
+}
+
+/// Zeros of both signs with factors of every kind, with low parts of every sign, of other precisions and damaged: by the machine's own
+/// operations, and by the reference.
+fn zeros(random: &mut Random) -> u64 {
+    let (mut answers, mut met) = (0, std::collections::BTreeMap::new());
+    for i in 0..20_000 {
+        let bits = if i % 4 == 0 { random.from_to(4, 24) as u32 } else { 24 };
+        let mut words = words(&accepted(random, bits));
+        if i % 8 < 2 {
+            damage(random, &mut words);
+        }
+        let factor = engine::from_words(&words).and_then(|factor| match factor.bits {
+            _ if !factor.intact() => Err(31),
+            24 => Ok(factor),
+            _ => Err(20),
+        });
+        // Words past the factor's are not looked at.
+        let mut longer = words.to_vec();
+        longer.push(random.word());
+        for zero in [0.0f32, -0.0] {
+            answers += zero_to_lists(&longer, factor, zero);
+            both_read(&words, zero.to_bits());
+            both_read_once(&words, zero.to_bits());
+            both_divide_reading(&words, zero.to_bits());
+            answers += 3;
+            *met.entry((zero.is_sign_negative(), factor.map(|factor| factor.low.signum()))).or_insert(0) += 1;
+        }
+    }
+    for minus in [false, true] {
+        for kind in [Ok(1), Ok(0), Ok(-1), Err(20), Err(31)] {
+            assert!(met.get(&(minus, kind)).is_some_and(|&zeros| zeros > 500), "{met:?}");
+        }
+    }
+    // Random readings have them too.
+    for zero in [0, 0x8000_0000] {
+        assert!((0..20_000).any(|_| reading_bits(random, 0) == zero));
     }
     answers
 }
