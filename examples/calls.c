@@ -16,6 +16,7 @@ int main(void) {
     const uint64_t below_19_16 = 0x4BFFFC0000000000u;
     const uint64_t below_23_18 = 0x51C71C71C71C71C7u;
     const uint64_t below_4_over_pi = 0x517CC1B727220A94u;
+    const uint64_t below_pi_over_2 = 0x6487ED5110B4611Au;
     const uint64_t last_end = 0x7FFFFFFFFFFFFFFFu;
     const uint64_t minus_one = 0xFFFFFFFFFFFFFFFFu;
     uint64_t factor[GUSNALIP_FACTOR_WORDS];
@@ -40,6 +41,10 @@ int main(void) {
     due("3/2 at 24 bits", gusnalip_set_up(24, -1, three_halves, three_halves, factor, GUSNALIP_FACTOR_WORDS), GUSNALIP_ACCEPTED);
     due("3/4 times 1", gusnalip_read(factor, GUSNALIP_FACTOR_WORDS, 0x3F800000, reading, GUSNALIP_READING_WORDS), GUSNALIP_RIGHT);
     due("its bits", reading[0], 0x3F400000);
+    due("3/4 times minus zero", gusnalip_read(factor, GUSNALIP_FACTOR_WORDS, 0x80000000, reading, GUSNALIP_READING_WORDS), GUSNALIP_RIGHT);
+    due("its bits, the low part being zero", reading[0], 0x80000000);
+    due("3/4 times plus zero", gusnalip_read(factor, GUSNALIP_FACTOR_WORDS, 0, reading, GUSNALIP_READING_WORDS), GUSNALIP_RIGHT);
+    due("its bits, the low part being zero", reading[0], 0);
 
     /* Dividing: by 3/2 at 4 bits; by 2, the high part of the last fraction; by 3/4 at 24 bits, and by 1/pi: from the diameter 1/2 to the girth pi/2. */
     due("3/2 again", gusnalip_set_up(4, 0, three_halves, three_halves, factor, GUSNALIP_FACTOR_WORDS), GUSNALIP_ACCEPTED);
@@ -68,8 +73,10 @@ int main(void) {
     due("infinity", gusnalip_divide_reading(factor, GUSNALIP_FACTOR_WORDS, 0x7F800000, reading, GUSNALIP_READING_WORDS), 21);
     due("a subnormal reading", gusnalip_divide_reading(factor, GUSNALIP_FACTOR_WORDS, 1, reading, GUSNALIP_READING_WORDS), 22);
     due("the bits as they were", reading[0], 0xBFAAAAAB);
-    due("minus zero", gusnalip_divide_reading(factor, GUSNALIP_FACTOR_WORDS, 0x80000000, reading, GUSNALIP_READING_WORDS), GUSNALIP_ACCEPTED);
-    due("its bits", reading[0], 0);
+    due("minus zero by 3/4", gusnalip_divide_reading(factor, GUSNALIP_FACTOR_WORDS, 0x80000000, reading, GUSNALIP_READING_WORDS), GUSNALIP_ACCEPTED);
+    due("its bits, the low part being zero", reading[0], 0x80000000);
+    due("plus zero by 3/4", gusnalip_divide_reading(factor, GUSNALIP_FACTOR_WORDS, 0, reading, GUSNALIP_READING_WORDS), GUSNALIP_ACCEPTED);
+    due("its bits, the low part being zero", reading[0], 0);
     due("1/pi", gusnalip_set_up(24, -2, below_4_over_pi, below_4_over_pi + 1, factor, GUSNALIP_FACTOR_WORDS), GUSNALIP_ACCEPTED);
     due("1/2 by 1/pi", gusnalip_divide_reading(factor, GUSNALIP_FACTOR_WORDS, 0x3F000000, reading, GUSNALIP_READING_WORDS), GUSNALIP_ACCEPTED);
     due("its bits", reading[0], 0x3FC90FDB);
@@ -116,8 +123,10 @@ int main(void) {
     due("a subnormal reading", gusnalip_read_once(factor, GUSNALIP_FACTOR_WORDS, 1, reading, GUSNALIP_READING_WORDS), 22);
     due("the least reading", gusnalip_read_once(factor, GUSNALIP_FACTOR_WORDS, 0x00800000, reading, GUSNALIP_READING_WORDS), 23);
     due("the bits as they were", reading[0], 0xBEA2F983);
-    due("minus zero", gusnalip_read_once(factor, GUSNALIP_FACTOR_WORDS, 0x80000000, reading, GUSNALIP_READING_WORDS), GUSNALIP_RIGHT);
-    due("its bits", reading[0], 0);
+    due("minus zero in one step", gusnalip_read_once(factor, GUSNALIP_FACTOR_WORDS, 0x80000000, reading, GUSNALIP_READING_WORDS), GUSNALIP_RIGHT);
+    due("its bits, the low part being positive", reading[0], 0x80000000);
+    due("plus zero in one step", gusnalip_read_once(factor, GUSNALIP_FACTOR_WORDS, 0, reading, GUSNALIP_READING_WORDS), GUSNALIP_RIGHT);
+    due("its bits, the low part being positive", reading[0], 0);
     due("4,096", gusnalip_tally(factor, GUSNALIP_FACTOR_WORDS, 8388608, 8392703, tally, GUSNALIP_TALLY_WORDS), GUSNALIP_ACCEPTED);
     due("right ones", tally[0], 2331);
     due("wrong ones", tally[1], 1765);
@@ -128,6 +137,22 @@ int main(void) {
     due("more, from outside", gusnalip_tally(factor, GUSNALIP_FACTOR_WORDS, 8388607, 16777215, tally, GUSNALIP_TALLY_WORDS), 17);
     factor[8] += (uint64_t)1 << 32;
     due("damage", gusnalip_read_once(factor, GUSNALIP_FACTOR_WORDS, 0x7F800000, reading, GUSNALIP_READING_WORDS), GUSNALIP_DAMAGED);
+
+    /* pi, whose low part is negative: a zero keeps its sign there too, where the sum of the two steps' zeros would lose it. */
+    due("pi", gusnalip_set_up(24, 1, below_pi_over_2, below_pi_over_2 + 1, factor, GUSNALIP_FACTOR_WORDS), GUSNALIP_ACCEPTED);
+    due("its low part is negative", factor[4] >> 63, 1);
+    due("pi times minus zero", gusnalip_read(factor, GUSNALIP_FACTOR_WORDS, 0x80000000, reading, GUSNALIP_READING_WORDS), GUSNALIP_RIGHT);
+    due("its bits, the low part being negative", reading[0], 0x80000000);
+    due("pi times minus zero in one step", gusnalip_read_once(factor, GUSNALIP_FACTOR_WORDS, 0x80000000, reading, GUSNALIP_READING_WORDS), GUSNALIP_RIGHT);
+    due("its bits, the low part being negative", reading[0], 0x80000000);
+    due("minus zero by pi", gusnalip_divide_reading(factor, GUSNALIP_FACTOR_WORDS, 0x80000000, reading, GUSNALIP_READING_WORDS), GUSNALIP_ACCEPTED);
+    due("its bits, the low part being negative", reading[0], 0x80000000);
+    due("pi times plus zero", gusnalip_read(factor, GUSNALIP_FACTOR_WORDS, 0, reading, GUSNALIP_READING_WORDS), GUSNALIP_RIGHT);
+    due("its bits, the low part being negative", reading[0], 0);
+    due("pi times plus zero in one step", gusnalip_read_once(factor, GUSNALIP_FACTOR_WORDS, 0, reading, GUSNALIP_READING_WORDS), GUSNALIP_RIGHT);
+    due("its bits, the low part being negative", reading[0], 0);
+    due("plus zero by pi", gusnalip_divide_reading(factor, GUSNALIP_FACTOR_WORDS, 0, reading, GUSNALIP_READING_WORDS), GUSNALIP_ACCEPTED);
+    due("its bits, the low part being negative", reading[0], 0);
 
     /* 19/16 - 2^-20 at 4 bits: its one suspect, 8, is wrong. */
     due("19/16 - 2^-20", gusnalip_set_up(4, 0, below_19_16, below_19_16, factor, GUSNALIP_FACTOR_WORDS), GUSNALIP_ACCEPTED);

@@ -11,6 +11,9 @@
  * GUSNALIP_STATE_WORDS words: a factor, then the first, last and next significand, and 0 or any other word for not finished or finished.
  * Further words of either are not looked at.
  *
+ * A reading of zero gives a zero of the reading's own sign, multiplied on either device (marked right) or divided, whatever sign the low
+ * part has.
+ *
  * gusnalip_read asks for the machine's default rounding mode, round to nearest (FE_TONEAREST): with another one that the caller has set,
  * readings whose products lie near a midpoint can come out differently. Nothing else depends on it: quotients and one-step products, those
  * of readings too, are worked out in whole numbers. */
@@ -56,11 +59,11 @@ uint32_t gusnalip_read(const uint64_t *factor, size_t factor_length, uint32_t re
 uint32_t gusnalip_divide(const uint64_t *factor, size_t factor_length, uint64_t x, uint64_t *out, size_t out_length);
 
 /* Divides a reading given by its bits by the factor's high part times 2^scale: 0, with the bits of the quotient in out[0], or a refusal 31,
- * 20 to 23. A zero of either sign gives plus zero. */
+ * 20 to 23. */
 uint32_t gusnalip_divide_reading(const uint64_t *factor, size_t factor_length, uint32_t reading, uint32_t *out, size_t out_length);
 
 /* The one-step device, a handheld without the fused step: its product is that by the factor's high part alone, rounded once. Answers are
- * those of gusnalip_multiply and gusnalip_read, the mark being this device's. A zero of either sign gives plus zero, right. */
+ * those of gusnalip_multiply and gusnalip_read, the mark being this device's. */
 uint32_t gusnalip_multiply_once(const uint64_t *factor, size_t factor_length, uint64_t x, uint64_t *out, size_t out_length);
 uint32_t gusnalip_read_once(const uint64_t *factor, size_t factor_length, uint32_t reading, uint32_t *out, size_t out_length);
 
