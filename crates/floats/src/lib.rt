@@ -2,7 +2,7 @@
 ghost use mathlib.Core.Path.{_≡_};
 ghost use Prim.Native.Nat.{_<_, _^_};
 ghost use lib.Ieee;
-ghost use lib.Ieee.{binary32, emax, unlike, ofBits, toBits};
+ghost use lib.Ieee.{binary32, emax, ofBits, toBits};
 ghost use Rattle.wide.specs.Value.{wordBits};
 ghost use Rattle.floats.specs.Fields.{signOf, biasedExponent, trailingSignificand, significandOf, zeroOf, sameFloat, floatOf, Normalized, Narrow, unitAt, WholeInUnits, unitsOf};
 
@@ -79,13 +79,6 @@ pub fn same_float(x: f32, y: f32) -> bool
     ensures { λ r. ⌜ r ≡ sameFloat binary32 x y ⌝ }
 {
     bits_of(x) == bits_of(y)
-}
-
-// The sign of a product or quotient by the signs of its two operands, zeros included: minus where one has it and the other has not.
-pub fn sign_by(x: bool, y: bool) -> bool
-    ensures { λ r. ⌜ r ≡ unlike x y ⌝ }
-{
-    x != y
 }
 
 // Zero with a sign.

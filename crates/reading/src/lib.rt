@@ -71,7 +71,7 @@ fn answer(m: Mark, y: f32) -> ReadingAnswer
 fn sign_with(f: Factor, bits: u32) -> bool
     ensures { λ r. ⌜ r ≡ signWith f bits ⌝ }
 {
-    floats::sign_by(floats::is_minus(bits), factor::is_minus(f))
+    floats::is_minus(bits) != factor::is_minus(f)
 }
 
 // A significand at a reading's exponent, raised, with a sign put on last; 23 where no normal number has that exponent.
@@ -98,7 +98,12 @@ fn finish(f: Factor, bits: u32, v: Product) -> ReadingAnswer
     requires { ⌜ Sound f × (f .precision .bits ≡ prec binary32) × HasBits (prec binary32) (v .significand) × (v .binade ≤ 1) ⌝ }
     ensures { λ r. ⌜ outcomeOf r ≡ finished f bits v ⌝ }
 {
-    match place(sign_with(f, bits), bits, f.applied.scale + v.binade as i32, v.significand) {
+    match place(
+        sign_with(f, bits),
+        bits,
+        f.applied.scale + v.binade as i32,
+        v.significand,
+    ) {
         NumberAnswer::Refused(number) => ReadingAnswer::Refused(number),
         NumberAnswer::Number(y) => {
             let x = floats::significand_of(bits);
@@ -166,7 +171,12 @@ pub fn divide(f: Factor, reading: f32) -> NumberAnswer
         Taken::Normal(bits) => {
             let x = floats::significand_of(bits);
             let v = quotient::quotient_of(f, x as u64);
-            place(sign_with(f, bits), bits, v.binade - f.applied.scale, v.significand)
+            place(
+                sign_with(f, bits),
+                bits,
+                v.binade - f.applied.scale,
+                v.significand,
+            )
         }
     }
 }
