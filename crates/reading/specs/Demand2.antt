@@ -1,5 +1,5 @@
 -- Demand 2 of readings (`reading-answered`, `reading-tells`), for every device, factor and reading: the answer is the device's product with sign and exponent put on, exactly, and its
--- mark tells of every fraction C between the ends whether C * 2 ^ k times the reading rounds to it. Assumes nothing.
+-- mark tells of every fraction C between the ends whether C * 2 ^ k times the reading rounds to it; its sign is that of the standard's product, which of a zero is the whole answer (`zero-multiplied`, request W3). Assumes nothing.
 use mathlib.Core.Path.{_≡_, refl, sym, ap, _∙_, subst}
 use mathlib.Core.Bool.{Bool, true, false, cond}
 use mathlib.Core.Logic.{_⊎_, inl, inr}

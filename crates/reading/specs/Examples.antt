@@ -1,4 +1,4 @@
--- Figures: document 01's two readings at scale 100, one reading of every kind, one that is rounded up to the least normal number, and one on which a fused step in binary64 would fail, on both devices; a girth on which the one-step device fails (request W2); request W1's girth, quotients of every kind of reading, and both limits of 23 in both binades. All by computation. Assumes nothing.
+-- Figures: document 01's two readings at scale 100, one reading of every kind, one that is rounded up to the least normal number, and one on which a fused step in binary64 would fail, on both devices; a girth on which the one-step device fails (request W2); zeros of both signs where the low part is negative (request W3); request W1's girth, quotients of every kind of reading, and both limits of 23 in both binades. All by computation. Assumes nothing.
 use mathlib.Core.Path.{_≡_, refl}
 use mathlib.Core.Bool.{true, false}
 use Prim.Native.Nat.{ℕ, _+_, _*_, _^_}

@@ -1,5 +1,5 @@
--- What an answer to a reading's division tells, for every factor and every reading (`divided-reading-answered`, `divided-reading-tells`): plus zero for a zero, which is left out of what follows; else RN(x / Ch) with sign and exponent put on, exactly; one division of the standard,
--- of significands and of the reading itself by Ch * 2 ^ k, gives the same; and it is less than 3/2 units in the last place from the reading / (C * 2 ^ k) for every fraction C between the ends. Assumes nothing.
+-- What an answer to a reading's division tells, for every factor and every reading (`divided-reading-answered`, `divided-reading-tells`): its sign is that of the standard's quotient, which of a zero is the whole answer (`zero-divided`); any other is RN(x / Ch) with sign and exponent
+-- put on, exactly; one division of the standard, of significands and of the reading itself by Ch * 2 ^ k, gives the same; and it is less than 3/2 units in the last place from the reading / (C * 2 ^ k) for every fraction C between the ends. Assumes nothing.
 use mathlib.Core.Path.{_≡_, refl, sym, ap, _∙_, subst}
 use mathlib.Core.Bool.{Bool, true, false, cond}
 use mathlib.Core.Logic.{_⊎_, inl, inr}
@@ -14,7 +14,7 @@ use Rattle.marks.specs.AnswerLaws.{none-refuses}
 use Rattle.rounding.specs.Grid.{toEven}
 use Rattle.rounding.specs.Round.{HasBits}
 use Rattle.rounding.specs.Fraction.{Fraction, signedAs, RN, Same}
-use Rattle.floats.specs.Fields.{zeroOf, signOf, zeroBits, Normal, significandOf, exponentOf}
+use Rattle.floats.specs.Fields.{zeroOf, zeroBits, Normal, significandOf, exponentOf}
 use Rattle.floats.specs.Pattern.{significand-bits}
 use Rattle.floats.specs.NormalLaws.{numberAt, number-some}
 use Rattle.factor.specs.declared.Factor.{Factor}

@@ -1,6 +1,5 @@
 -- `reading::place` meets its contract: the biased exponent as a signed number, 23, and the number put together. Assumes nothing.
 use mathlib.Core.Path.{_≡_, sym, ap, ap₂, _∙_}
-use mathlib.Core.Bool.{Bool}
 use Prim.Native.Nat.{ℕ, _-_, _*_, _^_, _≤_, _<_}
 use native.Mathlib.Omega.{arith}
 use lib.IntN.{ℤ, pos, natAbs, _+ℤ_, _-ℤ_}
@@ -11,7 +10,7 @@ use mir.ValLaws.{toZ-pos, toZ-ofZ}
 use borrow.Author.Needs.{needs}
 use Rattle.marks.specs.Answers.{accepted}
 use Rattle.marks.specs.AnswerLaws.{pass, stop, end, refuses, accepts}
-use Rattle.floats.specs.Fields.{signOf, biasedExponent, exponentOf, floatOf}
+use Rattle.floats.specs.Fields.{biasedExponent, exponentOf, floatOf}
 use Rattle.floats.specs.Powers.{sub-le}
 use Rattle.floats.specs.Pattern.{biased-most}
 use Rattle.reading.specs.Exponents.{biased-is, size-sum, below-least, above-most, in-between, out-none}
