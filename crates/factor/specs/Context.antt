@@ -36,6 +36,6 @@ lowerOf f = f .lower
 abbrev pub upperOf : Factor → ℕ
 upperOf f = f .upper
 
--- whether a factor has a minus: none has, as its ends are positive
+-- whether a factor has a minus: none has, as document 01's factors lie above zero
 abbrev pub minusOf : Factor → Bool
 minusOf f = false

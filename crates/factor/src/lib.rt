@@ -365,7 +365,7 @@ pub fn is_intact(f: Factor) -> bool
     }
 }
 
-// Whether a factor has a minus: none has, as its ends are positive.
+// Whether a factor has a minus: none has, as document 01's factors lie above zero.
 pub fn is_minus(f: Factor) -> bool
     ensures { λ r. ⌜ r ≡ minusOf f ⌝ }
 {

@@ -25,11 +25,11 @@ signAbove f false b = b
 abbrev pub zeroOf : Bool → Float
 zeroOf s = fin s 0 (pos 0)
 
--- whether a float has a minus: IEEE 754-2019's isSignMinus, zeros and infinities included; the one NaN has no sign
-abbrev pub isMinus : Float → Bool
-isMinus nan = false
-isMinus (inf s) = s
-isMinus (fin s m e) = s
+-- whether a float has a minus, as IEEE 754-2019 has it, zeros and infinities included; the one NaN has no sign
+abbrev pub isSignMinus : Float → Bool
+isSignMinus nan = false
+isSignMinus (inf s) = s
+isSignMinus (fin s m e) = s
 
 -- floats are compared bit for bit
 abbrev pub sameFloat : Format → Float → Float → Bool

@@ -7,22 +7,22 @@ use lib.Dec.{ltb, lit<}
 use lib.Ieee
 use lib.Ieee.{inf, Format, binary32, binary64, prec, emax, low, odd, units}
 use lib.Ieee.Scale.{round-same}
-use Rattle.floats.specs.Fields.{zeroOf, isMinus}
+use Rattle.floats.specs.Fields.{zeroOf, isSignMinus}
 
-odd-keeps : (d : ℕ) (s : Bool) (q k l : ℕ) → isMinus (odd d s q k l) ≡ s
+odd-keeps : (d : ℕ) (s : Bool) (q k l : ℕ) → isSignMinus (odd d s q k l) ≡ s
 unfolding odd
 odd-keeps d s zero k l = refl
 odd-keeps d s (suc q) k l = refl
 
-units-keep : (f : Format) (s : Bool) (q k : ℕ) → isMinus (units f s q k) ≡ s
+units-keep : (f : Format) (s : Bool) (q k : ℕ) → isSignMinus (units f s q k) ≡ s
 unfolding units
 units-keep f s q k = go (ltb (q * 2 ^ k) (2 ^ (low f + suc (emax f))))
   where
-    go : (b : Bool) → isMinus (cond b (odd (suc (prec f)) s q k (low f)) (inf s)) ≡ s
+    go : (b : Bool) → isSignMinus (cond b (odd (suc (prec f)) s q k (low f)) (inf s)) ≡ s
     go true = odd-keeps (suc (prec f)) s q k (low f)
     go false = refl
 
-pub round-keeps : (f : Format) (s : Bool) (a c : ℕ) → isMinus (Ieee.round f s a c) ≡ s
+pub round-keeps : (f : Format) (s : Bool) (a c : ℕ) → isSignMinus (Ieee.round f s a c) ≡ s
 unfolding Ieee.round
 round-keeps f s a c = units-keep f s _ _
 

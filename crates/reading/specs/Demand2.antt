@@ -46,7 +46,7 @@ use Rattle.reading.specs.Exponents.{let-through, out-none}
 use Rattle.reading.specs.ReadingLaws.{number-value, number-normal}
 use Rattle.reading.specs.AnswerLaws.{is-intact, precision-is, of-reading}
 use Rattle.reading.specs.Standard.{Is, StoredSteps, stored-steps}
-use Rattle.reading.specs.OneOperation.{readingAt, scaledBy, multiplying, OneOperation, StandardSign}
+use Rattle.reading.specs.OneOperation.{readingAt, scaledBy, multiplying, OneOperation, signedHigh, StandardSign}
 use Rattle.reading.specs.OneOperationLaws.{reading-is, multiplies, one-operation}
 use Rattle.reading.specs.SignLaws.{zero-sign, number-sign, zero-is-operation}
 
@@ -235,6 +235,6 @@ unfolding applied
 reading-answered d f x h = let b = toBits binary32 x in none-refuses (conditions f b (productExponent f b (productAt d f b))) (numbered d f b) h
 
 -- a zero of either sign is answered, right, with the standard's product of it and the stored high part, which as every f32 fits the format
-pub zero-multiplied : (d : Device) (f : Factor) → intact f ≡ true → f .precision .bits ≡ prec binary32 → T (fits binary32 (f .applied .high)) → (s : Bool) → applied d f (zeroOf s) ≡ accepted (record { mark = Mark.Right; value = mul binary32 (zeroOf s) (f .applied .high) })
+pub zero-multiplied : (d : Device) (f : Factor) → intact f ≡ true → f .precision .bits ≡ prec binary32 → T (fits binary32 (f .applied .high)) → (s : Bool) → applied d f (zeroOf s) ≡ accepted (record { mark = Mark.Right; value = mul binary32 (zeroOf s) (signedHigh f) })
 unfolding applied
 zero-multiplied d f i n h s = let b = toBits binary32 (zeroOf s) in zero-is-operation multiplying multiplies f i n h s (productOf f b (productAt d f b)) (λ y. record { mark = Mark.Right; value = y }) refl

@@ -18,7 +18,7 @@ quotientExponent f b v = exponentOf binary32 b +ℤ (v .binade -ℤ f .applied .
 abbrev pub placedQuotient : Factor → ℕ → Quotient → Outcome Float
 placedQuotient f b v = placed (signWith f b) (v .significand) (quotientExponent f b v)
 
--- a zero gives a zero, any other reading the quotient, both with the quotient's sign, and no mark
+-- a zero gives a zero (request W3), any other reading the quotient, both with the quotient's sign, and no mark
 abbrev pub quotientOf : Factor → ℕ → Made Float
 quotientOf f b =
     let v = quotientBy f (significandOf binary32 b) in

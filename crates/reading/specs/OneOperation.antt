@@ -1,13 +1,13 @@
 -- One operation of the standard on a reading and Ch * 2 ^ k, a division (request W1) or a multiplication (request W2), and what the answer is by it; and the sign that it gives, zeros included (request W3). Definitions only. Assumes nothing.
 use mathlib.Core.Path.{_≡_}
-use mathlib.Core.Bool.{true}
+use mathlib.Core.Bool.{true, cond}
 use Prim.Native.Nat.{ℕ, _*_, _<_}
 use lib.Dec.{T}
 use lib.IntN.{ℤ, _+ℤ_, _-ℤ_}
-use lib.Ieee.{Float, binary32, prec, hid, up, down, toBits, fits, mul, div}
+use lib.Ieee.{Float, binary32, prec, hid, up, down, toBits, fits, neg, mul, div}
 use Rattle.rounding.specs.Fraction.{Fraction, power, times, ratio}
 use Rattle.rounding.specs.Ulp.{WithinThreeHalves}
-use Rattle.floats.specs.Fields.{isMinus, signOf, zeroBits, significandOf, exponentOf}
+use Rattle.floats.specs.Fields.{isSignMinus, signOf, zeroBits, significandOf, exponentOf}
 use Rattle.factor.specs.declared.Factor.{Factor}
 use Rattle.factor.specs.Context.{contextOf, lowerOf, upperOf, minusOf}
 use Rattle.factor.specs.Ends.{Between}
@@ -51,6 +51,10 @@ pub record OneOperation (o : Operation) (f : Factor) (b : ℕ) (v a : Fraction) 
   pub near : (C : Fraction) → Between (contextOf f) (lowerOf f) (upperOf f) C → WithinThreeHalves (prec binary32) a (o .exactly (readingAt b) (scaledBy f C))
 
 -- ---- what is said of the sign of every answer, zeros included
+-- the stored high part with the factor's sign
+abbrev pub signedHigh : Factor → Float
+signedHigh f = cond (minusOf f) (neg (f .applied .high)) (f .applied .high)
+
 -- a number with the factor's sign, and not zero
 pub record LikeFactor (f : Factor) (g : Float) : Type 0 where
   pub value : Fraction
@@ -62,8 +66,9 @@ pub record LikeFactor (f : Factor) (g : Float) : Type 0 where
 -- the sign of the answer y to a reading with the bits b, by the operation on the reading x itself
 pub record StandardSign (o : Operation) (f : Factor) (b : ℕ) (y : Float) : Type 0 where
   -- it is the one that the operation gives x and any number with the factor's sign
-  pub sign : (x g : Float) → T (fits binary32 x) → toBits binary32 x ≡ b → LikeFactor f g → isMinus y ≡ isMinus (o .inFormat x g)
+  pub sign : (x g : Float) → T (fits binary32 x) → toBits binary32 x ≡ b → LikeFactor f g → isSignMinus y ≡ isSignMinus (o .inFormat x g)
   -- and of a zero the operation gives y
   pub zero : zeroBits binary32 b ≡ true → (x g : Float) → T (fits binary32 x) → toBits binary32 x ≡ b → LikeFactor f g → y ≡ o .inFormat x g
-  -- the stored high part is such a number
-  pub stored : T (fits binary32 (f .applied .high)) → LikeFactor f (f .applied .high)
+  -- such numbers are the stored high part, which as every f32 fits the format, and Ch * 2 ^ k, which is a binary32 number
+  pub stored : T (fits binary32 (f .applied .high)) → LikeFactor f (signedHigh f)
+  pub scaled : LikeFactor f (floatIn binary32 (appliedHigh f))

@@ -104,11 +104,11 @@ module _ (f : Factor) (sound : Sound f) (n : f .precision .bits ≡ prec binary3
   power-positive : Positive (power k)
   power-positive = record { sign = refl; above = up-pos k; some = down-pos k }
 
-  applied-positive : Positive (appliedHigh f)
+  pub applied-positive : Positive (appliedHigh f)
   applied-positive = times-positive (high (prec binary32) (f .parts)) (power k) high-positive power-positive
 
   -- it is a binary32 number
-  applied-held : Is (floatIn binary32 (appliedHigh f)) (appliedHigh f)
+  pub applied-held : Is (floatIn binary32 (appliedHigh f)) (appliedHigh f)
   applied-held =
       let t = scale-from k (scale-size k (sound .scale)) in
       round-itself binary32 false (f .parts .high * up k) (hid binary32 * down k) (f .parts .high) (t .0) (applied-positive .some) (high-bits .most) (in-smallest binary32 (f .parts .high) k (t .0) (t .1)) (lt-of-le-of-lt (mul-le-mul (high-bits .most) (pow-mono (t .2))) (lit< tt))

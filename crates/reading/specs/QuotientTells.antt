@@ -30,7 +30,7 @@ use Rattle.reading.specs.Exponents.{let-through}
 use Rattle.reading.specs.ReadingLaws.{number-value, number-normal}
 use Rattle.reading.specs.AnswerLaws.{is-intact, precision-is, of-reading}
 use Rattle.reading.specs.Standard.{Is}
-use Rattle.reading.specs.OneOperation.{readingAt, dividing, OneOperation, StandardSign}
+use Rattle.reading.specs.OneOperation.{readingAt, dividing, OneOperation, signedHigh, StandardSign}
 use Rattle.reading.specs.OneOperationLaws.{reading-is, divides, one-operation}
 use Rattle.reading.specs.SignLaws.{zero-sign, number-sign, zero-is-operation}
 
@@ -143,6 +143,6 @@ unfolding dividedReading
 divided-reading-answered f x h = let b = toBits binary32 x in none-refuses (conditions f b (quotientOf f b .exponent)) (numbered f b) h
 
 -- a zero of either sign is answered with the standard's quotient of it by the stored high part, which as every f32 fits the format
-pub zero-divided : (f : Factor) → intact f ≡ true → f .precision .bits ≡ prec binary32 → T (fits binary32 (f .applied .high)) → (s : Bool) → dividedReading f (zeroOf s) ≡ accepted (div binary32 (zeroOf s) (f .applied .high))
+pub zero-divided : (f : Factor) → intact f ≡ true → f .precision .bits ≡ prec binary32 → T (fits binary32 (f .applied .high)) → (s : Bool) → dividedReading f (zeroOf s) ≡ accepted (div binary32 (zeroOf s) (signedHigh f))
 unfolding dividedReading
 zero-divided f i n h s = zero-is-operation dividing divides f i n h s (quotientOf f (toBits binary32 (zeroOf s))) (λ y. y) refl

@@ -1,4 +1,4 @@
--- Readings: what refuses one, and a binary32 reading times a factor (document 01, "Binary32" and the refusals 31, 20, 21, 22, 23). Definitions only. Assumes nothing.
+-- Readings: what refuses one, and a binary32 reading times a factor (document 01, "Binary32" and the refusals 31, 20, 21, 22, 23), with the sign of zeros by request W3. Definitions only. Assumes nothing.
 use mathlib.Core.Bool.{Bool, not, _&&_, _||_, cond}
 use mathlib.Core.List.{List, [], _∷_, _++_}
 use Prim.Native.Nat.{ℕ, _-_, _*_}
@@ -37,7 +37,7 @@ pub data Kind : Type 0 where
 abbrev pub kindOf : ℕ → Kind
 kindOf b = cond (zeroBits binary32 b) (zero b) (normal b)
 
--- the sign of its product or quotient by a factor, of a zero too: minus where one of the two has it and the other has not (IEEE 754-2019, 6.3)
+-- the sign of its product or quotient by a factor, of a zero too: minus where one of the two has it and the other has not (IEEE 754-2019, 6.3; request W3)
 abbrev pub signWith : Factor → ℕ → Bool
 signWith f b = unlike (signOf binary32 b) (minusOf f)
 
@@ -87,7 +87,7 @@ unfoldable pub finished : Factor → ℕ → Product → Outcome (Marked Float)
 unfolding mark numberOf
 finished f b v = ranged f b (marked f (significandOf binary32 b) v)
 
--- a zero gives a zero with the product's sign, right; any other reading the number with its mark
+-- a zero gives a zero with the product's sign (request W3, in place of document 01's plus zero), right; any other reading the number with its mark
 abbrev pub productOf : Factor → ℕ → Product → Made (Marked Float)
 productOf f b v = record { of-zero = record { mark = Mark.Right; value = zeroOf (signWith f b) }; exponent = productExponent f b v; value = putOn f b (marked f (significandOf binary32 b) v) }
 

@@ -94,7 +94,6 @@ returns-3 : tie.Need-returns-3
 returns-3 c =
     let h = c .before in
     let s = a (k h) in
-    let j = natAbs (toZ w32 (ofZ w32 (toZ w32 (ofZ w32 (summed (k h))) -ℤ pos 1))) in
     ap accepted
     (c .float-of .ensures ∙ ap (λ (z : ℕ). floatOf binary32 (s .args .minus) z (s .args .significand)) (ap natAbs (less-one h .1))
     ∙ number-is binary32 (s .args .minus) (s .args .significand) (exponent (k h)) (s .pre .1) (p h) (at-p h) (within h .2) (within h .3))
