@@ -55,6 +55,15 @@ pub struct Factor {
     pub applied: Applied,
 }
 
+impl Factor {
+    // Whether a factor has a minus: none has, as document 01's factors lie above zero.
+    pub fn is_minus(self) -> bool
+        ensures { λ r. ⌜ r ≡ minusOf self ⌝ }
+    {
+        false
+    }
+}
+
 // The answer to set-up: the factor, or one of the refusals 11 to 16.
 pub enum SetUp {
     Accepted(Factor),
@@ -363,11 +372,4 @@ pub fn is_intact(f: Factor) -> bool
         SetUp::Accepted(g) => same_factor(f, g),
         SetUp::Refused(_) => false,
     }
-}
-
-// Whether a factor has a minus: none has, as document 01's factors lie above zero.
-pub fn is_minus(f: Factor) -> bool
-    ensures { λ r. ⌜ r ≡ minusOf f ⌝ }
-{
-    false
 }

@@ -90,7 +90,7 @@ module _ (o : Operation) (lawful : Lawful o) (f : Factor) (b : ℕ) (h : NoneHol
   unfolding numberOf
   number-sign nonzero S e = standard-sign (numberOf binary32 (signWith f b) S e) (round-keeps binary32 (signWith f b) (S * up e) (hid binary32 * down e)) (λ z. absurd (true≢false (sym z ∙ nonzero)))
 
--- ---- the zero of either sign as a reading of an intact factor of the format's precision: what is made of a zero by its sign is made of what the operation on it and the stored high part gives
+-- ---- the zero of either sign as a reading, with an intact factor of the format's precision
 zero-bits : (s : Bool) → zeroBits binary32 (toBits binary32 (zeroOf s)) ≡ true
 unfolding toBits
 zero-bits true = refl
@@ -105,6 +105,7 @@ unfolding toBits
 zero-through f i n true = (ap not i, (ap not (eq-eqb _ _ n), (refl, (refl, tt))))
 zero-through f i n false = (ap not i, (ap not (eq-eqb _ _ n), (refl, (refl, tt))))
 
+-- where g of a zero with the answer's sign is made of it, it is answered with g of what the operation gives it and the stored high part
 pub zero-is-operation : {A : Type 0} (o : Operation) → Lawful o → (f : Factor) → intact f ≡ true → f .precision .bits ≡ prec binary32 → T (fits binary32 (f .applied .high)) → (s : Bool) (m : Made A) (g : Float → A)
     → m .of-zero ≡ g (zeroOf (signWith f (toBits binary32 (zeroOf s)))) → answerTo f (toBits binary32 (zeroOf s)) m ≡ accepted (g (o .inFormat (zeroOf s) (signedHigh f)))
 zero-is-operation o lawful f i n high-fits s m g e =

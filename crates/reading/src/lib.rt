@@ -71,7 +71,7 @@ fn answer(m: Mark, y: f32) -> ReadingAnswer
 fn sign_with(f: Factor, bits: u32) -> bool
     ensures { λ r. ⌜ r ≡ signWith f bits ⌝ }
 {
-    floats::is_minus(bits) != factor::is_minus(f)
+    floats::is_minus(bits) != f.is_minus()
 }
 
 // A significand at a reading's exponent, raised, with a sign put on last; 23 where no normal number has that exponent.
