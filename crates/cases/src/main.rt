@@ -14,7 +14,7 @@
 //   0C R (8)                        multiplies the reading with these bits in one step
 //   0D A (16) B (16)                the tally of the significands from A to B in one step: right, wrong and open, 8 digits each
 //
-// The factor and the state are the exported words, at first all 0. A refusal is two decimal digits, and so is a mark: 01 right, 02 open, 03 wrong. Any other line is answered with 24.
+// The factor and the state are the exported words, at first all 0. A refusal is two decimal digits, and so is a mark: 01 right, 02 open, 03 wrong. A product, a quotient and a reading's answer end in the direction: 01 below, 02 equal, 03 above. Any other line is answered with 24.
 use exports::TakenFactor;
 use factor::Factor;
 use frame::Field;
@@ -186,13 +186,14 @@ fn change(state: &mut [u64; 13], number: u64, v: u64) {
     state[number as usize] = v;
 }
 
-fn put_product(out: &[u64; 2]) {
+fn put_product(out: &[u64; 3]) {
     put_field(16, out[0]);
     put_field(2, out[1]);
+    put_field(2, out[2]);
 }
 
 fn multiply(state: &[u64; 13], x: u64) {
-    let mut out = [0u64; 2];
+    let mut out = [0u64; 3];
     let number = exports::gusnalip_multiply(state, x, &mut out);
     put_outcome(number);
     if number <= 3 {
@@ -212,22 +213,28 @@ fn put_words(list: &[u32]) {
     }
 }
 
+fn put_reading(out: &[u32; 2]) {
+    put_field(8, wide(out[0]));
+    put_field(2, wide(out[1]));
+}
+
 fn read(state: &[u64; 13], reading: u32) {
-    let mut out = [0u32; 1];
+    let mut out = [0u32; 2];
     let number = exports::gusnalip_read(state, reading, &mut out);
     put_outcome(number);
     if number <= 3 {
-        put_words(&out);
+        put_reading(&out);
     }
 }
 
-fn put_quotient(out: &[u64; 2]) {
+fn put_quotient(out: &[u64; 3]) {
     put_field(16, out[0]);
     put_field(16, out[1]);
+    put_field(2, out[2]);
 }
 
 fn divide(state: &[u64; 13], x: u64) {
-    let mut out = [0u64; 2];
+    let mut out = [0u64; 3];
     let number = exports::gusnalip_divide(state, x, &mut out);
     put_outcome(number);
     if number == 0 {
@@ -236,16 +243,16 @@ fn divide(state: &[u64; 13], x: u64) {
 }
 
 fn divide_reading(state: &[u64; 13], reading: u32) {
-    let mut out = [0u32; 1];
+    let mut out = [0u32; 2];
     let number = exports::gusnalip_divide_reading(state, reading, &mut out);
     put_outcome(number);
     if number == 0 {
-        put_words(&out);
+        put_reading(&out);
     }
 }
 
 fn multiply_once(state: &[u64; 13], x: u64) {
-    let mut out = [0u64; 2];
+    let mut out = [0u64; 3];
     let number = exports::gusnalip_multiply_once(state, x, &mut out);
     put_outcome(number);
     if number <= 3 {
@@ -254,11 +261,11 @@ fn multiply_once(state: &[u64; 13], x: u64) {
 }
 
 fn read_once(state: &[u64; 13], reading: u32) {
-    let mut out = [0u32; 1];
+    let mut out = [0u32; 2];
     let number = exports::gusnalip_read_once(state, reading, &mut out);
     put_outcome(number);
     if number <= 3 {
-        put_words(&out);
+        put_reading(&out);
     }
 }
 

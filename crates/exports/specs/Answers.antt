@@ -5,18 +5,19 @@ use Prim.Native.Nat.{ℕ}
 use lib.Dec.{ltb}
 use lib.ListN.{length}
 use lib.Seq.{sets}
-use lib.Ieee.{Float, binary32, toBits, ofBits}
+use lib.Ieee.{binary32, toBits, ofBits}
 use Rattle.marks.specs.declared.Mark.{Mark}
 use Rattle.marks.specs.Answers.{Outcome, refused, accepted, answer, andThen, Marked}
+use Rattle.rounding.specs.declared.Direction.{Direction}
 use Rattle.factor.specs.declared.Description.{Description}
 use Rattle.factor.specs.declared.Factor.{Factor}
 use Rattle.factor.specs.SetUp.{setUp}
 use Rattle.product.specs.declared.Device.{Device}
-use Rattle.product.specs.declared.Product.{Product}
+use Rattle.product.specs.declared.DirectedProduct.{DirectedProduct}
 use Rattle.product.specs.Answer.{multiplied}
-use Rattle.quotient.specs.declared.Quotient.{Quotient}
+use Rattle.quotient.specs.declared.DirectedQuotient.{DirectedQuotient}
 use Rattle.quotient.specs.Answer.{divided}
-use Rattle.reading.specs.Reading.{applied}
+use Rattle.reading.specs.Reading.{DirectedNumber, applied}
 use Rattle.reading.specs.Divided.{dividedReading}
 use Rattle.words.specs.Words.{unsigned}
 use Rattle.calls.specs.State.{State}
@@ -83,26 +84,32 @@ unfoldable pub setUpTo : Description → (out : List ℕ) → Answer
 unfolding setUp factorWords
 setUpTo d out = setUpAnswer (andThen (answer (tooShort (length out) factorLength ∷ []) d) setUp)
 
--- ---- a product: 1 right, 2 open, 3 wrong, with significand and binade, or the refusal
-abbrev pub productWords : Product → List ℕ
-productWords v = v .significand ∷ v .binade ∷ []
+-- a direction's number (request W4)
+abbrev pub directionNumber : Direction → ℕ
+directionNumber Direction.Below = 1
+directionNumber Direction.Equal = 2
+directionNumber Direction.Above = 3
+
+-- ---- a product: 1 right, 2 open, 3 wrong, with significand, binade and direction, or the refusal
+abbrev pub productWords : DirectedProduct → List ℕ
+productWords v = v .product .significand ∷ v .product .binade ∷ directionNumber (v .direction) ∷ []
 
 -- on a device
 unfoldable pub multiplyTo : Device → (factor : List ℕ) (X : ℕ) (out : List ℕ) → Answer
 unfolding multiplied taken
-multiplyTo d factor X out = markedAnswer productWords (andThen (taken factor factorLength (length out) 2) (λ f. multiplied d f X))
+multiplyTo d factor X out = markedAnswer productWords (andThen (taken factor factorLength (length out) 3) (λ f. multiplied d f X))
 
--- ---- a reading: 1 right, 2 open, 3 wrong, with the product's bits, or the refusal
-abbrev pub readingWords : Float → List ℕ
-readingWords y = toBits binary32 y ∷ []
+-- ---- a reading: 1 right, 2 open, 3 wrong, with the product's bits and direction, or the refusal
+abbrev pub readingWords : DirectedNumber → List ℕ
+readingWords y = toBits binary32 (y .number) ∷ directionNumber (y .direction) ∷ []
 
-abbrev pub readingAnswer : Outcome (Marked Float) → Answer
+abbrev pub readingAnswer : Outcome (Marked DirectedNumber) → Answer
 readingAnswer o = markedAnswer readingWords o
 
 -- on a device
 unfoldable pub readTo : Device → (factor : List ℕ) (reading : ℕ) (out : List ℕ) → Answer
 unfolding applied taken toBits ofBits
-readTo d factor reading out = readingAnswer (andThen (taken factor factorLength (length out) 1) (λ f. applied d f (ofBits binary32 reading)))
+readTo d factor reading out = readingAnswer (andThen (taken factor factorLength (length out) 2) (λ f. applied d f (ofBits binary32 reading)))
 
 -- ---- a tally: 0 with how many significands are right, wrong and open, or the refusal
 abbrev pub tallyWords : Counts → List ℕ
@@ -112,18 +119,18 @@ unfoldable pub tallyTo : (factor : List ℕ) (first last : ℕ) (out : List ℕ)
 unfolding tallied taken
 tallyTo factor first last out = plainAnswer tallyWords (andThen (taken factor factorLength (length out) 3) (λ f. tallied f first last))
 
--- ---- a quotient: 0 with significand and binade, which is a word in two's complement, or the refusal
-abbrev pub quotientWords : Quotient → List ℕ
-quotientWords v = v .significand ∷ unsigned 64 (v .binade) ∷ []
+-- ---- a quotient: 0 with significand, binade, which is a word in two's complement, and direction, or the refusal
+abbrev pub quotientWords : DirectedQuotient → List ℕ
+quotientWords v = v .quotient .significand ∷ unsigned 64 (v .quotient .binade) ∷ directionNumber (v .direction) ∷ []
 
 unfoldable pub divideTo : (factor : List ℕ) (X : ℕ) (out : List ℕ) → Answer
 unfolding divided taken
-divideTo factor X out = plainAnswer quotientWords (andThen (taken factor factorLength (length out) 2) (λ f. divided f X))
+divideTo factor X out = plainAnswer quotientWords (andThen (taken factor factorLength (length out) 3) (λ f. divided f X))
 
--- ---- a reading's quotient: 0 with its bits, or the refusal
+-- ---- a reading's quotient: 0 with its bits and direction, or the refusal
 unfoldable pub divideReadingTo : (factor : List ℕ) (reading : ℕ) (out : List ℕ) → Answer
 unfolding dividedReading taken toBits ofBits
-divideReadingTo factor reading out = plainAnswer readingWords (andThen (taken factor factorLength (length out) 1) (λ f. dividedReading f (ofBits binary32 reading)))
+divideReadingTo factor reading out = plainAnswer readingWords (andThen (taken factor factorLength (length out) 2) (λ f. dividedReading f (ofBits binary32 reading)))
 
 -- ---- a new sweep: 0 and the state, or the refusal
 abbrev pub newSweepAnswer : Outcome (State Factor) → Answer

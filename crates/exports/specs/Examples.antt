@@ -1,10 +1,12 @@
--- Figures of what is answered in words: 23/18 at 4 bits (document 01's P3) by its nine words, 9 multiplied on both devices, and the tally of all its significands (request W2), 5 right, 2 wrong and 1 open; π by its words, whose low part is negative, and zeros of both signs, multiplied and divided (request W3). All by computation. Assumes nothing.
+-- Figures of what is answered in words: 23/18 at 4 bits (document 01's P3) by its nine words, 9 multiplied on both devices, above and below what was rounded (request W4), and the tally of all its significands (request W2), 5 right, 2 wrong and 1 open; π by its words, whose low part is negative, and zeros of both signs, multiplied and divided (request W3), which are equal. All by computation. Assumes nothing.
 use mathlib.Core.Path.{_≡_, refl}
 use mathlib.Core.List.{List, [], _∷_}
 use Prim.Native.Nat.{ℕ}
 use lib.Ieee
 use lib.Ieee.{size}
 use Rattle.marks.specs.Answers.{judged, answer}
+use Rattle.rounding.specs.Direction.{sideOf}
+use Rattle.rounding.specs.Fraction.{directionOf}
 use Rattle.factor.specs.Precision.{scaleOf}
 use Rattle.factor.specs.Context.{tieRule}
 use Rattle.product.specs.declared.Device.{Device}
@@ -17,20 +19,23 @@ factor = 4 ∷ 0x51C71C71C71C71C7 ∷ 0x51C71C71C71C71C8 ∷ 10 ∷ 14 ∷ 9 ∷
 abbrev says : (number : ℕ) (words : List ℕ) → Answer
 says k ws = record { number = k; words = ws }
 
-products : (multiplyTo Device.TwoStep factor 9 (0 ∷ 0 ∷ []) ≡ says 2 (12 ∷ 0 ∷ [])) × (multiplyTo Device.OneStep factor 9 (0 ∷ 0 ∷ []) ≡ says 2 (11 ∷ 0 ∷ []))
-unfolding scaleOf tieRule multiplyTo taken factorFrom damaged answer judged Ieee.toBits size
-products = (refl, refl)
+products :
+    (multiplyTo Device.TwoStep factor 9 (0 ∷ 0 ∷ 0 ∷ []) ≡ says 2 (12 ∷ 0 ∷ 3 ∷ []))
+    × (multiplyTo Device.OneStep factor 9 (0 ∷ 0 ∷ 0 ∷ []) ≡ says 2 (11 ∷ 0 ∷ 1 ∷ []))
+    × (multiplyTo Device.TwoStep factor 9 (0 ∷ 0 ∷ []) ≡ says 255 [])
+unfolding scaleOf tieRule multiplyTo directionOf sideOf taken factorFrom damaged answer judged Ieee.toBits size
+products = (refl, refl, refl)
 
 tallies : (tallyTo factor 8 15 (0 ∷ 0 ∷ 0 ∷ []) ≡ says 0 (5 ∷ 2 ∷ 1 ∷ [])) × (tallyTo factor 8 16 (0 ∷ 0 ∷ 0 ∷ []) ≡ says 17 []) × (tallyTo factor 8 15 (0 ∷ 0 ∷ []) ≡ says 255 [])
 unfolding scaleOf tieRule tallyTo taken factorFrom damaged answer judged Ieee.toBits size
 tallies = (refl, refl, refl)
 
--- ---- a zero by its bits, plus or minus, is answered with the same bits: right, or divided
+-- ---- a zero by its bits, plus or minus, is answered with the same bits, equal: right, or divided
 abbrev pi : List ℕ
 pi = 24 ∷ 0x6487ED5110B4611A ∷ 0x6487ED5110B4611B ∷ 0xC90FDB ∷ 0xFFFFFFFFFF4442D2 ∷ 48 ∷ 0x3FC90FDB ∷ 0xB33BBD2E ∷ 1 ∷ []
 
 abbrev Kept : (zero : ℕ) → Type 0
-Kept z = (readTo Device.TwoStep pi z (5 ∷ []) ≡ says 1 (z ∷ [])) × (readTo Device.OneStep pi z (5 ∷ []) ≡ says 1 (z ∷ [])) × (divideReadingTo pi z (5 ∷ []) ≡ says 0 (z ∷ []))
+Kept z = (readTo Device.TwoStep pi z (5 ∷ 5 ∷ []) ≡ says 1 (z ∷ 2 ∷ [])) × (readTo Device.OneStep pi z (5 ∷ 5 ∷ []) ≡ says 1 (z ∷ 2 ∷ [])) × (divideReadingTo pi z (5 ∷ 5 ∷ []) ≡ says 0 (z ∷ 2 ∷ []))
 
 zeros : Kept 0 × Kept 0x80000000
 unfolding scaleOf tieRule readTo divideReadingTo taken factorFrom damaged answer judged Ieee.toBits size

@@ -6,38 +6,36 @@ use factor::Parts;
 use factor::Precision;
 use factor::SetUp;
 use product::Device;
-use product::Product;
+use product::DirectedProduct;
 use product::ProductAnswer;
-use quotient::Quotient;
+use quotient::DirectedQuotient;
 use quotient::QuotientAnswer;
 use reading::NumberAnswer;
 use reading::ReadingAnswer;
+use rounding::Direction;
 use sweep::NewSweep;
 use sweep::SweepAnswer;
 use sweep::SweepState;
 use tally::Counts;
 use tally::TallyAnswer;
 ghost use mathlib.Core.Path.{_≡_};
-ghost use mathlib.Core.List.{[], _∷_};
 ghost use Prim.Native.Nat.{_≤_};
 ghost use lib.ListN.{length};
 ghost use lib.Seq.{sets};
-ghost use lib.Ieee.{binary32, toBits};
-ghost use Rattle.words.specs.Words.{unsigned};
 ghost use Rattle.product.specs.declared.Device.{Device};
 ghost use Rattle.reading.specs.Reading.{outcomeOf as readingSays};
 ghost use Rattle.sweep.specs.Answers.{viewOf};
 ghost use Rattle.exports.specs.Words.{factorFrom, factorWords, damaged, stateOf, stateWords};
-ghost use Rattle.exports.specs.Answers.{taken, takenOf, leaves, setUpTo, multiplyTo, readingAnswer, readTo, tallyTo, divideTo, divideReadingTo, newSweepTo, sweepTo};
+ghost use Rattle.exports.specs.Answers.{taken, takenOf, leaves, setUpTo, directionNumber, productWords, quotientWords, readingWords, multiplyTo, readingAnswer, readTo, tallyWords, tallyTo, divideTo, divideReadingTo, newSweepTo, sweepTo};
 
 // So many words have a factor, a product, a quotient, what a reading is answered with, a tally, a sweep's state, and what a sweep call counts.
 const FACTOR_WORDS: usize = 9;
 
-const PRODUCT_WORDS: usize = 2;
+const PRODUCT_WORDS: usize = 3;
 
-const QUOTIENT_WORDS: usize = 2;
+const QUOTIENT_WORDS: usize = 3;
 
-const READING_WORDS: usize = 1;
+const READING_WORDS: usize = 2;
 
 const TALLY_WORDS: usize = 3;
 
@@ -128,48 +126,66 @@ fn put_factor(f: Factor, out: &mut [u64])
     out[8] = words::unsigned_half(f.applied.scale);
 }
 
-// The words of a product, and its mark as the answer.
-fn put_product(mark: u32, v: Product, out: &mut [u64]) -> u32
-    requires { ⌜ 2 ≤ length (now out) ⌝ }
-    ensures { λ r. ⌜ r ≡ mark ⌝ }
-    ensures { λ _. ⌜ now (out .exit) ≡ sets (now (out .entry)) 0 (v .significand ∷ v .binade ∷ []) ⌝ }
+// A direction as a word: 1 below, 2 equal, 3 above.
+fn direction_number(d: Direction) -> u32
+    ensures { λ r. ⌜ r ≡ directionNumber d ⌝ }
 {
-    out[0] = v.significand;
-    out[1] = v.binade as u64;
+    match d {
+        Direction::Below => 1,
+        Direction::Equal => 2,
+        Direction::Above => 3,
+    }
+}
+
+// The words of a product, and its mark as the answer.
+fn put_product(mark: u32, v: DirectedProduct, out: &mut [u64]) -> u32
+    requires { ⌜ 3 ≤ length (now out) ⌝ }
+    ensures { λ r. ⌜ r ≡ mark ⌝ }
+    ensures { λ _. ⌜ now (out .exit) ≡ sets (now (out .entry)) 0 (productWords v) ⌝ }
+{
+    let p = v.product;
+    let direction = v.direction;
+    out[0] = p.significand;
+    out[1] = p.binade as u64;
+    out[2] = direction_number(direction) as u64;
     mark
 }
 
 // The words of a quotient, and 0 as the answer: it has no mark.
-fn put_quotient(v: Quotient, out: &mut [u64]) -> u32
-    requires { ⌜ 2 ≤ length (now out) ⌝ }
+fn put_quotient(v: DirectedQuotient, out: &mut [u64]) -> u32
+    requires { ⌜ 3 ≤ length (now out) ⌝ }
     ensures { λ r. ⌜ r ≡ 0 ⌝ }
-    ensures { λ _. ⌜ now (out .exit) ≡ sets (now (out .entry)) 0 (v .significand ∷ unsigned 64 (v .binade) ∷ []) ⌝ }
+    ensures { λ _. ⌜ now (out .exit) ≡ sets (now (out .entry)) 0 (quotientWords v) ⌝ }
 {
-    out[0] = v.significand;
-    out[1] = words::unsigned_word(v.binade as i64);
+    let q = v.quotient;
+    let direction = v.direction;
+    out[0] = q.significand;
+    out[1] = words::unsigned_word(q.binade as i64);
+    out[2] = direction_number(direction) as u64;
     0
 }
 
-// The bits that a reading is answered with, and the answer's number: a mark, or 0.
-fn put_reading(number: u32, y: f32, out: &mut [u32]) -> u32
-    requires { ⌜ 1 ≤ length (now out) ⌝ }
+// The bits that a reading is answered with and their direction, and the answer's number: a mark, or 0.
+fn put_reading(number: u32, y: f32, d: Direction, out: &mut [u32]) -> u32
+    requires { ⌜ 2 ≤ length (now out) ⌝ }
     ensures { λ r. ⌜ r ≡ number ⌝ }
-    ensures { λ _. ⌜ now (out .exit) ≡ sets (now (out .entry)) 0 (toBits binary32 y ∷ []) ⌝ }
+    ensures { λ _. ⌜ now (out .exit) ≡ sets (now (out .entry)) 0 (readingWords (record { number = y; direction = d })) ⌝ }
 {
     out[0] = floats::bits_of(y);
+    out[1] = direction_number(d);
     number
 }
 
-// What either device answers to a reading: a product's bits and its mark, or the refusal.
+// What either device answers to a reading: a product's bits, their direction and its mark, or the refusal.
 fn tell_reading(a: ReadingAnswer, out: &mut [u32]) -> u32
-    requires { ⌜ 1 ≤ length (now out) ⌝ }
+    requires { ⌜ 2 ≤ length (now out) ⌝ }
     ensures { λ r. ⌜ r ≡ readingAnswer (readingSays a) .number ⌝ }
     ensures { λ _. ⌜ now (out .exit) ≡ leaves (readingAnswer (readingSays a)) (now (out .entry)) ⌝ }
 {
     match a {
-        ReadingAnswer::Right(y) => put_reading(1, y, out),
-        ReadingAnswer::Open(y) => put_reading(2, y, out),
-        ReadingAnswer::Wrong(y) => put_reading(3, y, out),
+        ReadingAnswer::Right(y, d) => put_reading(1, y, d, out),
+        ReadingAnswer::Open(y, d) => put_reading(2, y, d, out),
+        ReadingAnswer::Wrong(y, d) => put_reading(3, y, d, out),
         ReadingAnswer::Refused(k) => k,
     }
 }
@@ -178,7 +194,7 @@ fn tell_reading(a: ReadingAnswer, out: &mut [u32]) -> u32
 fn put_counts(t: Counts, out: &mut [u64]) -> u32
     requires { ⌜ 3 ≤ length (now out) ⌝ }
     ensures { λ r. ⌜ r ≡ 0 ⌝ }
-    ensures { λ _. ⌜ now (out .exit) ≡ sets (now (out .entry)) 0 (t .rights ∷ t .wrongs ∷ t .opens ∷ []) ⌝ }
+    ensures { λ _. ⌜ now (out .exit) ≡ sets (now (out .entry)) 0 (tallyWords t) ⌝ }
 {
     out[0] = t.rights;
     out[1] = t.wrongs;
@@ -229,7 +245,7 @@ fn multiply_on(d: Device, factor: &[u64], x: u64, out: &mut [u64]) -> u32
     }
 }
 
-// A reading, given by its bits, multiplied on a device, as a number and a word; the factor's words are lent on here too.
+// A reading, given by its bits, multiplied on a device, as a number and words; the factor's words are lent on here too.
 fn read_on(d: Device, factor: &[u64], reading: u32, out: &mut [u32]) -> u32
     ensures { λ r. ⌜ r ≡ readTo d (now (factor .entry)) reading (now (out .entry)) .number ⌝ }
     ensures { λ _. ⌜ now (out .exit) ≡ leaves (readTo d (now (factor .entry)) reading (now (out .entry))) (now (out .entry)) ⌝ }
@@ -272,7 +288,7 @@ pub extern "C" fn gusnalip_set_up(
     }
 }
 
-// Multiplies a significand: 1 right, 2 open, 3 wrong, with significand and binade, or the refusal; 255 where a list is too short, 31 where the factor's words are damaged.
+// Multiplies a significand: 1 right, 2 open, 3 wrong, with significand, binade and direction (1 below, 2 equal, 3 above), or the refusal; 255 where a list is too short, 31 where the factor's words are damaged.
 #[no_mangle]
 pub extern "C" fn gusnalip_multiply(factor: &[u64], x: u64, out: &mut [u64]) -> u32
     ensures { λ r. ⌜ r ≡ multiplyTo Device.TwoStep (now (factor .entry)) x (now (out .entry)) .number ⌝ }
@@ -290,7 +306,7 @@ pub extern "C" fn gusnalip_multiply_once(factor: &[u64], x: u64, out: &mut [u64]
     multiply_on(Device::OneStep, factor, x, out)
 }
 
-// Multiplies a reading given by its bits: 1 right, 2 open, 3 wrong, with the product's bits, or the refusal; 255 where a list is too short, 31 where the factor's words are damaged.
+// Multiplies a reading given by its bits: 1 right, 2 open, 3 wrong, with the product's bits and direction, or the refusal; 255 where a list is too short, 31 where the factor's words are damaged.
 #[no_mangle]
 pub extern "C" fn gusnalip_read(factor: &[u64], reading: u32, out: &mut [u32]) -> u32
     ensures { λ r. ⌜ r ≡ readTo Device.TwoStep (now (factor .entry)) reading (now (out .entry)) .number ⌝ }
@@ -323,7 +339,7 @@ pub extern "C" fn gusnalip_tally(factor: &[u64], first: u64, last: u64, out: &mu
     }
 }
 
-// Divides a significand: 0 with the quotient's significand and binade, a word in two's complement, or the refusal; 255 where a list is too short, 31 where the factor's words are damaged.
+// Divides a significand: 0 with the quotient's significand, its binade, a word in two's complement, and its direction, or the refusal; 255 where a list is too short, 31 where the factor's words are damaged.
 #[no_mangle]
 pub extern "C" fn gusnalip_divide(factor: &[u64], x: u64, out: &mut [u64]) -> u32
     ensures { λ r. ⌜ r ≡ divideTo (now (factor .entry)) x (now (out .entry)) .number ⌝ }
@@ -338,7 +354,7 @@ pub extern "C" fn gusnalip_divide(factor: &[u64], x: u64, out: &mut [u64]) -> u3
     }
 }
 
-// Divides a reading given by its bits: 0 with the quotient's bits, or the refusal; 255 where a list is too short, 31 where the factor's words are damaged.
+// Divides a reading given by its bits: 0 with the quotient's bits and direction, or the refusal; 255 where a list is too short, 31 where the factor's words are damaged.
 #[no_mangle]
 pub extern "C" fn gusnalip_divide_reading(factor: &[u64], reading: u32, out: &mut [u32]) -> u32
     ensures { λ r. ⌜ r ≡ divideReadingTo (now (factor .entry)) reading (now (out .entry)) .number ⌝ }
@@ -346,7 +362,7 @@ pub extern "C" fn gusnalip_divide_reading(factor: &[u64], reading: u32, out: &mu
 {
     match take_factor(factor, FACTOR_WORDS, out.len(), READING_WORDS) {
         TakenFactor::Accepted(f) => match reading::divide(f, floats::float_from(reading)) {
-            NumberAnswer::Number(y) => put_reading(0, y, out),
+            NumberAnswer::Number(y, d) => put_reading(0, y, d, out),
             NumberAnswer::Refused(k) => k,
         },
         TakenFactor::Refused(k) => k,

@@ -12,7 +12,8 @@ use Rattle.rounding.specs.RoundLaws.{shifted, rounded-same, rounded-scale}
 use Rattle.rounding.specs.Signed.{negative, signedOf, roundedSigned}
 use Rattle.factor.specs.Context.{Context, Fine}
 use Rattle.factor.specs.UnitParts.{partsFrom}
-use Rattle.factor.specs.LowForm.{size-of, low-form}
+use Rattle.rounding.specs.Directed.{size-of}
+use Rattle.factor.specs.LowForm.{low-form}
 
 -- a - (b + a) is - b
 back : (a b : ℤ) → a -ℤ (b +ℤ a) ≡ negℤ b

@@ -12,16 +12,12 @@ use Rattle.rounding.specs.UnitLaws.{rn-le, rn-ge, rn-whole-small}
 use Rattle.rounding.specs.Round.{rounded, Equals, HasBits}
 use Rattle.rounding.specs.RoundLaws.{rounded-bits, rounded-whole}
 use Rattle.rounding.specs.Signed.{negative, signedOf}
+use Rattle.rounding.specs.Directed.{size-of}
 use Rattle.factor.specs.declared.Parts.{Parts}
 use Rattle.factor.specs.Context.{Context, Fine}
 use Rattle.factor.specs.UnitParts.{partsFrom}
 
 -- ---- sign and size
-pub size-of : (b : Bool) (m : ℕ) → natAbs (signedOf b m) ≡ m
-size-of true zero = refl
-size-of true (suc m) = refl
-size-of false m = refl
-
 pub sign-of : (b : Bool) (m : ℕ) → 0 < m → negative (signedOf b m) ≡ b
 sign-of true zero h = absurd (omega arith)
 sign-of true (suc m) h = refl

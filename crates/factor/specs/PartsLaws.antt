@@ -20,9 +20,10 @@ use Rattle.rounding.specs.RoundLaws.{rounded-same}
 use Rattle.rounding.specs.Fraction.{over}
 use Rattle.rounding.specs.FractionLaws.{InUnits, over-in-units, units-finer, RN-in-units, less-in-units}
 use Rattle.rounding.specs.Signed.{negative, signedOf}
+use Rattle.rounding.specs.Directed.{size-of}
 use Rattle.factor.specs.declared.Parts.{Parts}
 pub use Rattle.factor.specs.LowForm.{top-is, width-is}
-use Rattle.factor.specs.LowForm.{size-of, sign-of, keep-sign, Tells, from-tells}
+use Rattle.factor.specs.LowForm.{sign-of, keep-sign, Tells, from-tells}
 use Rattle.factor.specs.Context.{Context, Fine}
 use Rattle.factor.specs.Parts.{highPart, rest, lowPart, partsAt}
 use Rattle.factor.specs.UnitParts.{UnitParts, step, plusOrMinus, unitParts, worth, unitPartsOf, partsFrom}

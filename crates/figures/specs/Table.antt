@@ -4,6 +4,7 @@ use mathlib.Core.List.{List, [], _∷_}
 use Prim.Native.Nat.{ℕ, _^_}
 use Rattle.marks.specs.declared.Mark.{Mark}
 use Rattle.marks.specs.Answers.{Outcome, accepted, andThen}
+use Rattle.rounding.specs.declared.Direction.{Direction}
 use Rattle.factor.specs.declared.Description.{Description}
 use Rattle.factor.specs.declared.Parts.{Parts}
 use Rattle.factor.specs.Precision.{leastOf}
@@ -14,12 +15,13 @@ use Rattle.product.specs.Answer.{multiplied}
 use Rattle.suspects.specs.Suspects.{isSuspect}
 use Rattle.calls.specs.Plain.{row}
 
--- a significand X with its product (S, b) and its mark
+-- a significand X with its product (S, b), its mark, and its direction (request W4)
 pub record Multiplied : Type 0 where
   pub X : ℕ
   pub S : ℕ
   pub b : ℕ
   pub mark : Mark
+  pub direction : Direction
 
 -- the suspects of the whole range, where the figure names them
 pub data Suspected : Type 0 where
@@ -41,7 +43,7 @@ Gives d given = andThen (setUp d) (λ f. accepted (f .parts)) ≡ given
 
 -- what a multiplication with the factor that is set up answers
 abbrev pub Multiplies : Description → Multiplied → Type 0
-Multiplies d m = andThen (setUp d) (λ f. multiplied Device.TwoStep f (m .X)) ≡ accepted (record { mark = m .mark; value = record { significand = m .S; binade = m .b } })
+Multiplies d m = andThen (setUp d) (λ f. multiplied Device.TwoStep f (m .X)) ≡ accepted (record { mark = m .mark; value = record { product = record { significand = m .S; binade = m .b }; direction = m .direction } })
 
 abbrev pub Suspects : Description → Suspected → Type 0
 Suspects d unsaid = Unit {0}

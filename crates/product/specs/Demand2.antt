@@ -37,7 +37,7 @@ use Rattle.product.specs.MarkLaws.{mark-says, mark-only}
 use Rattle.product.specs.Answer.{conditions, marked, multiplied, Tells}
 use Rattle.product.specs.AnswerLaws.{significand-in, let-through}
 use Rattle.product.specs.SoundLaws.{sound-fine}
-use Rattle.product.specs.Devices.{productOn, markOn}
+use Rattle.product.specs.Devices.{productOn, directedOn, markOn}
 use Rattle.product.specs.DeviceLaws.{formed}
 
 -- RN of x is x rounded to nearest in the sense of IEEE 754-2019, 4.3.1: it has n bits, no number of n bits is nearer, and half way between two the rule decides
@@ -141,15 +141,15 @@ module _ (f : Factor) (s : Sound f) (X : ℕ) (x : HasBits (f .precision .bits) 
 pub answer-tells : (d : Device) (f : Factor) (X : ℕ) → Tells f X (multiplied d f X)
 unfolding multiplied
 answer-tells d f X =
-    of-answer (Tells f X) (conditions f X) (marked f X (productOn d f X)) (λ k. tt)
+    of-answer (Tells f X) (conditions f X) (marked f X (directedOn d f X)) (λ k. tt)
     (λ h. let t = let-through f X h in mark-tells f (t .0) X (t .1) (productOn d f X) (formed d f (t .0) X (t .1) .bits))
 
 -- ---- demand 2, from the entry points
 pub record Demand2 (f : Factor) : Type 0 where
   -- the parts are those of every fraction between the ends
   pub parts : (C : Fraction) → Between (contextOf f) (lowerOf f) (upperOf f) C → PartsTell (contextOf f) (f .parts) C
-  -- every significand that 17 lets through is answered with its product on the device and a mark
-  pub answers : (d : Device) (X : ℕ) → significandOut (f .precision .bits) X ≡ false → multiplied d f X ≡ accepted (marked f X (productOn d f X))
+  -- every significand that 17 lets through is answered with its product on the device, a direction and a mark
+  pub answers : (d : Device) (X : ℕ) → significandOut (f .precision .bits) X ≡ false → multiplied d f X ≡ accepted (marked f X (directedOn d f X))
   -- that of the two-step device is made by both steps
   pub steps : (X : ℕ) → significandOut (f .precision .bits) X ≡ false → TwoSteps (contextOf f) (f .parts) X
   -- the mark says what is true of every fraction between the ends, and no other mark does
@@ -162,7 +162,7 @@ demand-2 f i =
     let s = intact-sound f i in
     record {
       parts = parts-tell f s;
-      answers = λ d X h. unfold multiplied in sym (accepts (pass (ap not i) (pass h end)) (marked f X (productOn d f X)));
+      answers = λ d X h. unfold multiplied in sym (accepts (pass (ap not i) (pass h end)) (marked f X (directedOn d f X)));
       steps = λ X h. two-steps f s X (significand-in (f .precision .bits) X h);
       marks = λ d X h. let x = significand-in (f .precision .bits) X h in mark-tells f s X x (productOn d f X) (formed d f s X x .bits);
       alone = λ d X h. let x = significand-in (f .precision .bits) X h in mark-alone f s X x (productOn d f X) (formed d f s X x .bits);

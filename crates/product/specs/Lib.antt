@@ -1,4 +1,4 @@
--- The two-step and the one-step product, their marks and answers, with their laws.
+-- The two-step and the one-step product, their marks, directions and answers, with their laws.
 pub mod Product
 pub mod OneStep
 pub mod Marks
@@ -15,3 +15,4 @@ pub mod MarkLaws
 pub mod AnswerLaws
 pub mod Demand2
 pub mod OneStepTells
+pub mod DirectionTells

@@ -4,12 +4,15 @@ use mathlib.Core.Bool.{false}
 use Prim.Native.Nat.{ℕ, suc, _+_, _-_, _*_, _^_, _≤_, _<_}
 use native.Mathlib.Nat.{mul-le-mul, eq-of-mul-eq-mul-right}
 use native.Mathlib.Omega.{arith}
+use lib.IntN.{pos}
 use lib.Pow.{pow-add, pow-pos, le-ones}
+use Rattle.rounding.specs.Direction.{sideOf}
 use Rattle.rounding.specs.Unit.{rn}
 use Rattle.rounding.specs.UnitLaws.{rn-le}
 use Rattle.rounding.specs.Round.{HasBits}
-use Rattle.rounding.specs.Fraction.{Same}
+use Rattle.rounding.specs.Fraction.{Same, directionOf}
 use Rattle.rounding.specs.FractionLaws.{InUnits, over-in-units, times-in-units}
+use Rattle.rounding.specs.Directed.{direction-whole}
 use Rattle.factor.specs.declared.Parts.{Parts}
 use Rattle.factor.specs.declared.Factor.{Factor}
 use Rattle.factor.specs.Context.{Context, contextOf}
@@ -54,6 +57,9 @@ module _ (K : Context) (P : 0 < K .n) (p : Parts) (X : ℕ) (h : HighBits (K .n)
   one-step-steps s e =
       let v = oneStep K p X in
       eq-of-mul-eq-mul-right (2 ^ (n - 1)) (pow-pos (n - 1)) s (stepsOf v) (e ∙ sym (one-step-is .value) ∙ ap (λ (z : ℕ). v .significand * z) (pow-add 2 (n - 1) (v .binade)) ∙ omega arith)
+
+  pub one-step-direction : directionOf rule n (byHigh n p X) ≡ sideOf (pos N) (pos (rn rule n N 1))
+  one-step-direction = direction-whole rule n P (n - 1 + (n - 1)) false N (byHigh n p X) counts
 
   -- as a number it is RN(Ch * x)
   pub one-step-value : Same (once K p X) (valueOf n (oneStep K p X))

@@ -20,8 +20,10 @@ use Rattle.factor.specs.Ends.{Between}
 use Rattle.factor.specs.SetUp.{Sound}
 use Rattle.product.specs.declared.Device.{Device}
 use Rattle.product.specs.declared.Product.{Product}
+use Rattle.product.specs.declared.DirectedProduct.{DirectedProduct}
 use Rattle.product.specs.Product.{argument, high, valueOf}
 use Rattle.product.specs.Marks.{SaysBy}
+use Rattle.product.specs.Devices.{directedOn}
 use Rattle.product.specs.Answer.{conditions, marked, multiplied}
 use Rattle.product.specs.AnswerLaws.{let-through}
 use Rattle.product.specs.SoundLaws.{sound-fine, sound-high, sound-high-positive, sound-positive, sound-one, sound-close-high}
@@ -34,21 +36,21 @@ use Rattle.product.specs.OneStepLaws.{one-step-value, sound-one-step}
 abbrev pub exactProduct : (n X : ℕ) → Fraction → Fraction
 exactProduct n X C = times C (argument n X)
 
-pub record Tells (f : Factor) (X : ℕ) (a : Marked Product) : Type 0 where
+pub record Tells (f : Factor) (X : ℕ) (a : Marked DirectedProduct) : Type 0 where
   -- a significand of n bits, in binade 0 or 1
-  pub bits : HasBits (f .precision .bits) (a .value .significand)
-  pub binade : a .value .binade ≤ 1
+  pub bits : HasBits (f .precision .bits) (a .value .product .significand)
+  pub binade : a .value .product .binade ≤ 1
   -- it is Ch * x rounded once, to nearest
-  pub value : Same (once (contextOf f) (f .parts) X) (valueOf (f .precision .bits) (a .value))
+  pub value : Same (once (contextOf f) (f .parts) X) (valueOf (f .precision .bits) (a .value .product))
   pub nearest : ToNearest (contextOf f) (byHigh (f .precision .bits) (f .parts) X)
   -- its mark says what is true of every fraction between the ends, and no other mark does
-  pub says : SaysBy f X (a .value) (a .mark)
-  pub alone : (m : Mark) → SaysBy f X (a .value) m → a .mark ≡ m
+  pub says : SaysBy f X (a .value .product) (a .mark)
+  pub alone : (m : Mark) → SaysBy f X (a .value .product) m → a .mark ≡ m
   -- |RN(Ch * x) - C * x| < 3/2 ulp(C * x) for every C between the ends, in whole numbers, cross-multiplied
-  pub near : (C : Fraction) → Between (contextOf f) (lowerOf f) (upperOf f) C → WithinThreeHalves (f .precision .bits) (valueOf (f .precision .bits) (a .value)) (exactProduct (f .precision .bits) X C)
+  pub near : (C : Fraction) → Between (contextOf f) (lowerOf f) (upperOf f) C → WithinThreeHalves (f .precision .bits) (valueOf (f .precision .bits) (a .value .product)) (exactProduct (f .precision .bits) X C)
 
 -- of every answer: a refusal tells nothing
-abbrev pub AnswerTells : Factor → ℕ → Outcome (Marked Product) → Type 0
+abbrev pub AnswerTells : Factor → ℕ → Outcome (Marked DirectedProduct) → Type 0
 AnswerTells f X (refused k) = Unit {0}
 AnswerTells f X (accepted a) = Tells f X a
 
@@ -83,7 +85,7 @@ module _ (f : Factor) (s : Sound f) where
         distance-same (once K (f .parts) X) (valueOf n v) (exactProduct n X C) (times (over 3 1) (ulp n (exactProduct n X C)))
         (RN-some (K .rule) n (byHigh n (f .parts) X)) (pow-pos (n - 1)) (times-positive C (argument n X) (sound-positive f s C k) x-positive .some) sound-value (sound-near (K .rule) (argument n X) x-positive C k)
 
-    sound-once : Tells f X (marked f X v)
+    sound-once : Tells f X (marked f X (directedOn Device.OneStep f X))
     sound-once =
         let is = sound-one-step f s X x in
         let y = byHigh n (f .parts) X in
@@ -100,4 +102,4 @@ module _ (f : Factor) (s : Sound f) where
 -- every answer tells the truth, whatever the factor and the number
 pub once-tells : (f : Factor) (X : ℕ) → AnswerTells f X (multiplied Device.OneStep f X)
 unfolding multiplied
-once-tells f X = of-answer (AnswerTells f X) (conditions f X) (marked f X (oneStepBy f X)) (λ k. tt) (λ h. let t = let-through f X h in sound-once f (t .0) X (t .1))
+once-tells f X = of-answer (AnswerTells f X) (conditions f X) (marked f X (directedOn Device.OneStep f X)) (λ k. tt) (λ h. let t = let-through f X h in sound-once f (t .0) X (t .1))

@@ -1,6 +1,7 @@
 -- The steps of the product as code takes them, in the unit 2 ^ - (E + n - 1): how far u1 is shifted, how large each number grows, and that rounding the
 -- fused sum gives the product. Assumes nothing.
 use mathlib.Core.Path.{_≡_, sym, ap, _∙_, subst}
+use mathlib.Core.Bool.{false}
 use Prim.Native.Nat.{ℕ, zero, suc, _+_, _-_, _*_, _^_, _≤_, _<_}
 use native.Mathlib.Nat.{mul-le-mul, mul-le-mul-left, mul-pos, eq-of-mul-eq-mul-right, le-trans, le-of-eq, le-of-lt, lt-of-lt-of-le, lt-of-not-le, not-le-of-lt, mul-lt-mul-of-pos-right, one-mul, div-one, le-div-iff-mul-le, div-lt-iff-lt-mul, pow-succ'}
 use native.Mathlib.Decide.{decLe, decLt}
@@ -19,6 +20,9 @@ use Rattle.rounding.specs.UnitLaws.{rn-le, rn-in-binade, rn-scale-whole, rn-who
 use Rattle.rounding.specs.Round.{rounded, roundedIn, HasBits}
 use Rattle.rounding.specs.RoundLaws.{rounded-at, rounded-bits, roundedIn-exponent, minus-zero}
 use Rattle.rounding.specs.Signed.{signedOf}
+use Rattle.rounding.specs.Fraction.{directionOf}
+use Rattle.rounding.specs.FractionLaws.{InUnits}
+use Rattle.rounding.specs.Directed.{direction-whole}
 use Rattle.round.specs.Cuts.{cutAt}
 use Rattle.factor.specs.declared.Parts.{Parts}
 use Rattle.factor.specs.Precision.{mostPrecision, ValidPrecision}
@@ -28,9 +32,9 @@ use Rattle.factor.specs.UnitParts.{UnitParts, step, unitParts, unitPartsOf}
 use Rattle.factor.specs.Ends.{End}
 use Rattle.factor.specs.PartsLaws.{high-most, low-kept, low-tells, units-of-parts}
 use Rattle.factor.specs.LowForm.{top-is}
-use Rattle.product.specs.Product.{product}
-use Rattle.product.specs.Units.{firstUnits, fusedUnits, secondUnits, roundedUnits, Within, PartsAtEnd}
-use Rattle.product.specs.ProductLaws.{IsProduct, is-product, rn-from, exponent-from, product-only, product-is, first-most, first-under, fused-least, second-most}
+use Rattle.product.specs.Product.{fused, product}
+use Rattle.product.specs.Units.{firstUnits, fusedUnits, secondUnits, roundedUnits, directedUnits, Within, PartsAtEnd}
+use Rattle.product.specs.ProductLaws.{IsProduct, is-product, rn-from, exponent-from, product-only, product-is, first-most, first-under, fused-least, fused-in-units, second-most}
 
 -- a significand fits in half a word
 pub significand-word : (n X : ℕ) → ValidPrecision n → HasBits n X → X < 2 ^ 32
@@ -240,3 +244,12 @@ module _ (K : Context) (p : Parts) (at : PartsAtEnd K p) where
     product-rounds =
         let y = fusedUnits K w X in
         product-only K P (rn rule n y 1) (roundedUnits K y) (product K p X) (rounded-units-is K P y fused-from second-le) product-of-parts
+
+    -- and its direction
+    pub fused-counts : InUnits (2 ^ (E + (n - 1))) false (fusedUnits K w X) (fused K p X)
+    fused-counts =
+        subst (λ (v : UnitParts). InUnits (2 ^ (E + (n - 1))) false (fusedUnits K v X) (fused K p X)) w-is
+        (subst (λ (z : Parts). InUnits (2 ^ (E + (n - 1))) false (fusedUnits K (unitParts K c) X) (fused K z X)) (sym kept) (fused-in-units K ok c ce X (xb .most)))
+
+    pub direction-rounds : directionOf rule n (fused K p X) ≡ directedUnits K (fusedUnits K w X) .direction
+    direction-rounds = direction-whole rule n P (E + (n - 1)) false (fusedUnits K w X) (fused K p X) fused-counts

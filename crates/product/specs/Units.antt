@@ -3,9 +3,10 @@ use mathlib.Core.Path.{_≡_}
 use mathlib.Core.Bool.{_&&_, cond}
 use Prim.Native.Nat.{ℕ, suc, _+_, _-_, _*_, _^_, _≤_}
 use lib.Dec.{ltb, eqb}
-use lib.IntN.{natAbs}
+use lib.IntN.{pos, natAbs}
 use Rattle.marks.specs.declared.Mark.{Mark}
 use Rattle.marks.specs.declared.Mark.the-variants.{Right, Open, Wrong}
+use Rattle.rounding.specs.Direction.{sideOf}
 use Rattle.rounding.specs.Unit.{rn}
 use Rattle.rounding.specs.Round.{rounded}
 use Rattle.factor.specs.declared.Parts.{Parts}
@@ -14,6 +15,7 @@ use Rattle.factor.specs.Parts.{partsAt}
 use Rattle.factor.specs.UnitParts.{UnitParts, step, plusOrMinus}
 use Rattle.factor.specs.Ends.{End}
 use Rattle.product.specs.declared.Product.{Product}
+use Rattle.product.specs.declared.DirectedProduct.{DirectedProduct}
 
 -- the mark of v by whole numbers: a and b are RN(L * x) and RN(U * x)
 abbrev pub markUnits : (a b v : ℕ) → Mark
@@ -40,6 +42,10 @@ module _ (K : Context) where
   unfoldable pub roundedUnits : ℕ → Product
   unfolding rounded
   roundedUnits N = let r = rounded rule n N 1 in record { significand = r .significand; binade = natAbs (r .exponent) - E }
+
+  -- with the direction from N
+  abbrev pub directedUnits : ℕ → DirectedProduct
+  directedUnits N = record { product = roundedUnits N; direction = sideOf (pos N) (pos (rn rule n N 1)) }
 
   -- N is from 1 to below 4, and so is what it rounds to
   pub record Within (N : ℕ) : Type 0 where

@@ -1,9 +1,11 @@
-// The product of a factor and a significand on either device, the two-step one of document 01 ("The product") and the one-step one of request W2, and the mark of a value.
+// The product of a factor and a significand on either device, the two-step one of document 01 ("The product") and the one-step one of request W2, the direction of its last rounding (request W4), and the mark of a value.
 use factor::Factor;
 use factor::Parts;
 use factor::Precision;
 use marks::Judgement;
 use marks::Mark;
+use round::Neighbour;
+use rounding::Direction;
 use rounding::TieRule;
 use wide::Wide;
 ghost use mathlib.Core.Path.{_≡_};
@@ -18,9 +20,10 @@ ghost use Rattle.factor.specs.UnitParts.{unitPartsOf};
 ghost use Rattle.factor.specs.SetUp.{Sound};
 ghost use Rattle.product.specs.Product.{productBy, stepsOf};
 ghost use Rattle.product.specs.OneStep.{oneStepBy};
-ghost use Rattle.product.specs.Devices.{productOn};
+ghost use Rattle.product.specs.declared.Device.{Device};
+ghost use Rattle.product.specs.Devices.{productOn, directionOn, directedOn};
 ghost use Rattle.product.specs.Marks.{markBy};
-ghost use Rattle.product.specs.Units.{firstUnits, fusedUnits, roundedUnits, markUnits, Within, PartsAtEnd};
+ghost use Rattle.product.specs.Units.{firstUnits, fusedUnits, directedUnits, markUnits, Within, PartsAtEnd};
 ghost use Rattle.product.specs.Answer.{conditions, marked as markedBy, multiplied, outcomeOf};
 
 // The handheld that makes a product.
@@ -37,11 +40,17 @@ pub struct Product {
     pub binade: u32,
 }
 
-// The answer to a multiplication: the product in the case of its mark, or the refusal 31 or 17.
+// A product as it was rounded: the direction is that of the last rounding (request W4), on the two-step device from Ch * x + u1.
+pub struct DirectedProduct {
+    pub product: Product,
+    pub direction: Direction,
+}
+
+// The answer to a multiplication: the product with its direction in the case of its mark, or the refusal 31 or 17.
 pub enum ProductAnswer {
-    Right(Product),
-    Open(Product),
-    Wrong(Product),
+    Right(DirectedProduct),
+    Open(DirectedProduct),
+    Wrong(DirectedProduct),
     Refused(u32),
 }
 
@@ -73,21 +82,23 @@ fn fused_units(p: Precision, parts: Parts, x: u64, u1: u64) -> Wide
 }
 
 // A number of that unit, at least 1, to n bits: its leading zeros tell the digits to drop, and how many more than in binade 0 they are tells the binade.
-fn rounded_units(p: Precision, y: Wide) -> Product
+fn rounded_units(p: Precision, y: Wide) -> DirectedProduct
     requires { ⌜ ValidPrecision (p .bits) × (2 ^ (p .bits - 1) * 2 ^ scaleOf (p .bits) ≤ valueOf y) ⌝ }
-    ensures { λ r. ⌜ r ≡ roundedUnits (contextAt (p .bits)) (valueOf y) ⌝ }
+    ensures { λ r. ⌜ r ≡ directedUnits (contextAt (p .bits)) (valueOf y) ⌝ }
 {
     let r = round::round_wide(y, p.bits, TieRule::ToEven);
-    Product {
+    let direction = r.direction;
+    let product = Product {
         significand: r.significand,
         binade: r.exponent as u32 - p.low_dropped(),
-    }
+    };
+    DirectedProduct { product, direction }
 }
 
 // The second step, u2 = RN(Ch * x + u1), of a factor that was accepted, a significand in range and its u1.
-pub fn second_step(f: Factor, x: u64, u1: u64) -> Product
+pub fn second_step(f: Factor, x: u64, u1: u64) -> DirectedProduct
     requires { ⌜ Sound f × HasBits (f .precision .bits) x × (u1 ≡ firstUnits (contextOf f) (unitPartsOf (contextOf f) (f .parts)) x) ⌝ }
-    ensures { λ r. ⌜ r ≡ productBy f x ⌝ }
+    ensures { λ r. ⌜ r ≡ directedOn Device.TwoStep f x ⌝ }
 {
     let p = f.precision;
     let parts = f.parts;
@@ -95,9 +106,9 @@ pub fn second_step(f: Factor, x: u64, u1: u64) -> Product
 }
 
 // Both steps, of a factor that was accepted and a significand in range.
-fn two_steps(f: Factor, x: u64) -> Product
+fn two_steps(f: Factor, x: u64) -> DirectedProduct
     requires { ⌜ Sound f × HasBits (f .precision .bits) x ⌝ }
-    ensures { λ r. ⌜ r ≡ productBy f x ⌝ }
+    ensures { λ r. ⌜ r ≡ directedOn Device.TwoStep f x ⌝ }
 {
     let p = f.precision;
     let parts = f.parts;
@@ -105,9 +116,9 @@ fn two_steps(f: Factor, x: u64) -> Product
 }
 
 // RN(Ch * x) of a factor that was accepted and a significand in range, in steps of binade 0, 2 ^ (1 - n): in the unit 2 ^ - 2(n - 1) Ch * x is a whole number, and n - 1 digits stand behind such a step.
-fn steps_once(f: Factor, x: u64) -> u64
+fn steps_once(f: Factor, x: u64) -> Neighbour
     requires { ⌜ Sound f × HasBits (f .precision .bits) x ⌝ }
-    ensures { λ r. ⌜ r ≡ stepsOf (oneStepBy f x) ⌝ }
+    ensures { λ r. ⌜ r ≡ record { taken = stepsOf (oneStepBy f x); direction = directionOn Device.OneStep f x } ⌝ }
 {
     let n = f.precision.bits;
     let k = n - 1;
@@ -115,27 +126,31 @@ fn steps_once(f: Factor, x: u64) -> u64
 }
 
 // The same as a significand and a binade.
-pub fn one_step(f: Factor, x: u64) -> Product
+pub fn one_step(f: Factor, x: u64) -> DirectedProduct
     requires { ⌜ Sound f × HasBits (f .precision .bits) x ⌝ }
-    ensures { λ r. ⌜ r ≡ oneStepBy f x ⌝ }
+    ensures { λ r. ⌜ r ≡ directedOn Device.OneStep f x ⌝ }
 {
-    let steps = steps_once(f, x);
+    let near = steps_once(f, x);
+    let direction = near.direction;
+    let steps = near.taken;
     if steps < wide::power(f.precision.bits) {
-        return Product {
+        let product = Product {
             significand: steps,
             binade: 0,
         };
+        return DirectedProduct { product, direction };
     }
-    Product {
+    let product = Product {
         significand: steps / 2,
         binade: 1,
-    }
+    };
+    DirectedProduct { product, direction }
 }
 
 // The product on a device.
-fn product_of(d: Device, f: Factor, x: u64) -> Product
+fn product_of(d: Device, f: Factor, x: u64) -> DirectedProduct
     requires { ⌜ Sound f × HasBits (f .precision .bits) x ⌝ }
-    ensures { λ r. ⌜ r ≡ productOn d f x ⌝ }
+    ensures { λ r. ⌜ r ≡ directedOn d f x ⌝ }
 {
     match d {
         Device::TwoStep => two_steps(f, x),
@@ -157,8 +172,8 @@ pub fn steps_on(d: Device, f: Factor, x: u64) -> u64
     ensures { λ r. ⌜ r ≡ stepsOf (productOn d f x) ⌝ }
 {
     match d {
-        Device::TwoStep => steps_of(two_steps(f, x)),
-        Device::OneStep => steps_once(f, x),
+        Device::TwoStep => steps_of(two_steps(f, x).product),
+        Device::OneStep => steps_once(f, x).taken,
     }
 }
 
@@ -167,7 +182,7 @@ fn end_steps(p: Precision, y: Wide) -> u64
     requires { ⌜ ValidPrecision (p .bits) × Within (contextAt (p .bits)) (valueOf y) ⌝ }
     ensures { λ r. ⌜ r * 2 ^ scaleOf (p .bits) ≡ rn tieRule (p .bits) (valueOf y) 1 ⌝ }
 {
-    steps_of(rounded_units(p, y))
+    steps_of(rounded_units(p, y).product)
 }
 
 // The mark of a value by the two that the ends round to, as document 01 has it.
@@ -202,7 +217,7 @@ pub fn trial(f: Factor, x: u64) -> Mark
     requires { ⌜ Sound f × HasBits (f .precision .bits) x ⌝ }
     ensures { λ r. ⌜ r ≡ markBy f x (productBy f x) ⌝ }
 {
-    mark_of(f, x, two_steps(f, x))
+    mark_of(f, x, two_steps(f, x).product)
 }
 
 // Refusal 17: a significand outside 2 ^ (n - 1) to 2 ^ n - 1.
@@ -231,11 +246,11 @@ pub fn range_out(p: Precision, first: u64, last: u64) -> bool
 }
 
 // A value, whoever made it, in the case of its mark.
-pub fn marked(f: Factor, x: u64, v: Product) -> ProductAnswer
-    requires { ⌜ Sound f × HasBits (f .precision .bits) x × HasBits (f .precision .bits) (v .significand) × (v .binade ≤ 1) ⌝ }
+pub fn marked(f: Factor, x: u64, v: DirectedProduct) -> ProductAnswer
+    requires { ⌜ Sound f × HasBits (f .precision .bits) x × HasBits (f .precision .bits) (v .product .significand) × (v .product .binade ≤ 1) ⌝ }
     ensures { λ r. ⌜ outcomeOf r ≡ accepted (markedBy f x v) ⌝ }
 {
-    match mark_of(f, x, v) {
+    match mark_of(f, x, v.product) {
         Mark::Right => ProductAnswer::Right(v),
         Mark::Open => ProductAnswer::Open(v),
         Mark::Wrong => ProductAnswer::Wrong(v),

@@ -4,16 +4,16 @@ use Rattle.marks.specs.Answers.{Outcome, refused, accepted, answer}
 use Rattle.factor.specs.declared.Factor.{Factor}
 use Rattle.factor.specs.SetUp.{intact}
 use Rattle.product.specs.Answer.{conditions}
-use Rattle.quotient.specs.declared.Quotient.{Quotient}
+use Rattle.quotient.specs.declared.DirectedQuotient.{DirectedQuotient}
 use Rattle.quotient.specs.declared.QuotientAnswer.{QuotientAnswer}
-use Rattle.quotient.specs.Quotient.{quotient, quotientBy}
+use Rattle.quotient.specs.Quotient.{quotient, directedBy}
 
--- the quotient, unless a condition that refuses the significand holds; it has no mark
-unfoldable pub divided : Factor → ℕ → Outcome Quotient
+-- the quotient with its direction, unless a condition that refuses the significand holds; it has no mark
+unfoldable pub divided : Factor → ℕ → Outcome DirectedQuotient
 unfolding intact quotient
-divided f X = answer (conditions f X) (quotientBy f X)
+divided f X = answer (conditions f X) (directedBy f X)
 
--- what each case of the answer says: a refusal its number, or the quotient with its significand and binade
-abbrev pub outcomeOf : QuotientAnswer → Outcome Quotient
+-- what each case of the answer says: a refusal its number, or the quotient with its significand, binade and direction
+abbrev pub outcomeOf : QuotientAnswer → Outcome DirectedQuotient
 outcomeOf (QuotientAnswer.Accepted v) = accepted v
 outcomeOf (QuotientAnswer.Refused k) = refused k

@@ -1,15 +1,17 @@
--- The quotient of a significand by the high part (request W1; source document 003, section III), over a context. Definitions only. Assumes nothing.
+-- The quotient of a significand by the high part (request W1; source document 003, section III), over a context, and its direction (request W4). Definitions only. Assumes nothing.
 use mathlib.Core.Bool.{cond}
 use Prim.Native.Nat.{ℕ, _-_}
 use lib.Dec.{ltb}
 use lib.IntN.{pos, _+ℤ_}
+use Rattle.rounding.specs.declared.Direction.{Direction}
 use Rattle.rounding.specs.Round.{rounded}
-use Rattle.rounding.specs.Fraction.{Fraction, over, power, times, ratio, RN}
+use Rattle.rounding.specs.Fraction.{Fraction, over, power, times, ratio, RN, directionOf}
 use Rattle.factor.specs.declared.Parts.{Parts}
 use Rattle.factor.specs.declared.Factor.{Factor}
 use Rattle.factor.specs.Context.{Context, contextOf}
 use Rattle.product.specs.Product.{argument, high}
 use Rattle.quotient.specs.declared.Quotient.{Quotient}
+use Rattle.quotient.specs.declared.DirectedQuotient.{DirectedQuotient}
 
 -- x / Ch
 abbrev pub byHigh : (n : ℕ) → Parts → ℕ → Fraction
@@ -33,6 +35,14 @@ module _ (K : Context) where
 -- the quotient by a factor, by its own precision and parts
 abbrev pub quotientBy : Factor → ℕ → Quotient
 quotientBy f X = quotient (contextOf f) (f .parts) X
+
+-- the direction of its rounding, from x / Ch
+abbrev pub directionBy : Factor → ℕ → Direction
+directionBy f X = directionOf (contextOf f .rule) (f .precision .bits) (byHigh (f .precision .bits) (f .parts) X)
+
+-- the quotient with it
+abbrev pub directedBy : Factor → ℕ → DirectedQuotient
+directedBy f X = record { quotient = quotientBy f X; direction = directionBy f X }
 
 -- a quotient as a number
 abbrev pub valueOf : (n : ℕ) → Quotient → Fraction

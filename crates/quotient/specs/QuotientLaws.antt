@@ -1,4 +1,4 @@
--- Laws of the quotient: its binade is -1 or 0, its significand has n bits and is the nearest of one division, its value is RN(x / Ch), and it is never half way between two numbers, so that every tie rule gives the same. Assumes nothing.
+-- Laws of the quotient: its binade is -1 or 0, its significand has n bits and is the nearest of one division, its value is RN(x / Ch), its direction that of the division, and x / Ch is never half way between two numbers, so that every tie rule gives the same. Assumes nothing.
 use mathlib.Core.Path.{_≡_, refl, sym, ap, _∙_, subst}
 use mathlib.Core.Bool.{Bool, true, false, cond}
 use Prim.Native.Nat.{ℕ, zero, suc, _+_, _-_, _*_, _/_, _%_, _^_, _≤_, _<_}
@@ -11,36 +11,33 @@ use lib.Ieee.{minus, up, down}
 use lib.Ieee.Digits.{minus-val}
 use lib.Ieee.Order.{drop}
 use borrow.Author.Tests.{ne-eqb, ltb-true, ltb-false, lt-ltb, le-ltb}
-use Rattle.rounding.specs.declared.Location.{Location}
-use Rattle.rounding.specs.declared.Location.the-variants.{Half}
 use Rattle.rounding.specs.declared.Rounded.{Rounded}
-use Rattle.rounding.specs.Grid.{Rule, location, nearest}
-use Rattle.rounding.specs.GridLaws.{Lies, location-lies, nearest-is, nearest-only, nearest-le, nearest-ge}
+use Rattle.rounding.specs.Grid.{Rule, nearest, sideAt}
+use Rattle.rounding.specs.GridLaws.{nearest-is, nearest-only, nearest-le, nearest-ge}
 use Rattle.rounding.specs.Digits.{pow-half, drop-le}
 use Rattle.rounding.specs.Round.{normalised, stepped, roundedIn, rounded, HasBits}
 use Rattle.rounding.specs.RoundLaws.{rounded-at, minus-shift}
-use Rattle.rounding.specs.Fraction.{Same}
+use Rattle.rounding.specs.Standard.{HalfWay}
+use Rattle.rounding.specs.Fraction.{Same, directionOf}
+use Rattle.rounding.specs.Directed.{rounded-direction}
 use Rattle.factor.specs.declared.Parts.{Parts}
 use Rattle.factor.specs.Context.{Context}
 use Rattle.product.specs.SoundLaws.{HighBits}
 use Rattle.quotient.specs.declared.Quotient.{Quotient}
 use Rattle.quotient.specs.Quotient.{byHigh, once, quotient, valueOf, binadesBelow}
 
--- where an odd multiple of H is a multiple of 2 ^ m, H is one: so it is not below 2 ^ m
-odd-multiple : (m Y q H : ℕ) → 0 < H → 2 ^ m * Y ≡ (2 * q + 1) * H → 2 ^ m ≤ H
-odd-multiple zero Y q H h e = h
-odd-multiple (suc m) Y q H h e =
+-- where an odd multiple of H is 2 ^ m * Y, the odd number divides Y: so it is not above it
+odd-divides : (m Y q H : ℕ) → 0 < H → 2 ^ m * Y ≡ (2 * q + 1) * H → 2 * q + 1 ≤ Y
+odd-divides zero Y q H h e = omega (arith, e, mul-le-mul-left (2 * q + 1) h)
+odd-divides (suc m) Y q H h e =
     let w = ap (λ (z : ℕ). z * Y) (pow-succ' 2 m) in
     let even : H ≡ 2 * (H / 2) = omega arith in
-    let f : 2 ^ m * Y ≡ (2 * q + 1) * (H / 2) = omega (arith, ap (λ (z : ℕ). (2 * q + 1) * z) even) in
-    omega (arith, odd-multiple m Y q (H / 2) (omega arith) f, pow-succ' 2 m)
+    odd-divides m Y q (H / 2) (omega arith) (omega (arith, ap (λ (z : ℕ). (2 * q + 1) * z) even))
 
 -- X * 2 ^ t / H has n digits before the point, and rounding it carries nothing into another
 record HasDigits (n H X t : ℕ) : Type 0 where
   least : 2 ^ (n - 1) * H ≤ X * 2 ^ t
   most : X * 2 ^ t ≤ (2 ^ n - 1) * H
-  -- and is half way between no two whole numbers
-  untied : (q : ℕ) → 2 * (X * 2 ^ t) ≡ 2 * (q * H) + H → ⊥
 
 module _ (n : ℕ) (P : 0 < n) (H X : ℕ) (h : HighBits n H) (x : HasBits n X) where
   high-some : 0 < H
@@ -53,7 +50,6 @@ module _ (n : ℕ) (P : 0 < n) (H X : ℕ) (h : HighBits n H) (x : HasBits n X) 
       record {
         least = omega (arith, ap (λ (z : ℕ). X * z) e, mul-le-mul-left (2 ^ (n - 1)) (h .most), mul-le-mul-right (2 ^ n) (x .least));
         most = go (2 ^ n) (2 ^ n - 1) (omega (arith, pow-pos n)) (h .most) l;
-        untied = λ q t. let w = pow-succ' 2 n in omega (arith, odd-multiple (suc n) X q H high-some (omega (arith, ap (λ (z : ℕ). z * X) w)), pow-pos n);
       }
     where
       go : (b c : ℕ) → b ≡ c + 1 → H ≤ b → X < H → X * b ≤ c * H
@@ -66,7 +62,6 @@ module _ (n : ℕ) (P : 0 < n) (H X : ℕ) (h : HighBits n H) (x : HasBits n X) 
       record {
         least = omega (arith, mul-le-mul-left (2 ^ (n - 1)) l);
         most = le-trans (mul-le-mul-right (2 ^ (n - 1)) (le-ones n (x .most))) (mul-le-mul-left (2 ^ n - 1) (h .least));
-        untied = λ q t. omega (arith, odd-multiple n X q H high-some (omega (arith, ap (λ (z : ℕ). z * X) e)), x .most);
       }
 
   -- by one test
@@ -103,7 +98,7 @@ module _ (K : Context) (P : 0 < K .n) (p : Parts) (X : ℕ) (h : HighBits (K .n)
     nearest-bits : HasBits n (nearest rule N H)
     nearest-bits = record { least = nearest-ge rule N H (2 ^ (n - 1)) some (s .least); most = omega (arith, nearest-le rule N H (2 ^ n - 1) some (s .most), pow-pos n) }
 
-    rounded-exact : rounded rule n (byHigh n p X .num) (byHigh n p X .den) ≡ record { significand = nearest rule N H; exponent = minus 0 t; location = location (N % H) H }
+    rounded-exact : rounded rule n (byHigh n p X .num) (byHigh n p X .den) ≡ record { significand = nearest rule N H; exponent = minus 0 t; direction = sideAt N H (nearest rule N H) }
     unfolding roundedIn stepped normalised
     rounded-exact =
         let e : 2 ^ n ≡ (2 ^ n - 1) + 1 = omega (arith, pow-pos n) in
@@ -114,17 +109,27 @@ module _ (K : Context) (P : 0 < K .n) (p : Parts) (X : ℕ) (h : HighBits (K .n)
         ∙ ap (λ (u : ℕ). stepped rule n t 0 N u) (mul-one H)
         ∙ rw (ne-eqb (nearest rule N H) (2 ^ n) (λ e. omega (arith, nearest-bits .most)))
 
-    -- never half way between two numbers of n bits
-    pub never-tied : rounded rule n (byHigh n p X .num) (byHigh n p X .den) .location ≡ Half → ⊥
-    never-tied e =
-        let l : location (N % H) H ≡ Half = sym (ap (λ (r : Rounded). r .location) rounded-exact) ∙ e in
-        s .untied (N / H) (omega (arith, subst (λ (l : Location). Lies l (N % H) H) l (location-lies (N % H) H), div-add-mod' N H))
+    -- the direction is that of the one division
+    pub quotient-direction : directionOf rule n (byHigh n p X) ≡ sideAt N H (nearest rule N H)
+    quotient-direction = sym (rounded-direction rule n P (X * 2 ^ (n - 1)) (2 ^ (n - 1) * H) (mul-pos (pow-pos (n - 1)) some)) ∙ ap (λ (r : Rounded). r .direction) rounded-exact
+
+  -- x / Ch is never half way between two numbers of n bits
+  pub never-tied : (t j k : ℕ) → HalfWay n (byHigh n p X .num) (byHigh n p X .den) t j k → ⊥
+  never-tied t j k w =
+      let G = 2 ^ k * (2 ^ (n - 1) * H) in
+      let e : 2 ^ suc (n - 1 + t) * X ≡ (2 * j + 1) * G = omega (arith, w .middle, ap (λ (z : ℕ). z * X) (pow-succ' 2 (n - 1 + t)), ap (λ (z : ℕ). z * X) (pow-add 2 (n - 1) t)) in
+      omega (arith, odd-divides (suc (n - 1 + t)) X j G (mul-pos (pow-pos k) (mul-pos (pow-pos (n - 1)) some)) e, w .least, x .most, pow-half n P)
 
   -- so that every tie rule takes the same neighbour
   same-taken : (a b : Rule) → nearest a N H ≡ nearest b N H
   same-taken a b =
       let m = nearest-is b N H some in
-      nearest-only a N H (nearest b N H) some (record { low = m .low; high = m .high; tie = λ q e. absurd (s .untied q e) })
+      nearest-only a N H (nearest b N H) some (record { low = m .low; high = m .high; tie = λ q e. absurd (untied q e) })
+    where
+      untied : (q : ℕ) → 2 * N ≡ 2 * (q * H) + H → ⊥
+      untied q e =
+          let o = odd-divides (suc t) X q H some (omega (arith, e, ap (λ (z : ℕ). z * X) (pow-succ' 2 t))) in
+          omega (arith, e, s .least, mul-le-mul-right H o, mul-le-mul-right H (x .most), ap (λ (z : ℕ). z * H) (pow-half n P), some)
 
   -- one division, rounded to nearest
   pub quotient-is : quotient K p X ≡ record { significand = nearest rule N H; binade = minus 0 b }
@@ -139,7 +144,7 @@ module _ (K : Context) (P : 0 < K .n) (p : Parts) (X : ℕ) (h : HighBits (K .n)
   unfolding quotient
   quotient-any-rule other =
       ap (λ (y : Rounded). record { significand = y .significand; binade = y .exponent +ℤ pos (n - 1) })
-      (rounded-exact other ∙ ap (λ (z : ℕ). record { significand = z; exponent = minus 0 t; location = location (N % H) H }) (same-taken other rule) ∙ sym (rounded-exact rule))
+      (rounded-exact other ∙ ap (λ (z : ℕ). record { significand = z; exponent = minus 0 t; direction = sideAt N H z }) (same-taken other rule) ∙ sym (rounded-exact rule))
 
   pub quotient-bits : HasBits n (quotient K p X .significand)
   quotient-bits = rw quotient-is (nearest-bits rule)

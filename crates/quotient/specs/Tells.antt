@@ -1,6 +1,6 @@
--- What an answer to a division tells, for every factor and every number as X (`quotient-tells`): its form, that it is RN(x / Ch) by every tie rule, and that it is less than 3/2 units in the last place from x / C for
+-- What an answer to a division tells, for every factor and every number as X (`quotient-tells`): its form, that it is RN(x / Ch) by every tie rule, what its direction says (request W4), and that it is less than 3/2 units in the last place from x / C for
 -- every fraction C between the ends: request W1's bound, of which source document 003 (Property 3.1) has a slightly sharper one. Assumes nothing.
-use mathlib.Core.Path.{_≡_, refl, subst}
+use mathlib.Core.Path.{_≡_, refl, sym, subst}
 use Prim.Native.Nat.{ℕ, _-_, _≤_, _<_}
 use native.Mathlib.Nat.{mul-pos, le-trans}
 use native.Mathlib.Decide.{decLt}
@@ -10,11 +10,13 @@ use lib.Pow.{pow-pos}
 use lib.Ieee.Fits.{down-pos}
 use Rattle.marks.specs.Answers.{Outcome, refused, accepted}
 use Rattle.marks.specs.AnswerLaws.{of-answer}
-use Rattle.rounding.specs.declared.Location.the-variants.{Half}
+use Rattle.rounding.specs.declared.Direction.{Direction}
 use Rattle.rounding.specs.Grid.{Rule}
-use Rattle.rounding.specs.Round.{rounded, HasBits}
-use Rattle.rounding.specs.Fraction.{Fraction, over, times, ratio, RN, Same, Positive}
+use Rattle.rounding.specs.Round.{HasBits}
+use Rattle.rounding.specs.Standard.{HalfWay}
+use Rattle.rounding.specs.Fraction.{Fraction, over, times, ratio, RN, Same, Positive, Directs}
 use Rattle.rounding.specs.FractionLaws.{RN-some, ratio-positive, distance-same}
+use Rattle.rounding.specs.Directed.{directs, direction-to}
 use Rattle.rounding.specs.Ulp.{ulp, WithinThreeHalves}
 use Rattle.rounding.specs.OneRounding.{ratio-error}
 use Rattle.factor.specs.declared.Factor.{Factor}
@@ -26,7 +28,8 @@ use Rattle.product.specs.Answer.{conditions}
 use Rattle.product.specs.AnswerLaws.{let-through}
 use Rattle.product.specs.SoundLaws.{sound-fine, sound-high, sound-high-positive, sound-positive, sound-close-high}
 use Rattle.quotient.specs.declared.Quotient.{Quotient}
-use Rattle.quotient.specs.Quotient.{byHigh, once, quotientBy, valueOf}
+use Rattle.quotient.specs.declared.DirectedQuotient.{DirectedQuotient}
+use Rattle.quotient.specs.Quotient.{byHigh, once, quotientBy, directionBy, directedBy, valueOf}
 use Rattle.quotient.specs.Answer.{divided}
 use Rattle.quotient.specs.QuotientLaws.{never-tied, quotient-any-rule, quotient-bits, quotient-value, quotient-below-one, quotient-from-one}
 
@@ -35,19 +38,21 @@ use Rattle.quotient.specs.QuotientLaws.{never-tied, quotient-any-rule, q
 abbrev pub exactQuotient : (n X : ℕ) → Fraction → Fraction
 exactQuotient n X C = ratio (argument n X) C
 
-pub record Tells (f : Factor) (X : ℕ) (v : Quotient) : Type 0 where
+pub record Tells (f : Factor) (X : ℕ) (v : DirectedQuotient) : Type 0 where
   -- a significand of n bits, in binade -1 below 1, where X is below the high significand, and in binade 0 from there on
-  pub bits : HasBits (f .precision .bits) (v .significand)
-  pub below-one : X < f .parts .high → v .binade ≡ negsuc 0
-  pub from-one : f .parts .high ≤ X → v .binade ≡ pos 0
+  pub bits : HasBits (f .precision .bits) (v .quotient .significand)
+  pub below-one : X < f .parts .high → v .quotient .binade ≡ negsuc 0
+  pub from-one : f .parts .high ≤ X → v .quotient .binade ≡ pos 0
   -- it is RN(x / Ch), by whatever tie rule, since x / Ch is never half way between two numbers of n bits
-  pub value : (rule : Rule) → Same (RN rule (f .precision .bits) (byHigh (f .precision .bits) (f .parts) X)) (valueOf (f .precision .bits) v)
-  pub untied : (rule : Rule) → let y = byHigh (f .precision .bits) (f .parts) X in rounded rule (f .precision .bits) (y .num) (y .den) .location ≡ Half → ⊥
+  pub value : (rule : Rule) → Same (RN rule (f .precision .bits) (byHigh (f .precision .bits) (f .parts) X)) (valueOf (f .precision .bits) (v .quotient))
+  pub untied : let y = byHigh (f .precision .bits) (f .parts) X in (t j k : ℕ) → HalfWay (f .precision .bits) (y .num) (y .den) t j k → ⊥
+  -- its direction tells how it lies as seen from x / Ch
+  pub directs : Directs (v .direction) (byHigh (f .precision .bits) (f .parts) X) (valueOf (f .precision .bits) (v .quotient))
   -- |RN(x / Ch) - x / C| < 3/2 ulp(x / C) for every C between the ends, in whole numbers, cross-multiplied
-  pub near : (C : Fraction) → Between (contextOf f) (lowerOf f) (upperOf f) C → WithinThreeHalves (f .precision .bits) (valueOf (f .precision .bits) v) (exactQuotient (f .precision .bits) X C)
+  pub near : (C : Fraction) → Between (contextOf f) (lowerOf f) (upperOf f) C → WithinThreeHalves (f .precision .bits) (valueOf (f .precision .bits) (v .quotient)) (exactQuotient (f .precision .bits) X C)
 
 -- of every answer: a refusal tells nothing
-abbrev pub AnswerTells : Factor → ℕ → Outcome Quotient → Type 0
+abbrev pub AnswerTells : Factor → ℕ → Outcome DirectedQuotient → Type 0
 AnswerTells f X (refused k) = Unit {0}
 AnswerTells f X (accepted v) = Tells f X v
 
@@ -87,7 +92,13 @@ module _ (f : Factor) (s : Sound f) where
         distance-same (once K (f .parts) X) (valueOf n v) (exactQuotient n X C) (times (over 3 1) (ulp n (exactQuotient n X C)))
         (RN-some (K .rule) n (byHigh n (f .parts) X)) (mul-pos (down-pos (v .binade)) (pow-pos (n - 1))) (ratio-positive (argument n X) C x-positive (sound-positive f s C k) .some) (value (K .rule)) (sound-near (K .rule) (argument n X) x-positive C k)
 
-    pub sound-quotient : Tells f X (quotientBy f X)
+    direct : Directs (directionBy f X) (byHigh n (f .parts) X) (valueOf n (quotientBy f X))
+    direct =
+        let y = byHigh n (f .parts) X in
+        let v = quotientBy f X in
+        subst (λ (d : Direction). Directs d y (valueOf n v)) (sym (direction-to (K .rule) n y (valueOf n v) (mul-pos (down-pos (v .binade)) (pow-pos (n - 1))) (value (K .rule)))) (directs y (valueOf n v))
+
+    pub sound-quotient : Tells f X (directedBy f X)
     sound-quotient =
         record {
           bits = quotient-bits K (ok .some) (f .parts) X (sound-high f s) x;
@@ -95,6 +106,7 @@ module _ (f : Factor) (s : Sound f) where
           from-one = quotient-from-one K (ok .some) (f .parts) X (sound-high f s) x;
           value = value;
           untied = never-tied K (ok .some) (f .parts) X (sound-high f s) x;
+          directs = direct;
           near = near;
         }
 
@@ -109,4 +121,4 @@ module _ (f : Factor) (s : Sound f) where
 -- every answer tells the truth, whatever the factor and the number
 pub quotient-tells : (f : Factor) (X : ℕ) → AnswerTells f X (divided f X)
 unfolding divided
-quotient-tells f X = of-answer (AnswerTells f X) (conditions f X) (quotientBy f X) (λ k. tt) (λ h. let t = let-through f X h in sound-quotient f (t .0) X (t .1))
+quotient-tells f X = of-answer (AnswerTells f X) (conditions f X) (directedBy f X) (λ k. tt) (λ h. let t = let-through f X h in sound-quotient f (t .0) X (t .1))

@@ -1,11 +1,12 @@
-// The quotient of a significand by a factor's high part, rounded once (request W1): what a tape that is graduated in diameter gives back as a girth.
+// The quotient of a significand by a factor's high part, rounded once (request W1), with the direction of that rounding (request W4): what a tape that is graduated in diameter gives back as a girth.
 use factor::Factor;
 use marks::Judgement;
+use rounding::Direction;
 use rounding::TieRule;
 ghost use mathlib.Core.Path.{_≡_};
 ghost use Rattle.rounding.specs.Round.{HasBits};
 ghost use Rattle.factor.specs.SetUp.{Sound};
-ghost use Rattle.quotient.specs.Quotient.{quotientBy, binadesBelow};
+ghost use Rattle.quotient.specs.Quotient.{directedBy, binadesBelow};
 ghost use Rattle.quotient.specs.Answer.{divided, outcomeOf};
 
 // A quotient from 1/2 to below 2: a significand of n bits, and its binade, -1 for [1/2, 1) and 0 for [1, 2).
@@ -14,9 +15,15 @@ pub struct Quotient {
     pub binade: i32,
 }
 
-// The answer to a division: the quotient, which has no mark, or the refusal 31 or 17.
+// A quotient as it was rounded: the direction is that from x / Ch (request W4).
+pub struct DirectedQuotient {
+    pub quotient: Quotient,
+    pub direction: Direction,
+}
+
+// The answer to a division: the quotient with its direction, which has no mark, or the refusal 31 or 17.
 pub enum QuotientAnswer {
-    Accepted(Quotient),
+    Accepted(DirectedQuotient),
     Refused(u32),
 }
 
@@ -31,16 +38,21 @@ fn binades_below(x: u64, high: u64) -> u32
 }
 
 // RN(x / Ch) of a factor that was accepted and a significand in range. Below 1 it has one digit more behind the point, so that n digits come out of the one division.
-pub fn quotient_of(f: Factor, x: u64) -> Quotient
+pub fn quotient_of(f: Factor, x: u64) -> DirectedQuotient
     requires { ⌜ Sound f × HasBits (f .precision .bits) x ⌝ }
-    ensures { λ r. ⌜ r ≡ quotientBy f x ⌝ }
+    ensures { λ r. ⌜ r ≡ directedBy f x ⌝ }
 {
     let high = f.parts.high;
     let below = binades_below(x, high);
     let near = round::nearest_quotient(x << (f.precision.bits - 1 + below), high, TieRule::ToEven);
-    Quotient {
+    let direction = near.direction;
+    let quotient = Quotient {
         significand: near.taken,
         binade: -(below as i32),
+    };
+    DirectedQuotient {
+        quotient,
+        direction,
     }
 }
 

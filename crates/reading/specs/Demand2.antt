@@ -1,5 +1,6 @@
 -- Demand 2 of readings (`reading-answered`, `reading-tells`), for every device, factor and reading: the answer is the device's product with sign and exponent put on, exactly, and its
--- mark tells of every fraction C between the ends whether C * 2 ^ k times the reading rounds to it; its sign is that of the standard's product, which of a zero is the whole answer (`zero-multiplied`, request W3). Assumes nothing.
+-- mark tells of every fraction C between the ends whether C * 2 ^ k times the reading rounds to it; its sign is that of the standard's product, which of a zero is the whole answer (`zero-multiplied`, request W3); its direction
+-- tells how it lies as seen from what the device rounded last, sign and scale on (request W4). Assumes nothing.
 use mathlib.Core.Path.{_≡_, refl, sym, ap, _∙_, subst}
 use mathlib.Core.Bool.{Bool, true, false, cond}
 use mathlib.Core.Logic.{_⊎_, inl, inr}
@@ -17,10 +18,13 @@ use Rattle.marks.specs.Answers.{NoneHolds, Outcome, refused, accepted, Marked}
 use Rattle.marks.specs.AnswerLaws.{none-refuses}
 use Rattle.marks.specs.Says.{Says}
 use Rattle.marks.specs.SaysLaws.{says-alike}
+use Rattle.rounding.specs.declared.Direction.the-variants.{Equal}
+use Rattle.rounding.specs.Direction.{signedDirection}
 use Rattle.rounding.specs.Grid.{toEven}
 use Rattle.rounding.specs.Round.{HasBits}
-use Rattle.rounding.specs.Fraction.{Fraction, times, RN, Same}
+use Rattle.rounding.specs.Fraction.{Fraction, times, RN, Same, scaledAs, Directs}
 use Rattle.rounding.specs.FractionLaws.{RN-some, Scaled, RN-scaled, same-scaled, unlike-comm}
+use Rattle.rounding.specs.Directed.{directs-scaled}
 use Rattle.rounding.specs.Ieee.{revalue, one-value}
 use Rattle.floats.specs.Fields.{zeroOf, signOf, zeroBits, Normal, significandOf, exponentOf}
 use Rattle.floats.specs.Powers.{powers-add}
@@ -38,10 +42,13 @@ use Rattle.product.specs.declared.Product.{Product}
 use Rattle.product.specs.Product.{argument, valueOf}
 use Rattle.product.specs.Marks.{Gives, markBy}
 use Rattle.product.specs.OneStep.{byHigh, oneStepBy}
+use Rattle.product.specs.Devices.{lastOn, directionOn}
+use Rattle.product.specs.Answer.{marked}
 use Rattle.product.specs.DeviceLaws.{formed}
 use Rattle.product.specs.OneStepTells.{sound-value}
 use Rattle.product.specs.Demand2.{mark-tells, mark-alone}
-use Rattle.reading.specs.Reading.{unreadable, signWith, exponentOut, numberOf, conditions, productExponent, productOf, productAt, applied}
+use Rattle.product.specs.DirectionTells.{last-plus, sound-directs}
+use Rattle.reading.specs.Reading.{unreadable, signWith, exponentOut, numberOf, conditions, DirectedNumber, directedZero, productExponent, putOn, productOf, productAt, directedAt, applied}
 use Rattle.reading.specs.Exponents.{let-through, out-none}
 use Rattle.reading.specs.ReadingLaws.{number-value, number-normal}
 use Rattle.reading.specs.AnswerLaws.{is-intact, precision-is, of-reading}
@@ -67,13 +74,17 @@ GivesNumber f b y C = Is y (RN (contextOf f .rule) (prec binary32) (exact f b C)
 abbrev pub SaysOf : Factor → ℕ → Float → Mark → Type 0
 SaysOf f b y m = Says (Between (contextOf f) (lowerOf f) (upperOf f)) (GivesNumber f b y) m
 
--- the number with its mark, or a zero, right
-abbrev pub numbered : Device → Factor → ℕ → Marked Float
-numbered d f b = let m = productOf f b (productAt d f b) in cond (zeroBits binary32 b) (m .of-zero) (m .value)
+-- the number with its mark and its direction, or a zero, right
+abbrev pub numbered : Device → Factor → ℕ → Marked DirectedNumber
+numbered d f b = let m = productOf f b (directedAt d f b) in cond (zeroBits binary32 b) (m .of-zero) (m .value)
 
 -- sign * value * 2 ^ (e + k)
 abbrev pub answerAt : Device → Factor → ℕ → Fraction
 answerAt d f b = let v = productAt d f b in record { minus = signWith f b; num = v .significand * 2 ^ v .binade * up (scaled f b); den = hid binary32 * down (scaled f b) }
+
+-- what the device rounded last, Ch * x + u1 or Ch * x, with the same put on
+abbrev pub lastAt : Device → Factor → ℕ → Fraction
+lastAt d f b = scaledAs (signWith f b) (scaled f b) (lastOn d f (significandOf binary32 b))
 
 -- what is a device's own: both steps of the two-step device are those of the reading's significand and of the stored parts' own values; the one-step device's answer is one multiplication of the standard
 abbrev pub Own : Device → Factor → ℕ → Float → Type 0
@@ -82,22 +93,24 @@ Own Device.TwoStep f b y =
 Own Device.OneStep f b y = OneOperation multiplying f b (valueOf (prec binary32) (productAt Device.OneStep f b)) (answerAt Device.OneStep f b) y
 
 -- what the answer a to a reading with the bits b tells, unless it is a zero
-pub record Tells (d : Device) (f : Factor) (b : ℕ) (a : Marked Float) : Type 0 where
+pub record Tells (d : Device) (f : Factor) (b : ℕ) (a : Marked DirectedNumber) : Type 0 where
   -- the reading is a normal number
   pub reading : (x : Float) → T (fits binary32 x) → toBits binary32 x ≡ b → Is x (readingAt b)
   -- the answer is sign * value * 2 ^ (e + k), exactly, and a normal number
-  pub value : Is (a .value) (answerAt d f b)
-  pub normal : Normal binary32 (toBits binary32 (a .value))
+  pub value : Is (a .value .number) (answerAt d f b)
+  pub normal : Normal binary32 (toBits binary32 (a .value .number))
   -- its mark says what is true of every fraction between the ends, sign and scale on, and no other mark does
-  pub says : SaysOf f b (a .value) (a .mark)
-  pub alone : (m : Mark) → SaysOf f b (a .value) m → a .mark ≡ m
+  pub says : SaysOf f b (a .value .number) (a .mark)
+  pub alone : (m : Mark) → SaysOf f b (a .value .number) m → a .mark ≡ m
   -- and it has what is its device's own
-  pub own : Own d f b (a .value)
+  pub own : Own d f b (a .value .number)
+  -- its direction tells how it lies as seen from what was rounded last
+  pub directs : Directs (a .value .direction) (lastAt d f b) (answerAt d f b)
 
--- of every answer: its sign is that of the standard's product, of a zero too, which is marked right; a refusal tells nothing
-abbrev pub AnswerTells : Device → Factor → ℕ → Outcome (Marked Float) → Type 0
+-- of every answer: its sign is that of the standard's product, of a zero too, which is marked right and equal; a refusal tells nothing
+abbrev pub AnswerTells : Device → Factor → ℕ → Outcome (Marked DirectedNumber) → Type 0
 AnswerTells d f b (refused k) = Unit {0}
-AnswerTells d f b (accepted a) = StandardSign multiplying f b (a .value) × (((zeroBits binary32 b ≡ true) × (a .mark ≡ Mark.Right) × (a .value ≡ zeroOf (signWith f b))) ⊎ ((zeroBits binary32 b ≡ false) × Tells d f b a))
+AnswerTells d f b (accepted a) = StandardSign multiplying f b (a .value .number) × (((zeroBits binary32 b ≡ true) × (a .mark ≡ Mark.Right) × (a .value ≡ directedZero (signWith f b))) ⊎ ((zeroBits binary32 b ≡ false) × Tells d f b a))
 
 -- ---- sign and scale change nothing of what a mark says
 module _ (f : Factor) (b : ℕ) (v : Product) (y : Float) (is : HasValue y (signWith f b) (v .significand * 2 ^ v .binade * up (scaled f b)) (hid binary32 * down (scaled f b))) (C : Fraction) (positive : 0 < C .num) (some : 0 < C .den) (sign : C .minus ≡ false) where
@@ -211,7 +224,12 @@ module _ (d : Device) (f : Factor) (b : ℕ) (h : NoneHolds (unreadable f b)) (n
   from : (C : Fraction) → Ends C → GivesNumber f b y C → Gives (contextOf f) X v C
   from C k g = subst (λ (m : ℕ). Same (RN (contextOf f .rule) m (times C (argument m X))) (valueOf m v)) (sym n) (from-reading f b v y y-value C (above-zero C k) (k .some) (k .sign) g)
 
-  tells : Tells d f b (record { mark = markBy f X v; value = y })
+  direct : Directs (signedDirection (signWith f b) (directionOn d f X)) (lastAt d f b) (answerAt d f b)
+  direct =
+      directs-scaled (directionOn d f X) (lastOn d f X) (valueOf (prec binary32) v) (subst (λ (m : ℕ). Directs (directionOn d f X) (lastOn d f X) (valueOf m v)) n (sound-directs f sound X x-bits d)) (signWith f b) (scaled f b)
+      (last-plus f sound X x-bits d) refl
+
+  tells : Tells d f b (putOn f b (marked f X (directedAt d f b)))
   tells =
       record {
         reading = reading-is f b h nonzero;
@@ -220,12 +238,13 @@ module _ (d : Device) (f : Factor) (b : ℕ) (h : NoneHolds (unreadable f b)) (n
         says = says-alike Ends (Gives (contextOf f) X v) (GivesNumber f b y) to from (markBy f X v) (mark-tells f sound X x-bits v (formed d f sound X x-bits .bits));
         alone = λ m s. mark-alone f sound X x-bits v (formed d f sound X x-bits .bits) m (says-alike Ends (GivesNumber f b y) (Gives (contextOf f) X v) from to m s);
         own = own d f b h o;
+        directs = direct;
       }
 
 -- every answer to a reading tells the truth, whatever the device, the factor and the reading
 pub reading-tells : (d : Device) (f : Factor) (x : Float) → AnswerTells d f (toBits binary32 x) (applied d f x)
 unfolding applied
-reading-tells d f x = let b = toBits binary32 x in of-reading (AnswerTells d f b) f b (productOf f b (productAt d f b)) (λ k. tt)
+reading-tells d f x = let b = toBits binary32 x in of-reading (AnswerTells d f b) f b (productOf f b (directedAt d f b)) (λ k. tt)
     (λ h z. (zero-sign multiplying multiplies f b h, inl (z, refl, refl)))
     (λ h z o. (let v = productAt d f b in number-sign multiplying multiplies f b h z (v .significand) (productExponent f b v), inr (z, tells d f b h z o)))
 
@@ -234,7 +253,7 @@ pub reading-answered : (d : Device) (f : Factor) (x : Float) → let b = toBits 
 unfolding applied
 reading-answered d f x h = let b = toBits binary32 x in none-refuses (conditions f b (productExponent f b (productAt d f b))) (numbered d f b) h
 
--- a zero of either sign is answered, right, with the standard's product of it and the stored high part, which as every f32 fits the format
-pub zero-multiplied : (d : Device) (f : Factor) → intact f ≡ true → f .precision .bits ≡ prec binary32 → T (fits binary32 (f .applied .high)) → (s : Bool) → applied d f (zeroOf s) ≡ accepted (record { mark = Mark.Right; value = mul binary32 (zeroOf s) (signedHigh f) })
+-- a zero of either sign is answered, right and equal, with the standard's product of it and the stored high part, which as every f32 fits the format
+pub zero-multiplied : (d : Device) (f : Factor) → intact f ≡ true → f .precision .bits ≡ prec binary32 → T (fits binary32 (f .applied .high)) → (s : Bool) → applied d f (zeroOf s) ≡ accepted (record { mark = Mark.Right; value = record { number = mul binary32 (zeroOf s) (signedHigh f); direction = Equal } })
 unfolding applied
-zero-multiplied d f i n h s = let b = toBits binary32 (zeroOf s) in zero-is-operation multiplying multiplies f i n h s (productOf f b (productAt d f b)) (λ y. record { mark = Mark.Right; value = y }) refl
+zero-multiplied d f i n h s = let b = toBits binary32 (zeroOf s) in zero-is-operation multiplying multiplies f i n h s (productOf f b (directedAt d f b)) (λ y. record { mark = Mark.Right; value = record { number = y; direction = Equal } }) refl

@@ -11,12 +11,12 @@ use Rattle.floats.specs.Pattern.{significand-bits}
 use Rattle.factor.specs.declared.Factor.{Factor}
 use Rattle.factor.specs.Precision.{significandOut}
 use Rattle.product.specs.declared.Device.{Device}
-use Rattle.product.specs.declared.Product.{Product}
+use Rattle.product.specs.declared.DirectedProduct.{DirectedProduct}
 use Rattle.product.specs.Answer.{conditions, marked, multiplied}
-use Rattle.quotient.specs.declared.Quotient.{Quotient}
-use Rattle.quotient.specs.Quotient.{quotientBy}
+use Rattle.quotient.specs.declared.DirectedQuotient.{DirectedQuotient}
+use Rattle.quotient.specs.Quotient.{directedBy}
 use Rattle.quotient.specs.Answer.{divided}
-use Rattle.reading.specs.Reading.{unreadable, ranged, productOf, productAt, applied}
+use Rattle.reading.specs.Reading.{unreadable, ranged, productOf, directedAt, applied}
 use Rattle.reading.specs.Divided.{placedQuotient, quotientOf, dividedReading}
 use Rattle.reading.specs.AnswerLaws.{precision-is, others-answered}
 
@@ -37,8 +37,8 @@ module _ (f : Factor) (x : Float) (h : NoneHolds (unreadable f (toBits binary32 
 
   pub from-product : (d : Device) → applied d f x ≡ andThen (multiplied d f X) (ranged f b)
   unfolding applied multiplied
-  from-product d = let v = productAt d f b in sym (others-answered f b h (productOf f b v) nonzero) ∙ ap (λ (o : Outcome (Marked Product)). andThen o (ranged f b)) (accepts through (marked f X v))
+  from-product d = let v = directedAt d f b in sym (others-answered f b h (productOf f b v) nonzero) ∙ ap (λ (o : Outcome (Marked DirectedProduct)). andThen o (ranged f b)) (accepts through (marked f X v))
 
   pub from-quotient : dividedReading f x ≡ andThen (divided f X) (placedQuotient f b)
   unfolding dividedReading divided
-  from-quotient = sym (others-answered f b h (quotientOf f b) nonzero) ∙ ap (λ (o : Outcome Quotient). andThen o (placedQuotient f b)) (accepts through (quotientBy f X))
+  from-quotient = sym (others-answered f b h (quotientOf f b) nonzero) ∙ ap (λ (o : Outcome DirectedQuotient). andThen o (placedQuotient f b)) (accepts through (directedBy f X))

@@ -1,20 +1,27 @@
--- What an answer to a reading's division tells, for every factor and every reading (`divided-reading-answered`, `divided-reading-tells`): its sign is that of the standard's quotient, which of a zero is the whole answer (`zero-divided`); any other is RN(x / Ch) with sign and exponent
+-- What an answer to a reading's division tells, for every factor and every reading (`divided-reading-answered`, `divided-reading-tells`): its sign is that of the standard's quotient, which of a zero is the whole answer (`zero-divided`); its direction tells how it lies as seen from x / Ch, sign and scale on (request W4); any other is RN(x / Ch) with sign and exponent
 -- put on, exactly; one division of the standard, of significands and of the reading itself by Ch * 2 ^ k, gives the same; and it is less than 3/2 units in the last place from the reading / (C * 2 ^ k) for every fraction C between the ends. Assumes nothing.
 use mathlib.Core.Path.{_≡_, refl, sym, ap, _∙_, subst}
 use mathlib.Core.Bool.{Bool, true, false, cond}
 use mathlib.Core.Logic.{_⊎_, inl, inr}
-use Prim.Native.Nat.{ℕ, _*_, _<_}
+use Prim.Native.Nat.{ℕ, _-_, _*_, _<_}
+use native.Mathlib.Nat.{mul-pos}
 use native.Mathlib.Decide.{decLt}
 use native.Mathlib.Omega.{arith}
 use lib.Dec.{T}
+use lib.Pow.{pow-pos}
 use lib.IntN.{ℤ, negℤ, _+ℤ_, _-ℤ_, +ℤ-assoc, +ℤ-comm}
 use lib.Ieee.{Float, binary32, prec, hid, toBits, up, down, fits, div}
+use lib.Ieee.Fits.{down-pos}
 use Rattle.marks.specs.Answers.{NoneHolds, Outcome, refused, accepted}
 use Rattle.marks.specs.AnswerLaws.{none-refuses}
+use Rattle.rounding.specs.declared.Direction.the-variants.{Equal}
+use Rattle.rounding.specs.Direction.{signedDirection}
 use Rattle.rounding.specs.Grid.{toEven}
 use Rattle.rounding.specs.Round.{HasBits}
-use Rattle.rounding.specs.Fraction.{Fraction, signedAs, RN, Same}
+use Rattle.rounding.specs.Fraction.{Fraction, signedAs, RN, Same, scaledAs, Directs}
+use Rattle.rounding.specs.Directed.{directs-same, directs-scaled}
 use Rattle.floats.specs.Fields.{zeroOf, zeroBits, Normal, significandOf, exponentOf}
+use Rattle.floats.specs.Powers.{powers-add}
 use Rattle.floats.specs.Pattern.{significand-bits}
 use Rattle.floats.specs.NormalLaws.{numberAt, number-some}
 use Rattle.factor.specs.declared.Factor.{Factor}
@@ -22,9 +29,9 @@ use Rattle.factor.specs.SetUp.{intact, Sound}
 use Rattle.factor.specs.SetUpLaws.{intact-sound}
 use Rattle.product.specs.Product.{high}
 use Rattle.quotient.specs.declared.Quotient.{Quotient}
-use Rattle.quotient.specs.Quotient.{byHigh, quotientBy, valueOf}
+use Rattle.quotient.specs.Quotient.{byHigh, quotientBy, directionBy, directedBy, valueOf}
 use Rattle.quotient.specs.Tells.{Tells as TellsOf, sound-quotient}
-use Rattle.reading.specs.Reading.{unreadable, signWith, exponentOut, numberOf, conditions}
+use Rattle.reading.specs.Reading.{unreadable, signWith, exponentOut, numberOf, DirectedNumber, directedNumber, directedZero, conditions}
 use Rattle.reading.specs.Divided.{quotientExponent, quotientOf, dividedReading}
 use Rattle.reading.specs.Exponents.{let-through}
 use Rattle.reading.specs.ReadingLaws.{number-value, number-normal}
@@ -43,24 +50,30 @@ quotientAt f b = quotientBy f (significandOf binary32 b)
 abbrev pub answerAt : Factor → ℕ → Fraction
 answerAt f b = let v = quotientAt f b in signedAs (signWith f b) (numberAt binary32 (v .significand) (quotientExponent f b v))
 
--- the number, or a zero
-abbrev pub numbered : Factor → ℕ → Float
+-- the number with its direction, or a zero
+abbrev pub numbered : Factor → ℕ → DirectedNumber
 numbered f b = cond (zeroBits binary32 b) (quotientOf f b .of-zero) (quotientOf f b .value)
 
--- what the answer y to a reading with the bits b tells, unless it is a zero
-pub record Tells (f : Factor) (b : ℕ) (y : Float) : Type 0 where
+-- x / Ch with the same put on
+abbrev pub lastAt : Factor → ℕ → Fraction
+lastAt f b = scaledAs (signWith f b) (exponentOf binary32 b -ℤ f .applied .scale) (byHigh (f .precision .bits) (f .parts) (significandOf binary32 b))
+
+-- what the answer a to a reading with the bits b tells, unless it is a zero
+pub record Tells (f : Factor) (b : ℕ) (a : DirectedNumber) : Type 0 where
   -- the reading is a normal number
   pub reading : (x : Float) → T (fits binary32 x) → toBits binary32 x ≡ b → Is x (readingAt b)
-  -- y is sign * RN(x / Ch) * 2 ^ (e - k), exactly, and a normal number
-  pub value : Is y (answerAt f b)
-  pub normal : Normal binary32 (toBits binary32 y)
-  -- and one division of the standard: of x by Ch it is RN(x / Ch), and of the reading by Ch * 2 ^ k y; it is less than 3/2 ulp from the reading / (C * 2 ^ k) for every C between the ends
-  pub division : OneOperation dividing f b (valueOf (prec binary32) (quotientAt f b)) (answerAt f b) y
+  -- its number is sign * RN(x / Ch) * 2 ^ (e - k), exactly, and a normal number
+  pub value : Is (a .number) (answerAt f b)
+  pub normal : Normal binary32 (toBits binary32 (a .number))
+  -- and one division of the standard: of x by Ch it is RN(x / Ch), and of the reading by Ch * 2 ^ k that number; it is less than 3/2 ulp from the reading / (C * 2 ^ k) for every C between the ends
+  pub division : OneOperation dividing f b (valueOf (prec binary32) (quotientAt f b)) (answerAt f b) (a .number)
+  -- its direction tells how it lies as seen from x / Ch
+  pub directs : Directs (a .direction) (lastAt f b) (answerAt f b)
 
--- of every answer: its sign is that of the standard's quotient, of a zero too; a refusal tells nothing
-abbrev pub AnswerTells : Factor → ℕ → Outcome Float → Type 0
+-- of every answer: its sign is that of the standard's quotient, of a zero too, which is equal; a refusal tells nothing
+abbrev pub AnswerTells : Factor → ℕ → Outcome DirectedNumber → Type 0
 AnswerTells f b (refused k) = Unit {0}
-AnswerTells f b (accepted y) = StandardSign dividing f b y × (((zeroBits binary32 b ≡ true) × (y ≡ zeroOf (signWith f b))) ⊎ ((zeroBits binary32 b ≡ false) × Tells f b y))
+AnswerTells f b (accepted a) = StandardSign dividing f b (a .number) × (((zeroBits binary32 b ≡ true) × (a ≡ directedZero (signWith f b))) ⊎ ((zeroBits binary32 b ≡ false) × Tells f b a))
 
 -- ---- a reading that is let through, and not a zero
 module _ (f : Factor) (b : ℕ) (h : NoneHolds (unreadable f b)) (nonzero : zeroBits binary32 b ≡ false) (o : exponentOut binary32 (quotientExponent f b (quotientAt f b)) ≡ false) where
@@ -88,7 +101,7 @@ module _ (f : Factor) (b : ℕ) (h : NoneHolds (unreadable f b)) (nonzero : zero
   bits-are : f .precision .bits ≡ prec binary32
   bits-are = precision-is f b h
 
-  told : TellsOf f X u
+  told : TellsOf f X (directedBy f X)
   told = sound-quotient f sound X (subst (λ (m : ℕ). HasBits m X) (sym bits-are) (significand-bits binary32 b))
 
   u-bits : HasBits (prec binary32) (u .significand)
@@ -120,7 +133,18 @@ module _ (f : Factor) (b : ℕ) (h : NoneHolds (unreadable f b)) (nonzero : zero
       swap : (S a c H : ℕ) → S * a * (c * H) ≡ a * S * (H * c)
       swap S a c H = omega arith
 
-  tells : Tells f b y
+  -- sign and scale put on RN(x / Ch), as they are put on x / Ch
+  direct : Directs (signedDirection (signWith f b) (directionBy f X)) (lastAt f b) (answerAt f b)
+  direct =
+      let w = valueOf (prec binary32) u in
+      let x = byHigh (f .precision .bits) (f .parts) X in
+      let s = signWith f b in
+      directs-same (signedDirection s (directionBy f X)) (lastAt f b) (scaledAs s (e -ℤ k) w)
+      (directs-scaled (directionBy f X) x w (subst (λ (m : ℕ). Directs (directionBy f X) x (valueOf m u)) bits-are (told .directs)) s (e -ℤ k) refl refl)
+      (answerAt f b) refl (mul-pos (mul-pos (down-pos (u .binade)) (pow-pos (prec binary32 - 1))) (down-pos (e -ℤ k))) (number-some binary32 c)
+      (refl, subst (λ (c : ℤ). w .num * up (e -ℤ k) * (hid binary32 * down c) ≡ u .significand * up c * (w .den * down (e -ℤ k))) (sym turned) (omega (arith, ap (λ (t : ℕ). t * (u .significand * hid binary32)) (powers-add (e -ℤ k) (u .binade)))))
+
+  tells : Tells f b (directedNumber (signWith f b) (u .significand) c (directionBy f X))
   tells =
       let t = let-through binary32 c o in
       record {
@@ -128,6 +152,7 @@ module _ (f : Factor) (b : ℕ) (h : NoneHolds (unreadable f b)) (nonzero : zero
         value = number-value binary32 (signWith f b) (u .significand) c u-bits (t .0) (t .1) (t .2) (t .3);
         normal = number-normal binary32 (signWith f b) (u .significand) c u-bits (t .0) (t .1) (t .2) (t .3);
         division = division;
+        directs = direct;
       }
 
 -- every answer to a reading tells the truth, whatever the factor and the reading
@@ -142,7 +167,7 @@ pub divided-reading-answered : (f : Factor) (x : Float) → let b = toBits binar
 unfolding dividedReading
 divided-reading-answered f x h = let b = toBits binary32 x in none-refuses (conditions f b (quotientOf f b .exponent)) (numbered f b) h
 
--- a zero of either sign is answered with the standard's quotient of it by the stored high part, which as every f32 fits the format
-pub zero-divided : (f : Factor) → intact f ≡ true → f .precision .bits ≡ prec binary32 → T (fits binary32 (f .applied .high)) → (s : Bool) → dividedReading f (zeroOf s) ≡ accepted (div binary32 (zeroOf s) (signedHigh f))
+-- a zero of either sign is answered, equal, with the standard's quotient of it by the stored high part, which as every f32 fits the format
+pub zero-divided : (f : Factor) → intact f ≡ true → f .precision .bits ≡ prec binary32 → T (fits binary32 (f .applied .high)) → (s : Bool) → dividedReading f (zeroOf s) ≡ accepted (record { number = div binary32 (zeroOf s) (signedHigh f); direction = Equal })
 unfolding dividedReading
-zero-divided f i n h s = zero-is-operation dividing divides f i n h s (quotientOf f (toBits binary32 (zeroOf s))) (λ y. y) refl
+zero-divided f i n h s = zero-is-operation dividing divides f i n h s (quotientOf f (toBits binary32 (zeroOf s))) (λ y. record { number = y; direction = Equal }) refl

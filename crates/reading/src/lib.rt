@@ -1,8 +1,9 @@
-// A binary32 reading times a factor (document 01, "Binary32"), on the two-step device or the one-step device of request W2: the product with its mark, or a refusal; and divided by it (request W1): the quotient, or a refusal. Zeros keep the sign that the standard gives (request W3).
+// A binary32 reading times a factor (document 01, "Binary32"), on the two-step device or the one-step device of request W2: the product with its mark, or a refusal; and divided by it (request W1): the quotient, or a refusal. Zeros keep the sign that the standard gives (request W3), and every answer tells the direction of its last rounding (request W4).
 use factor::Factor;
 use marks::Mark;
 use product::Device;
-use product::Product;
+use product::DirectedProduct;
+use rounding::Direction;
 ghost use mathlib.Core.Path.{_≡_};
 ghost use Prim.Native.Nat.{_≤_};
 ghost use lib.IntN.{natAbs, _+ℤ_};
@@ -13,7 +14,7 @@ ghost use Rattle.floats.specs.Fields.{significandOf, exponentOf};
 ghost use Rattle.factor.specs.Context.{contextOf};
 ghost use Rattle.factor.specs.UnitParts.{unitPartsOf};
 ghost use Rattle.factor.specs.SetUp.{Sound};
-ghost use Rattle.product.specs.Devices.{productOn};
+ghost use Rattle.product.specs.Devices.{directedOn};
 ghost use Rattle.product.specs.Units.{firstUnits};
 ghost use Rattle.reading.specs.Reading.{unreadable, kindOf, signWith, placed, finished, applied, outcomeOf, numberSays, takenOf};
 ghost use Rattle.reading.specs.Divided.{dividedReading};
@@ -23,17 +24,17 @@ const LEAST_EXPONENT: i32 = 1;
 
 const MOST_EXPONENT: i32 = floats::INFINITE_OR_NAN as i32 - 1;
 
-// The answer to a reading: the product as a binary32 number in the case of its mark, or a refusal: 31, 20, 21, 22 or 23.
+// The answer to a reading: the product as a binary32 number, with its direction, in the case of its mark, or a refusal: 31, 20, 21, 22 or 23.
 pub enum ReadingAnswer {
-    Right(f32),
-    Open(f32),
-    Wrong(f32),
+    Right(f32, Direction),
+    Open(f32, Direction),
+    Wrong(f32, Direction),
     Refused(u32),
 }
 
-// A binary32 number without a mark, or a refusal: what a division answers (31, 20, 21, 22 or 23), and what `place` makes (23).
+// A binary32 number with its direction and without a mark, or a refusal: what a division answers (31, 20, 21, 22 or 23), and what `place` makes (23).
 pub enum NumberAnswer {
-    Number(f32),
+    Number(f32, Direction),
     Refused(u32),
 }
 
@@ -57,13 +58,13 @@ fn first_step(f: Factor, x: u32) -> u64
 }
 
 // A product in the case of its mark.
-fn answer(m: Mark, y: f32) -> ReadingAnswer
-    ensures { λ r. ⌜ outcomeOf r ≡ accepted (record { mark = m; value = y }) ⌝ }
+fn answer(m: Mark, y: f32, d: Direction) -> ReadingAnswer
+    ensures { λ r. ⌜ outcomeOf r ≡ accepted (record { mark = m; value = record { number = y; direction = d } }) ⌝ }
 {
     match m {
-        Mark::Right => ReadingAnswer::Right(y),
-        Mark::Open => ReadingAnswer::Open(y),
-        Mark::Wrong => ReadingAnswer::Wrong(y),
+        Mark::Right => ReadingAnswer::Right(y, d),
+        Mark::Open => ReadingAnswer::Open(y, d),
+        Mark::Wrong => ReadingAnswer::Wrong(y, d),
     }
 }
 
@@ -74,10 +75,10 @@ fn sign_with(f: Factor, bits: u32) -> bool
     floats::is_minus(bits) != f.is_minus()
 }
 
-// A significand at a reading's exponent, raised, with a sign put on last; 23 where no normal number has that exponent.
-fn place(minus: bool, bits: u32, raise: i32, significand: u64) -> NumberAnswer
+// A rounded significand at a reading's exponent, raised, with a sign put on last, which mirrors a negative number's direction; 23 where no normal number has that exponent.
+fn place(minus: bool, bits: u32, raise: i32, significand: u64, d: Direction) -> NumberAnswer
     requires { ⌜ (natAbs raise ≤ 101) × HasBits (prec binary32) significand ⌝ }
-    ensures { λ r. ⌜ numberSays r ≡ placed minus significand (exponentOf binary32 bits +ℤ raise) ⌝ }
+    ensures { λ r. ⌜ numberSays r ≡ placed minus significand (exponentOf binary32 bits +ℤ raise) d ⌝ }
 {
     let exponent = floats::biased_exponent(bits) as i32 + raise;
     if exponent < LEAST_EXPONENT {
@@ -86,28 +87,34 @@ fn place(minus: bool, bits: u32, raise: i32, significand: u64) -> NumberAnswer
     if MOST_EXPONENT < exponent {
         return NumberAnswer::Refused(23);
     }
-    NumberAnswer::Number(floats::float_of(
-        minus,
-        (exponent - LEAST_EXPONENT) as u32,
-        significand as u32,
-    ))
+    NumberAnswer::Number(
+        floats::float_of(
+            minus,
+            (exponent - LEAST_EXPONENT) as u32,
+            significand as u32,
+        ),
+        round::signed_direction(minus, d),
+    )
 }
 
 // What becomes of a product of a normal reading's significand, whoever made it: k plus the binade is put on the exponent, and 23 is judged whatever the mark.
-fn finish(f: Factor, bits: u32, v: Product) -> ReadingAnswer
-    requires { ⌜ Sound f × (f .precision .bits ≡ prec binary32) × HasBits (prec binary32) (v .significand) × (v .binade ≤ 1) ⌝ }
+fn finish(f: Factor, bits: u32, v: DirectedProduct) -> ReadingAnswer
+    requires { ⌜ Sound f × (f .precision .bits ≡ prec binary32) × HasBits (prec binary32) (v .product .significand) × (v .product .binade ≤ 1) ⌝ }
     ensures { λ r. ⌜ outcomeOf r ≡ finished f bits v ⌝ }
 {
+    let p = v.product;
+    let direction = v.direction;
     match place(
         sign_with(f, bits),
         bits,
-        f.applied.scale + v.binade as i32,
-        v.significand,
+        f.applied.scale + p.binade as i32,
+        p.significand,
+        direction,
     ) {
         NumberAnswer::Refused(number) => ReadingAnswer::Refused(number),
-        NumberAnswer::Number(y) => {
+        NumberAnswer::Number(y, d) => {
             let x = floats::significand_of(bits);
-            answer(product::mark_of(f, x as u64, v), y)
+            answer(product::mark_of(f, x as u64, p), y, d)
         }
     }
 }
@@ -139,9 +146,9 @@ fn take(f: Factor, reading: f32) -> Taken
 }
 
 // The product of a normal reading's significand on a device: u1 is one binary32 multiplication.
-fn product_of(d: Device, f: Factor, bits: u32) -> Product
+fn product_of(d: Device, f: Factor, bits: u32) -> DirectedProduct
     requires { ⌜ Sound f × (f .precision .bits ≡ prec binary32) ⌝ }
-    ensures { λ r. ⌜ r ≡ productOn d f (significandOf binary32 bits) ⌝ }
+    ensures { λ r. ⌜ r ≡ directedOn d f (significandOf binary32 bits) ⌝ }
 {
     let x = floats::significand_of(bits);
     match d {
@@ -150,32 +157,39 @@ fn product_of(d: Device, f: Factor, bits: u32) -> Product
     }
 }
 
-// Multiplies a reading on a device: the product with its mark, or the first of the refusals 31, 20, 21, 22 and 23 whose condition holds. A zero gives a zero, right, with the sign of the product.
+// Multiplies a reading on a device: the product with its mark and direction, or the first of the refusals 31, 20, 21, 22 and 23 whose condition holds. A zero gives a zero, right and equal, with the sign of the product.
 pub fn read(d: Device, f: Factor, reading: f32) -> ReadingAnswer
     ensures { λ r. ⌜ outcomeOf r ≡ applied d f reading ⌝ }
 {
     match take(f, reading) {
         Taken::Refused(number) => ReadingAnswer::Refused(number),
-        Taken::Zero(bits) => ReadingAnswer::Right(floats::zero(sign_with(f, bits))),
+        Taken::Zero(bits) => {
+            ReadingAnswer::Right(floats::zero(sign_with(f, bits)), Direction::Equal)
+        }
         Taken::Normal(bits) => finish(f, bits, product_of(d, f, bits)),
     }
 }
 
-// Divides a reading: the quotient, or the first of the refusals 31, 20, 21, 22 and 23 whose condition holds. A zero gives a zero with the sign of the quotient.
+// Divides a reading: the quotient with its direction, or the first of the refusals 31, 20, 21, 22 and 23 whose condition holds. A zero gives a zero, equal, with the sign of the quotient.
 pub fn divide(f: Factor, reading: f32) -> NumberAnswer
     ensures { λ r. ⌜ numberSays r ≡ dividedReading f reading ⌝ }
 {
     match take(f, reading) {
         Taken::Refused(number) => NumberAnswer::Refused(number),
-        Taken::Zero(bits) => NumberAnswer::Number(floats::zero(sign_with(f, bits))),
+        Taken::Zero(bits) => {
+            NumberAnswer::Number(floats::zero(sign_with(f, bits)), Direction::Equal)
+        }
         Taken::Normal(bits) => {
             let x = floats::significand_of(bits);
             let v = quotient::quotient_of(f, x as u64);
+            let q = v.quotient;
+            let direction = v.direction;
             place(
                 sign_with(f, bits),
                 bits,
-                v.binade - f.applied.scale,
-                v.significand,
+                q.binade - f.applied.scale,
+                q.significand,
+                direction,
             )
         }
     }

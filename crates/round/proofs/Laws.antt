@@ -2,7 +2,7 @@
 use mathlib.Core.Path.{_≡_, refl, sym, ap, _∙_, subst}
 use mathlib.Core.Bool.{Bool, true, false, cond, true≢false}
 use Prim.Native.Nat.{ℕ, zero, suc, _+_, _-_, _*_, _/_, _%_, _^_, _≤_, _<_, zero-le}
-use native.Mathlib.Nat.{pos-of-ne-zero, not-suc-le-zero, lt-of-not-le, lt-of-lt-of-le, le-of-eq, mul-le-mul-right, div-lt-iff-lt-mul, mul-comm, le-trans, mul-le-mul-left, div-mul-le-self}
+use native.Mathlib.Nat.{pos-of-ne-zero, not-suc-le-zero, lt-of-not-le, lt-of-lt-of-le, le-of-eq, mul-le-mul-right, div-lt-iff-lt-mul, mul-comm, le-trans, mul-le-mul-left, div-mul-le-self, div-add-mod', mod-lt}
 use native.Mathlib.Omega.{arith}
 use lib.IntN.{ℤ, pos, negsuc, negℤ, natAbs, _+ℤ_, _-ℤ_, +ℤ-idl}
 use lib.Dec.{T, ltb}
@@ -13,7 +13,7 @@ use lib.Pow.{pow-mono, pow-add, pow-pos}
 use borrow.Author.Tests.{ltb-true, lt-ltb, le-ltb}
 use Rattle.rounding.specs.declared.Location.{Location}
 use Rattle.rounding.specs.declared.Location.the-variants.{Exact, BelowHalf, Half, AboveHalf}
-use Rattle.rounding.specs.Grid.{Rule, location, choose, nearest}
+use Rattle.rounding.specs.Grid.{Rule, location, upward}
 use Rattle.rounding.specs.GridLaws.{Lies, location-lies}
 use Rattle.rounding.specs.Signed.{negative}
 use mir.Syntax.{Width, w64}
@@ -23,6 +23,7 @@ use Rattle.wide.specs.declared.Wide.{Wide}
 use Rattle.wide.specs.Value.{wordBits, valueOf}
 use Rattle.wide.specs.OrderLaws.{high-lt}
 use Rattle.round.specs.Neighbour.{neighbourAt, neighbour}
+use Rattle.round.specs.NeighbourLaws.{neighbour-by}
 
 -- the half of 2 ^ k
 pub half-of : (k h : ℕ) → 1 ≤ k → h ≡ 2 ^ (k - 1) → h * 2 ≡ 2 ^ k
@@ -43,34 +44,32 @@ high-few w x e l = let h = high-lt (2 ^ wordBits) (w .hi) (w .lo) 2 (subst (λ (
     few h l = omega arith
 
 -- quotient and remainder of one division tell the neighbour
-pub by-division : (rule : Rule) (N d : ℕ) → neighbourAt rule (N / d) (N % d) d ≡ neighbour rule N d
-unfolding nearest
-by-division rule N d = refl
+pub by-division : (rule : Rule) (N d : ℕ) → 0 < d → neighbourAt rule (N / d) (N % d) d ≡ neighbour rule N d
+by-division rule N d D = neighbour-by rule N d (N / d) (N % d) (div-add-mod' N d) (mod-lt N D)
 
 -- a test as a number, 1 or 0
 pub test-most : (b : Bool) → boolByte b ≤ 1
 test-most true = omega arith
 test-most false = omega arith
 
--- the neighbour that is taken by one comparison with the half, h: at a tie the rule adds one to the remainder
-pub chosen-by-half : (rule : Rule) (q r h : ℕ) → 0 < h → q + boolByte (ltb h (r + boolByte (rule q))) ≡ choose rule q (location r (h * 2))
-chosen-by-half rule q r h H = go (location r (h * 2)) (location-lies r (h * 2))
+-- q, or one more where a test says so
+pub one-more : (q : ℕ) (b : Bool) → q + boolByte b ≡ cond b (suc q) q
+one-more q true = omega arith
+one-more q false = omega arith
+
+-- whether a fraction goes up is one comparison with the half, h: at a tie the rule adds one to the remainder
+pub up-by-half : (rule : Rule) (q r h : ℕ) → 0 < h → ltb h (r + boolByte (rule q)) ≡ upward rule q (location r (h * 2))
+up-by-half rule q r h H = go (location r (h * 2)) (location-lies r (h * 2))
   where
-    down : r + boolByte (rule q) ≤ h → q + boolByte (ltb h (r + boolByte (rule q))) ≡ q
-    down l = ap (λ (b : Bool). q + boolByte b) (le-ltb h (r + boolByte (rule q)) l) ∙ omega arith
+    tie : (b : Bool) → r ≡ h → ltb h (r + boolByte b) ≡ b
+    tie true e = lt-ltb h (r + 1) (omega arith)
+    tie false e = le-ltb h (r + 0) (omega arith)
 
-    up : h < r + boolByte (rule q) → q + boolByte (ltb h (r + boolByte (rule q))) ≡ suc q
-    up l = ap (λ (b : Bool). q + boolByte b) (lt-ltb h (r + boolByte (rule q)) l) ∙ omega arith
-
-    tie : (b : Bool) → r ≡ h → q + boolByte (ltb h (r + boolByte b)) ≡ cond b (suc q) q
-    tie true e = ap (λ (c : Bool). q + boolByte c) (lt-ltb h (r + 1) (omega arith)) ∙ omega arith
-    tie false e = ap (λ (c : Bool). q + boolByte c) (le-ltb h (r + 0) (omega arith)) ∙ omega arith
-
-    go : (l : Location) → Lies l r (h * 2) → q + boolByte (ltb h (r + boolByte (rule q))) ≡ choose rule q l
-    go Exact a = down (omega (arith, test-most (rule q)))
-    go BelowHalf a = down (omega (arith, test-most (rule q)))
+    go : (l : Location) → Lies l r (h * 2) → ltb h (r + boolByte (rule q)) ≡ upward rule q l
+    go Exact a = le-ltb h (r + boolByte (rule q)) (omega (arith, test-most (rule q)))
+    go BelowHalf a = le-ltb h (r + boolByte (rule q)) (omega (arith, test-most (rule q)))
     go Half a = tie (rule q) (omega arith)
-    go AboveHalf a = up (omega arith)
+    go AboveHalf a = lt-ltb h (r + boolByte (rule q)) (omega arith)
 
 -- ---- signed numbers
 pub neg-is : (z : ℤ) → pos 0 -ℤ z ≡ negℤ z

@@ -1,17 +1,21 @@
 -- Laws of cuts, for every place k: there is one only, and what a number rounds to is read off it where n digits are kept, or one more. Assumes nothing.
-use mathlib.Core.Path.{_≡_, sym, ap, _∙_}
+use mathlib.Core.Path.{_≡_, sym, ap, _∙_, subst}
 use Prim.Native.Nat.{ℕ, suc, _+_, _-_, _*_, _/_, _%_, _^_, _≤_, _<_}
-use native.Mathlib.Nat.{div-add-mod', mod-lt, mul-add-div-right, mul-add-mod-self-right, div-eq-of-lt, mod-eq-of-lt, div-lt-iff-lt-mul, add-zero, mul-le-mul-right, one-mul, pow-succ', lt-of-le-of-lt, le-of-suc-le-suc}
+use native.Mathlib.Nat.{div-add-mod', mod-lt, mul-add-div-right, mul-add-mod-self-right, div-eq-of-lt, mod-eq-of-lt, div-lt-iff-lt-mul, add-zero, mul-le-mul-right, one-mul, pow-succ', le-of-suc-le-suc}
 use native.Mathlib.Omega.{arith}
+use lib.IntN.{pos}
 use lib.Pow.{pow-add, pow-pos}
 use lib.Ieee.Order.{drop}
+use Rattle.rounding.specs.Direction.{sideOf}
 use Rattle.rounding.specs.Grid.{Rule, location, choose, nearest}
-use Rattle.rounding.specs.GridLaws.{location-lies, choose-nearest, nearest-only}
 use Rattle.rounding.specs.Digits.{pow-half, drop-at}
 use Rattle.rounding.specs.Unit.{rn}
 use Rattle.rounding.specs.UnitLaws.{rn-in-binade}
 use Rattle.round.specs.declared.Cut.{Cut}
-use Rattle.round.specs.Cuts.{cutAt, uncut}
+use Rattle.round.specs.declared.Neighbour.{Neighbour}
+use Rattle.round.specs.Neighbour.{neighbourAt}
+use Rattle.round.specs.NeighbourLaws.{neighbour-by}
+use Rattle.round.specs.Cuts.{cutAt, uncut, RoundedCut}
 
 pub cut-whole : (k N : ℕ) → uncut k (cutAt k N) ≡ N
 cut-whole k N = div-add-mod' N (2 ^ k)
@@ -36,28 +40,29 @@ pub carry-most : (k x y : ℕ) → x < 2 ^ k → y < 2 ^ k → (x + y) / 2 ^ k <
 carry-most k x y p q = div-lt-iff-lt-mul (pow-pos k) .1 (omega (arith, p, q))
 
 -- ---- to n bits
--- the nearest whole number by quotient and remainder
-nearest-by : (rule : Rule) (N d q r : ℕ) → q * d + r ≡ N → r < d → choose rule q (location r d) ≡ nearest rule N d
-nearest-by rule N d q r e h = sym (nearest-only rule N d (choose rule q (location r d)) (lt-of-le-of-lt (omega arith) h) (choose-nearest rule N d q r (location r d) e h (location-lies r d)))
+-- a neighbour in steps half as wide
+abbrev pub doubled : Neighbour → Neighbour
+doubled m = record { taken = 2 * m .taken; direction = m .direction }
 
 module _ (rule : Rule) (n : ℕ) (P : 0 < n) (k : ℕ) (c : Cut) (short : c .rest < 2 ^ k) where
   abbrev N : ℕ
   N = uncut k c
 
   -- j digits are dropped, and n are kept
-  kept-n : (j q r : ℕ) → q * 2 ^ j + r ≡ N → r < 2 ^ j → 2 ^ (n - 1) ≤ q → q < 2 ^ n → choose rule q (location r (2 ^ j)) * 2 ^ j ≡ rn rule n N 1
+  kept-n : (j q r : ℕ) → q * 2 ^ j + r ≡ N → r < 2 ^ j → 2 ^ (n - 1) ≤ q → q < 2 ^ n → RoundedCut rule n j N (neighbourAt rule q r (2 ^ j))
   kept-n j q r e h l m =
       let w = pow-add 2 n j in
       let d : drop n N 1 ≡ j =
       drop-at n N 1 (omega arith) j P (omega (arith, w, e, mul-le-mul-right (2 ^ j) l, ap (λ (z : ℕ). z * 2 ^ j) (pow-half n P))) (omega (arith, w, e, h, mul-le-mul-right (2 ^ j) m)) in
-      ap (λ (z : ℕ). z * 2 ^ j) (nearest-by rule N (2 ^ j) q r e h ∙ ap (nearest rule N) (sym (one-mul (2 ^ j)))) ∙ sym (rn-in-binade rule n P N 1 j d)
+      let v : nearest rule N (2 ^ j) * 2 ^ j ≡ rn rule n N 1 = ap (λ (z : ℕ). nearest rule N z * 2 ^ j) (sym (one-mul (2 ^ j))) ∙ sym (rn-in-binade rule n P N 1 j d) in
+      subst (RoundedCut rule n j N) (sym (neighbour-by rule N (2 ^ j) q r e h)) (record { value = v; direction = ap (λ (z : ℕ). sideOf (pos N) (pos z)) v })
 
   -- where n digits are kept, the rest is dropped
-  pub round-short : 2 ^ (n - 1) ≤ c .kept → c .kept < 2 ^ n → choose rule (c .kept) (location (c .rest) (2 ^ k)) * 2 ^ k ≡ rn rule n N 1
+  pub round-short : 2 ^ (n - 1) ≤ c .kept → c .kept < 2 ^ n → RoundedCut rule n k N (neighbourAt rule (c .kept) (c .rest) (2 ^ k))
   round-short l m = kept-n k (c .kept) (c .rest) (omega arith) short l m
 
   -- where one more is kept, it is dropped too
-  pub round-long : 2 ^ n ≤ c .kept → c .kept < 2 ^ suc n → 2 * choose rule (c .kept / 2) (location (c .kept % 2 * 2 ^ k + c .rest) (2 ^ suc k)) * 2 ^ k ≡ rn rule n N 1
+  pub round-long : 2 ^ n ≤ c .kept → c .kept < 2 ^ suc n → RoundedCut rule n k N (doubled (neighbourAt rule (c .kept / 2) (c .kept % 2 * 2 ^ k + c .rest) (2 ^ suc k)))
   round-long l m =
       let q = c .kept / 2 in
       let b = c .kept % 2 in
@@ -66,4 +71,5 @@ module _ (rule : Rule) (n : ℕ) (P : 0 < n) (k : ℕ) (c : Cut) (short : c .res
       let w = pow-succ' 2 k in
       let v : q * 2 ^ suc k + (b * 2 ^ k + c .rest) ≡ N = omega (arith, ap (λ (z : ℕ). z * 2 ^ k) split, ap (λ (z : ℕ). q * z) w) in
       let few : b * 2 ^ k ≤ 2 ^ k = omega (arith, mul-le-mul-right (2 ^ k) (le-of-suc-le-suc bit)) in
-      omega (arith, kept-n (suc k) q (b * 2 ^ k + c .rest) v (omega (arith, few, short, w)) (omega (arith, split, bit, pow-half n P)) (omega (arith, split, m, pow-succ' 2 n)), ap (λ (z : ℕ). choose rule q (location (b * 2 ^ k + c .rest) (2 ^ suc k)) * z) w)
+      let is = kept-n (suc k) q (b * 2 ^ k + c .rest) v (omega (arith, few, short, w)) (omega (arith, split, bit, pow-half n P)) (omega (arith, split, m, pow-succ' 2 n)) in
+      record { value = omega (arith, is .value, ap (λ (z : ℕ). choose rule q (location (b * 2 ^ k + c .rest) (2 ^ suc k)) * z) w); direction = is .direction }

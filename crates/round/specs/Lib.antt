@@ -1,4 +1,5 @@
--- What the functions hand back, and laws of cuts.
+-- What the functions hand back, and laws of neighbours and cuts.
 pub mod Neighbour
+pub mod NeighbourLaws
 pub mod Cuts
 pub mod CutLaws

@@ -9,9 +9,10 @@ use lib.Ieee.{size}
 use lib.Ieee.Digits.{size-lt, size-reaches}
 use lib.Ieee.Order.{drop}
 use borrow.Author.Tests.{ne-eqb}
-use Rattle.rounding.specs.declared.Location.the-variants.{Exact}
-use Rattle.rounding.specs.Grid.{Rule, location, nearest}
-use Rattle.rounding.specs.GridLaws.{nearest-exact, location-exact}
+use Rattle.rounding.specs.declared.Direction.the-variants.{Equal}
+use Rattle.rounding.specs.DirectionLaws.{side-equal}
+use Rattle.rounding.specs.Grid.{Rule, nearest, sideAt}
+use Rattle.rounding.specs.GridLaws.{nearest-exact}
 use Rattle.rounding.specs.Digits.{pow-half, drop-le}
 use Rattle.rounding.specs.Round.{normalised, stepped, roundedIn, rounded}
 use Rattle.rounding.specs.ByDigits.{padded, cut}
@@ -29,13 +30,13 @@ module _ (rule : Rule) (n : ℕ) (P : 0 < n) (x b : ℕ) (e : b ≡ size x) (X :
   under = rw e (size-lt x)
 
   -- M of the unit 2 ^ - t, of at most n digits
-  kept-whole : (t M : ℕ) → M < 2 ^ n → roundedIn rule n t M 1 ≡ record { significand = M; exponent = negℤ (pos t); location = Exact }
+  kept-whole : (t M : ℕ) → M < 2 ^ n → roundedIn rule n t M 1 ≡ record { significand = M; exponent = negℤ (pos t); direction = Equal }
   unfolding roundedIn stepped normalised
   kept-whole t M hi =
       let l = drop-le n M 1 (omega arith) 0 (omega (arith, ap (λ (k : ℕ). 2 ^ k) (add-zero n))) in
       let z : drop n M 1 ≡ 0 = omega arith in
       let one : nearest rule M 1 ≡ M = ap (λ (y : ℕ). nearest rule y 1) (sym (mul-one M)) ∙ nearest-exact rule M 1 (omega arith) in
-      let exact : location (M % 1) 1 ≡ Exact = ap (λ (y : ℕ). location (y % 1) 1) (sym (mul-one M)) ∙ location-exact M 1 (omega arith) in
+      let exact : sideAt M 1 M ≡ Equal = side-equal M (M * 1) (mul-one M) in
       ap (λ (k : ℕ). stepped rule n t k M (1 * 2 ^ k)) z ∙ rw (one, exact, ne-eqb M (2 ^ n) (λ e. omega arith), zero-minus t)
 
   -- at most n digits: all are kept

@@ -1,14 +1,18 @@
--- Signed fractions, their exact sums, products and quotients, and RN of them: what document 01 says of factors and products is said with these. Definitions only. Assumes nothing.
+-- Signed fractions, their exact sums, products and quotients, RN of them, and its direction: what document 01 says of factors and products is said with these. Definitions only. Assumes nothing.
 use mathlib.Core.Path.{_≡_}
 use mathlib.Core.Bool.{Bool, true, false, not}
 use Prim.Native.Nat.{ℕ, _+_, _*_, _^_, _≤_, _<_}
 use lib.Dec.{ltb, eqb}
 use lib.IntN.{ℤ}
 use lib.Ieee.{up, down, unlike}
+use Rattle.rounding.specs.declared.Direction.{Direction}
+use Rattle.rounding.specs.declared.Direction.the-variants.{Equal}
 use Rattle.rounding.specs.declared.Rounded.{Rounded}
 use Rattle.rounding.specs.Apart.{apart}
+use Rattle.rounding.specs.Direction.{sideOf, On}
 use Rattle.rounding.specs.Grid.{Rule}
 use Rattle.rounding.specs.Round.{rounded}
+use Rattle.rounding.specs.Signed.{signedOf}
 
 -- num / den, for a den above 0; negative where `minus`
 pub record Fraction : Type 0 where
@@ -86,3 +90,32 @@ pub record Positive (x : Fraction) : Type 0 where
   pub sign : x .minus ≡ false
   pub above : 0 < x .num
   pub some : 0 < x .den
+
+-- x > 0 with a sign and a power of two put on: ± x * 2 ^ z
+abbrev pub scaledAs : Bool → ℤ → Fraction → Fraction
+scaledAs s z x = record { minus = s; num = x .num * up z; den = x .den * down z }
+
+-- ---- direction
+-- x as a whole number of 1 / (x .den * y .den), with its sign
+abbrev pub beside : Fraction → Fraction → ℤ
+beside x y = signedOf (x .minus) (x .num * y .den)
+
+-- how y lies as seen from x
+abbrev pub direction : Fraction → Fraction → Direction
+direction x y = sideOf (beside x y) (beside y x)
+
+-- the direction of a rounding: how RN(x) lies as seen from x (request W4)
+unfoldable pub directionOf : Rule → (n : ℕ) → Fraction → Direction
+directionOf rule n x = direction x (RN rule n x)
+
+-- what each of the three says: y is below x, equal to it, or above it
+abbrev pub Falls : Direction → Fraction → Fraction → Type 0
+Falls d x y = On d (beside x y) (beside y x)
+
+-- y falls so, and in no other way
+pub record Directs (d : Direction) (x y : Fraction) : Type 0 where
+  pub falls : Falls d x y
+  pub alone : (e : Direction) → Falls e x y → d ≡ e
+  -- where the signs are alike, equal means exact, and exact equal
+  pub exact : x .minus ≡ y .minus → d ≡ Equal → Same x y
+  pub equal : Same x y → d ≡ Equal

@@ -6,12 +6,15 @@ use native.Mathlib.Decide.{decLe}
 use native.Mathlib.Nat.{div-add-mod', mod-lt, mul-comm, mul-le-mul-right, le-antisymm, lt-of-mul-lt-mul-right, eq-of-mul-eq-mul-right, le-of-eq, mul-pos, lt-of-not-le, mul-mod-left}
 use native.Mathlib.Omega.{arith}
 use lib.Dec.{eqb, ltb}
+use lib.IntN.{pos}
 use borrow.Author.Tests.{eqb-true, eqb-false, ltb-true, ltb-false, eq-eqb, ne-eqb, lt-ltb, le-ltb}
 use lib.Ieee.Nearest.{div-same}
+use Rattle.rounding.specs.declared.Direction.the-variants.{Below, Above}
 use Rattle.rounding.specs.declared.Location.{Location}
 use Rattle.rounding.specs.declared.Location.the-variants.{Exact, BelowHalf, Half, AboveHalf}
 use Rattle.rounding.specs.ApartLaws.{ltb-scale, eqb-scale}
-use Rattle.rounding.specs.Grid.{Rule, toEven, location, choose, nearest}
+use Rattle.rounding.specs.DirectionLaws.{side-below, side-equal, side-above, side-alike}
+use Rattle.rounding.specs.Grid.{Rule, toEven, location, choose, towards, nearest, sideAt}
 
 -- ties to even add the last digit
 pub even-up : (q : ℕ) → q + q % 2 ≡ cond (toEven q) (suc q) q
@@ -120,11 +123,22 @@ nearest-ge rule N d k D h = subst (λ (z : ℕ). z ≤ nearest rule N d) (neares
 pub nearest-below : (rule : Rule) (N d q : ℕ) → 0 < d → 2 * N < 2 * (q * d) + d → nearest rule N d ≤ q
 nearest-below rule N d q D h = omega (arith, lt-of-mul-lt-mul-right d {m = nearest rule N d} {n = suc q} (omega (arith, nearest-is rule N d D .low)))
 
--- ---- the location, too, depends on the fraction alone
-cross : (N d M e : ℕ) → 0 < d → 0 < e → N * e ≡ M * d → N % d * e ≡ M % e * d
-cross N d M e D P h =
-    omega (arith, ap (λ (z : ℕ). z * e) (div-add-mod' N d), ap (λ (z : ℕ). z * d) (div-add-mod' M e), ap (λ (z : ℕ). z * (d * e)) (div-same N d M e D P h))
+-- ---- on which side of the fraction it lies depends on the fraction alone
+pub side-same : (N d M e k : ℕ) → 0 < d → 0 < e → N * e ≡ M * d → sideAt N d k ≡ sideAt M e k
+side-same N d M e k D P h = side-alike N (k * d) e M (k * e) d P D h (omega arith)
 
+-- and is read off the location
+pub towards-side : (rule : Rule) (N d q r : ℕ) (l : Location) → q * d + r ≡ N → r < d → Lies l r d → sideAt N d (choose rule q l) ≡ towards rule q l
+towards-side rule N d q r Exact e R a = side-equal N (q * d) (omega arith)
+towards-side rule N d q r BelowHalf e R a = side-below N (q * d) (omega arith)
+towards-side rule N d q r Half e R a = go (rule q)
+  where
+    go : (b : Bool) → sideAt N d (cond b (suc q) q) ≡ cond b Above Below
+    go true = side-above N (suc q * d) (omega arith)
+    go false = side-below N (q * d) (omega arith)
+towards-side rule N d q r AboveHalf e R a = side-above N (suc q * d) (omega arith)
+
+-- ---- the location, too, depends on the fraction alone
 pub location-alike : (r d s e : ℕ) → 0 < d → 0 < e → r * e ≡ s * d → location r d ≡ location s e
 location-alike r d s e D P c =
     let twice : r * 2 * e ≡ s * 2 * d = omega arith in
@@ -134,12 +148,6 @@ location-alike r d s e D P c =
       sym (ltb-scale (r * 2) d e P) ∙ ap₂ ltb twice (mul-comm d e) ∙ ltb-scale (s * 2) e d D,
       sym (eqb-scale (r * 2) d e P) ∙ ap₂ eqb twice (mul-comm d e) ∙ eqb-scale (s * 2) e d D,
     )
-
-pub location-same : (N d M e : ℕ) → 0 < d → 0 < e → N * e ≡ M * d → location (N % d) d ≡ location (M % e) e
-location-same N d M e D P h = location-alike (N % d) d (M % e) e D P (cross N d M e D P h)
-
-pub location-exact : (k d : ℕ) → 0 < d → location (k * d % d) d ≡ Exact
-location-exact k d D = rw (mul-mod-left k d)
 
 -- ---- a location by comparison with the half h of d
 pub located-exact : (r d : ℕ) → r ≡ 0 → location r d ≡ Exact

@@ -1,6 +1,8 @@
 -- The definitions and laws of rounding, in the order in which they build on each other.
 pub mod Apart
 pub mod ApartLaws
+pub mod Direction
+pub mod DirectionLaws
 pub mod Grid
 pub mod GridLaws
 pub mod Digits
@@ -10,8 +12,10 @@ pub mod Round
 pub mod RoundLaws
 pub mod Best
 pub mod Standard
+pub mod Signed
 pub mod Fraction
 pub mod FractionLaws
+pub mod Directed
 pub mod Ulp
 pub mod UlpLaws
 pub mod OneRounding
@@ -19,4 +23,3 @@ pub mod Examples
 pub mod Ieee
 pub mod ByDigits
 pub mod ByDigitsLaws
-pub mod Signed

@@ -13,10 +13,11 @@ use lib.Ieee.{size, minus, up, down}
 use lib.Ieee.Digits.{minus-val}
 use lib.Ieee.Order.{drop}
 use borrow.Author.Tests.{eqb-true, eqb-false, eq-eqb, le-leb, lt-leb, le-ltb, lt-ltb}
-use Rattle.rounding.specs.declared.Location.{Location}
+use Rattle.rounding.specs.declared.Direction.{Direction}
 use Rattle.rounding.specs.declared.Rounded.{Rounded}
-use Rattle.rounding.specs.Grid.{Rule, location, nearest}
-use Rattle.rounding.specs.GridLaws.{nearest-same, location-same}
+use Rattle.rounding.specs.Direction.{sideOf}
+use Rattle.rounding.specs.Grid.{Rule, nearest, sideAt}
+use Rattle.rounding.specs.GridLaws.{nearest-same, side-same}
 use Rattle.rounding.specs.Digits.{pow-half, enough-digits, drop-finer}
 use Rattle.rounding.specs.Unit.{kept, rn}
 use Rattle.rounding.specs.UnitLaws.{kept-le, kept-ge, rn-scale-whole, rn-whole-small}
@@ -24,7 +25,7 @@ use Rattle.rounding.specs.Round.{normalised, stepped, roundedIn, rounded
 
 -- r * 2 ^ j
 abbrev pub shifted : ℕ → Rounded → Rounded
-shifted j r = record { significand = r .significand; exponent = r .exponent +ℤ pos j; location = r .location }
+shifted j r = record { significand = r .significand; exponent = r .exponent +ℤ pos j; direction = r .direction }
 
 -- ---- exponents
 pub minus-add : (a b j : ℕ) → minus (a + j) (b + j) ≡ minus a b
@@ -63,14 +64,14 @@ zero-minus (suc a) = rw (lt-leb (suc a) 0 (omega arith)) (ap negsuc (omega arith
 -- ---- one fraction in two units: N / d of the unit 2 ^ - t is M / e of the unit 2 ^ - s
 module _ (rule : Rule) (n : ℕ) (P : 0 < n) where
   -- what is normalised is the carry's record, or as it was kept: a law of all exponents and units by the two cases
-  by-carry : (Q : (ℕ → ℕ → Rounded) → Type 0) (k : ℕ) (l : Location)
-      → (k ≡ 2 ^ n → Q (λ (j t : ℕ). record { significand = 2 ^ (n - 1); exponent = minus (suc j) t; location = l })) → (¬ (k ≡ 2 ^ n) → Q (λ (j t : ℕ). record { significand = k; exponent = minus j t; location = l }))
-      → Q (λ (j t : ℕ). normalised n k j t l)
+  by-carry : (Q : (ℕ → ℕ → Rounded) → Type 0) (k : ℕ) (d : Direction)
+      → (k ≡ 2 ^ n → Q (λ (j t : ℕ). record { significand = 2 ^ (n - 1); exponent = minus (suc j) t; direction = d })) → (¬ (k ≡ 2 ^ n) → Q (λ (j t : ℕ). record { significand = k; exponent = minus j t; direction = d }))
+      → Q (λ (j t : ℕ). normalised n k j t d)
   unfolding normalised
-  by-carry Q k l carry as-kept = go (eqb k (2 ^ n)) refl
+  by-carry Q k d carry as-kept = go (eqb k (2 ^ n)) refl
     where
       go : (b : Bool) → eqb k (2 ^ n) ≡ b
-          → Q (λ (j t : ℕ). cond b (record { significand = 2 ^ (n - 1); exponent = minus (suc j) t; location = l }) (record { significand = k; exponent = minus j t; location = l }))
+          → Q (λ (j t : ℕ). cond b (record { significand = 2 ^ (n - 1); exponent = minus (suc j) t; direction = d }) (record { significand = k; exponent = minus j t; direction = d }))
       go true e = carry (eqb-true k (2 ^ n) e)
       go false e = as-kept (eqb-false k (2 ^ n) e)
 
@@ -78,8 +79,8 @@ module _ (rule : Rule) (n : ℕ) (P : 0 < n) where
   unfolding stepped
   step-same t k N u M v j D Q h =
       let next : minus (suc (k + j)) (t + j) ≡ minus (suc k) t = ap (λ (z : ℕ). minus z (t + j)) (omega arith) ∙ minus-add (suc k) t j in
-      rw (nearest-same rule N u M v D Q h, location-same N u M v D Q h)
-      (by-carry (λ (f : ℕ → ℕ → Rounded). f k t ≡ f (k + j) (t + j)) (nearest rule M v) (location (M % v) v) (λ _. rw next) (λ _. rw (minus-add k t j)))
+      rw (nearest-same rule N u M v D Q h, side-same N u M v (nearest rule M v) D Q h)
+      (by-carry (λ (f : ℕ → ℕ → Rounded). f k t ≡ f (k + j) (t + j)) (nearest rule M v) (sideAt M v (nearest rule M v)) (λ _. rw next) (λ _. rw (minus-add k t j)))
 
   finer : (t N d M e j : ℕ) → 0 < d → 0 < e → N * 2 ^ j * e ≡ M * d → 2 ^ n * d ≤ 2 * N → roundedIn rule n t N d ≡ roundedIn rule n (t + j) M e
   unfolding roundedIn
@@ -118,9 +119,17 @@ module _ (rule : Rule) (n : ℕ) (P : 0 < n) where
   roundedIn-exponent t N d =
       let j = drop n N d in
       let k = nearest rule N (d * 2 ^ j) in
-      by-carry (λ (f : ℕ → ℕ → Rounded). (i : ℕ) × (f j t .exponent ≡ minus i t) × (f j t .significand * 2 ^ i ≡ k * 2 ^ j)) k (location (N % (d * 2 ^ j)) (d * 2 ^ j))
+      by-carry (λ (f : ℕ → ℕ → Rounded). (i : ℕ) × (f j t .exponent ≡ minus i t) × (f j t .significand * 2 ^ i ≡ k * 2 ^ j)) k (sideAt N (d * 2 ^ j) k)
       (λ e. (suc j, refl, omega (arith, ap (λ (z : ℕ). 2 ^ (n - 1) * z) (pow-succ' 2 j), ap (λ (z : ℕ). z * 2 ^ j) e, ap (λ (z : ℕ). z * 2 ^ j) (pow-half n P))))
       (λ _. (j, refl, refl))
+
+  -- its direction: on which side of N / d that value lies
+  pub roundedIn-direction : (t N d : ℕ) → roundedIn rule n t N d .direction ≡ sideAt N d (rn rule n N d)
+  unfolding roundedIn stepped rn kept
+  roundedIn-direction t N d =
+      let j = drop n N d in
+      let k = nearest rule N (d * 2 ^ j) in
+      by-carry (λ (f : ℕ → ℕ → Rounded). f j t .direction ≡ sideAt N (d * 2 ^ j) k) k (sideAt N (d * 2 ^ j) k) (λ _. refl) (λ _. refl) ∙ ap (λ (z : ℕ). sideOf (pos N) (pos z)) (omega arith)
 
   pub roundedIn-value : (t N d : ℕ) → Equals (roundedIn rule n t N d) (rn rule n N d) (2 ^ t)
   roundedIn-value t N d =
@@ -157,7 +166,7 @@ module _ (rule : Rule) (n : ℕ) (P : 0 < n) where
       let s = n + size d in
       let A = suc K * 2 ^ s in
       let j = drop n A d in
-      by-carry (λ (f : ℕ → ℕ → Rounded). HasBits n (f j s .significand)) (kept rule n A d) (location (A % (d * 2 ^ j)) (d * 2 ^ j))
+      by-carry (λ (f : ℕ → ℕ → Rounded). HasBits n (f j s .significand)) (kept rule n A d) (sideAt A (d * 2 ^ j) (kept rule n A d))
       (λ _. record { least = le-of-eq refl; most = omega (arith, pow-half n P, pow-pos (n - 1)) })
       (λ e. record { least = kept-ge rule n P A d D (enough-digits n (suc K) d s m (le-refl s)); most = lt-of-le-ne (kept-le rule n P A d D) e })
 
@@ -175,5 +184,5 @@ module _ (rule : Rule) (n : ℕ) (P : 0 < n) where
       let i = drop n A d in
       let fine = enough-digits n N d (t + j) M (omega arith) in
       rounded-at (N * 2 ^ j) d t A d D D (omega (arith, ap (λ (z : ℕ). N * z * d) (pow-add 2 t j))) fine
-      ∙ by-carry (λ (f : ℕ → ℕ → Rounded). f i t ≡ shifted j (f i (t + j))) (nearest rule A (d * 2 ^ i)) (location (A % (d * 2 ^ i)) (d * 2 ^ i)) (λ _. rw (minus-shift (suc i) t j)) (λ _. rw (minus-shift i t j))
+      ∙ by-carry (λ (f : ℕ → ℕ → Rounded). f i t ≡ shifted j (f i (t + j))) (nearest rule A (d * 2 ^ i)) (sideAt A (d * 2 ^ i) (nearest rule A (d * 2 ^ i))) (λ _. rw (minus-shift (suc i) t j)) (λ _. rw (minus-shift i t j))
       ∙ ap (shifted j) (sym (rounded-at N d (t + j) A d D D refl fine))

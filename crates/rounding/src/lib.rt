@@ -14,17 +14,24 @@ pub enum TieRule {
     AwayFromZero,
 }
 
+// On which side of what was rounded the rounded number lies, sign included (request W4): below it, on it, or above it.
+pub enum Direction {
+    Below,
+    Equal,
+    Above,
+}
+
 // A size rounded to n bits: significand * 2 ^ exponent, the significand from 2 ^ (n - 1) to 2 ^ n - 1. Zero is 0 and 0.
-// The location is that of the size before it was rounded, between the neighbours of its own binade.
+// The direction is that from the size to it.
 pub struct Rounded {
     pub significand: u64,
     pub exponent: i32,
-    pub location: Location,
+    pub direction: Direction,
 }
 
-// The same with a sign: the significand keeps that of what was rounded.
+// The same with a sign: the significand keeps that of what was rounded, and a negative number's direction is not its size's.
 pub struct RoundedSigned {
     pub significand: i64,
     pub exponent: i32,
-    pub location: Location,
+    pub direction: Direction,
 }

@@ -7,7 +7,10 @@ use lib.Ieee.{size}
 use Rattle.marks.specs.declared.Mark.{Mark}
 use Rattle.marks.specs.declared.Mark.the-variants.{Right, Open, Wrong}
 use Rattle.marks.specs.Answers.{judged, Outcome, refused, accepted, answer, Marked}
-use Rattle.rounding.specs.Fraction.{over, times, distance, Same}
+use Rattle.rounding.specs.declared.Direction.{Direction}
+use Rattle.rounding.specs.declared.Direction.the-variants.{Below}
+use Rattle.rounding.specs.Direction.{sideOf}
+use Rattle.rounding.specs.Fraction.{over, times, distance, Same, directionOf}
 use Rattle.rounding.specs.Ulp.{ulp}
 use Rattle.factor.specs.declared.Factor.{Factor}
 use Rattle.factor.specs.Precision.{scaleOf}
@@ -15,7 +18,7 @@ use Rattle.factor.specs.Context.{tieRule}
 use Rattle.factor.specs.Parts.{partsAt}
 use Rattle.factor.specs.SetUp.{appliedOf, factorOf}
 use Rattle.product.specs.declared.Device.{Device}
-use Rattle.product.specs.declared.Product.{Product}
+use Rattle.product.specs.declared.DirectedProduct.{DirectedProduct}
 use Rattle.product.specs.Product.{valueOf}
 use Rattle.tally.specs.declared.Counts.{Counts}
 use Rattle.product.specs.OneStep.{oneStepBy}
@@ -31,8 +34,8 @@ factorAt n L U = factorOf (record { precision = n; scale = pos 0; lower = L; upp
 abbrev counts : (rights wrongs opens : ℕ) → Outcome Counts
 counts r w o = accepted (record { rights = r; wrongs = w; opens = o })
 
-abbrev is : Mark → (S b : ℕ) → Outcome (Marked Product)
-is m S b = accepted (record { mark = m; value = record { significand = S; binade = b } })
+abbrev is : Mark → (S b : ℕ) → Direction → Outcome (Marked DirectedProduct)
+is m S b d = accepted (record { mark = m; value = record { product = record { significand = S; binade = b }; direction = d } })
 
 -- all significands of 4 bits: 3/2, document 01's P2, 4/3 and 23/18
 four-bits :
@@ -45,10 +48,10 @@ four-bits = (refl, refl, refl, refl)
 
 -- the products that 23/18 gives: 9 rounds to 11, which some fractions between the ends give; 10 is a tie, 12.5, and goes to the even 12, which is wrong
 products :
-    (multiplied Device.OneStep (factorAt 4 0x51C71C71C71C71C7 0x51C71C71C71C71C8) 9 ≡ is Open 11 0)
-    × (multiplied Device.OneStep (factorAt 4 0x51C71C71C71C71C7 0x51C71C71C71C71C8) 10 ≡ is Wrong 12 0)
-    × (multiplied Device.OneStep (factorAt 4 (3 * 2 ^ 61) (3 * 2 ^ 61)) 15 ≡ is Right 11 1)
-unfolding factorAt multiplied answer judged Ieee.toBits size
+    (multiplied Device.OneStep (factorAt 4 0x51C71C71C71C71C7 0x51C71C71C71C71C8) 9 ≡ is Open 11 0 Below)
+    × (multiplied Device.OneStep (factorAt 4 0x51C71C71C71C71C7 0x51C71C71C71C71C8) 10 ≡ is Wrong 12 0 Below)
+    × (multiplied Device.OneStep (factorAt 4 (3 * 2 ^ 61) (3 * 2 ^ 61)) 15 ≡ is Right 11 1 Below)
+unfolding factorAt multiplied answer judged directionOf sideOf Ieee.toBits size
 products = (refl, refl, refl)
 
 -- source document 004, Table 1, for π at 4 to 8 bits: 5, 15, 25, 38 and 124 right

@@ -39,8 +39,8 @@ fn mark_once(f: Factor, x: u64, lower: Cut, upper: Cut) -> Mark
     let p = f.precision;
     let e = p.scale();
     product::compared(
-        round::round_cut(lower, e, p.bits, TieRule::ToEven),
-        round::round_cut(upper, e, p.bits, TieRule::ToEven),
+        round::round_cut(lower, e, p.bits, TieRule::ToEven).taken,
+        round::round_cut(upper, e, p.bits, TieRule::ToEven).taken,
         product::steps_on(Device::OneStep, f, x),
     )
 }

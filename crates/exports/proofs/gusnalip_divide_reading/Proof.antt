@@ -1,4 +1,4 @@
--- `exports::gusnalip_divide_reading` meets its contract: the engine's answer as a number and a word. Assumes nothing.
+-- `exports::gusnalip_divide_reading` meets its contract: the engine's answer as a number and words. Assumes nothing.
 use mathlib.Core.Path.{_≡_, refl, ap, _∙_}
 use Prim.Native.Nat.{_≤_}
 use lib.ListN.{length}
@@ -25,7 +25,7 @@ answer s =
     (s .divide .ensures ∙ ap (dividedReading (told .f .given .0 .0)) (s .before .float-from .ensures))
 
 -- there is room for the quotient
-roomy : (s : tie.After-divide) → 1 ≤ length (s .before .before .before .before .before .before .before .before .args .out .now)
+roomy : (s : tie.After-divide) → 2 ≤ length (s .before .before .before .before .before .before .before .before .args .out .now)
 roomy s = let told = s .before .before .before in enough (told .before .before .take-factor .ensures) (told .f .given .1) .roomy
 
 -- the words were not taken

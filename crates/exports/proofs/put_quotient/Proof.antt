@@ -1,7 +1,8 @@
--- `exports::put_quotient` meets its contract: the significand, then the binade, widened, as a word. Assumes nothing.
+-- `exports::put_quotient` meets its contract: the significand, the binade, widened, as a word, and the direction's number. Assumes nothing.
 use mathlib.Core.Path.{_≡_, refl, ap, _∙_}
 use native.Mathlib.Omega.{arith}
 use lib.IntN.{ℤ}
+use lib.ListN.{length-set}
 use mir.Syntax.{w32, w64}
 use mir.Val.{SFits, toZ, ofZ}
 use mir.ValLaws.{toZ-ofZ}
@@ -18,13 +19,17 @@ widened z h =
     rw e (f, toZ-ofZ w64 z f)
 
 cast-unsigned-word : tie.Need-cast-unsigned-word
-cast-unsigned-word c = let f : SFits w32 (c .before .before .before .args .v .binade) = search needs in widened (c .before .before .before .args .v .binade) f .0
+cast-unsigned-word c =
+    let v = c .before .before .before .before .args .v .quotient in
+    let f : SFits w32 (v .binade) = search needs in
+    widened (v .binade) f .0
 
 returns : tie.Need-returns
 returns c =
-    let v = c .before .before .before .before .args .v in
+    let word = c .before in
+    let v = word .before .before .before .before .before .args .v .quotient in
     let f : SFits w32 (v .binade) = search needs in
-    rw (c .unsigned-word .ensures ∙ ap (unsigned 64) (widened (v .binade) f .1)) (refl, refl)
+    rw (word .unsigned-word .ensures ∙ ap (unsigned 64) (widened (v .binade) f .1), c .direction-number .ensures) (refl, refl)
 
 pub put-quotient-spec : {M : Type 1} → statement M
-put-quotient-spec = tie.close (tie.spec (λ c. search needs) cast-unsigned-word (λ c κs. search needs) (λ c. search needs) (λ c. search needs) returns)
+put-quotient-spec = tie.close (tie.spec (λ c. search needs) cast-unsigned-word (λ c κs. search needs) (λ c. simp length-set (omega arith)) (λ c κs. search needs) (λ c. search needs) (λ c. simp length-set (omega arith)) (λ c. simp length-set) returns)

@@ -1,4 +1,4 @@
--- `exports::read_on` meets its contract: the engine's answer as a number and a word. Assumes nothing.
+-- `exports::read_on` meets its contract: the engine's answer as a number and words. Assumes nothing.
 use mathlib.Core.Path.{refl, ap, _∙_}
 use lib.Ieee.{binary32, ofBits}
 use borrow.Author.Needs.{needs}

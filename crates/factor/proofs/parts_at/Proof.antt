@@ -17,7 +17,7 @@ use Rattle.round.specs.declared.Neighbour.{Neighbour}
 use Rattle.factor.specs.Context.{Context, Fine, tieRule, contextAt}
 use Rattle.factor.specs.ContextLaws.{fine-at}
 use Rattle.factor.specs.UnitParts.{step, unitParts, partsFrom}
-use Rattle.factor.specs.LowForm.{size-of}
+use Rattle.rounding.specs.Directed.{size-of}
 use Rattle.factor.specs.PartsLaws.{high-most, rest-le, parts-from}
 use Rattle.factor.proofs.parts_at.Statement.{statement}
 use Rattle.factor.proofs.parts_at.Tie as tie

@@ -8,7 +8,7 @@ use lib.Pow.{pow-mono}
 use mir.Syntax.{w64}
 use mir.Val.{toZ, ofZ}
 use borrow.Author.Needs.{needs}
-use Rattle.rounding.specs.Grid.{location, nearest}
+use Rattle.rounding.specs.Grid.{nearest, sideAt}
 use Rattle.round.specs.declared.Neighbour.{Neighbour}
 use Rattle.factor.specs.Context.{tieRule, contextAt}
 use Rattle.factor.specs.Precision.{ValidPrecision, scaleOf}
@@ -64,7 +64,7 @@ shl-result : tie.Need-shl-result
 shl-result c = omega (arith, step (c .before .before .before .before .before) .room, c .before .before .scale .ensures, c .before .before .before .before .before .before .before .before .before .pre .0)
 
 -- no digit is lost in the shift
-shifted : (near : Neighbour) (n q m d u e : ℕ) → ValidPrecision n → near ≡ record { taken = nearest tieRule m (2 ^ (d - n)); location = location (m % 2 ^ (d - n)) (2 ^ (d - n)) }
+shifted : (near : Neighbour) (n q m d u e : ℕ) → ValidPrecision n → near ≡ record { taken = nearest tieRule m (2 ^ (d - n)); direction = sideAt m (2 ^ (d - n)) (nearest tieRule m (2 ^ (d - n))) }
     → e ≡ scaleOf n → FirstStep (contextAt n) q m d u → u < 2 ^ scaleOf n → near .taken * 2 ^ (d - n + e - q) % 2 ^ 64 ≡ u
 shifted near n q m d u e N r E s small =
     let v : near .taken * 2 ^ (d - n + e - q) ≡ u = ap₂ (λ (r : Neighbour) (k : ℕ). r .taken * 2 ^ (d - n + k - q)) r E ∙ sym (s .value) in

@@ -8,7 +8,7 @@ use Rattle.rounding.specs.Round.{HasBits}
 use Rattle.factor.specs.declared.Factor.{Factor}
 use Rattle.factor.specs.SetUp.{Sound}
 use Rattle.product.specs.declared.Device.{Device}
-use Rattle.product.specs.declared.Product.{Product}
+use Rattle.product.specs.declared.DirectedProduct.{DirectedProduct}
 use Rattle.product.specs.DeviceLaws.{formed}
 use Rattle.product.specs.Answer.{conditions, marked, multiplied}
 use Rattle.product.specs.AnswerLaws.{let-through}
@@ -51,7 +51,7 @@ unfolding multiplied
 returns-2 c =
     let k = c .before .before in
     c .marked .ensures
-    ∙ ap (λ (v : Product). accepted (marked (f k) (x k) v)) (c .before .product-of .ensures)
+    ∙ ap (λ (v : DirectedProduct). accepted (marked (f k) (x k) v)) (c .before .product-of .ensures)
     ∙ sym (none-refuses (conditions (f k) (x k)) _ (none k))
 
 pub multiply-spec : {M : Type 1} → statement M

@@ -1,8 +1,8 @@
 -- `product::second_step` meets its contract: a sound factor's parts are those of its lower end. Assumes nothing.
-use mathlib.Core.Path.{ap, _∙_}
+use mathlib.Core.Path.{sym, ap, _∙_}
 use Rattle.factor.specs.Context.{contextOf}
-use Rattle.product.specs.Units.{roundedUnits}
-use Rattle.product.specs.StepLaws.{fused-from, product-rounds}
+use Rattle.product.specs.Units.{directedUnits}
+use Rattle.product.specs.StepLaws.{fused-from, product-rounds, direction-rounds}
 use Rattle.product.specs.SoundLaws.{sound-parts}
 use Rattle.product.proofs.second_step.Statement.{statement}
 use Rattle.product.proofs.second_step.Tie as tie
@@ -24,9 +24,11 @@ returns : tie.Need-returns
 returns c =
     let a = c .before .before .before .before in
     let f = a .args .f in
-    c .rounded-units .ensures
-    ∙ ap (roundedUnits (contextOf f)) (c .before .fused-units .ensures)
-    ∙ product-rounds (contextOf f) (f .parts) (sound-parts f (a .pre .0)) (a .args .x) (a .pre .1)
+    let K = contextOf f in
+    let at = sound-parts f (a .pre .0) in
+    let p = product-rounds K (f .parts) at (a .args .x) (a .pre .1) in
+    let d = sym (direction-rounds K (f .parts) at (a .args .x) (a .pre .1)) in
+    c .rounded-units .ensures ∙ ap (directedUnits K) (c .before .fused-units .ensures) ∙ (λ i. record { product = p i; direction = d i })
 
 pub second-step-spec : {M : Type 1} → statement M
 second-step-spec = tie.close (tie.spec fused-units-requires rounded-units-requires returns)

@@ -1,16 +1,15 @@
 -- `product::steps_once` meets its contract: Ch * x is one word, which is cut behind the step of binade 0. Assumes nothing.
-use mathlib.Core.Path.{ap, _∙_}
+use mathlib.Core.Path.{sym, ap, _∙_, subst}
 use Prim.Native.Nat.{ℕ, _-_, _*_}
 use native.Mathlib.Nat.{le-of-lt}
 use native.Mathlib.Omega.{arith}
 use borrow.Author.Needs.{needs}
-use Rattle.rounding.specs.Unit.{rn}
-use Rattle.round.specs.Cuts.{uncut}
+use Rattle.round.specs.Cuts.{uncut, RoundedCut}
 use Rattle.round.specs.CutLaws.{cut-whole, cut-short}
 use Rattle.factor.specs.Context.{tieRule, contextOf}
 use Rattle.product.specs.StepLaws.{product-word, kept-bits}
 use Rattle.product.specs.SoundLaws.{sound-fine, sound-high}
-use Rattle.product.specs.OneStepLaws.{atStep, exact-within, one-step-steps}
+use Rattle.product.specs.OneStepLaws.{atStep, exact-within, one-step-steps, one-step-direction}
 use Rattle.product.proofs.steps_once.Statement.{statement}
 use Rattle.product.proofs.steps_once.Tie as tie
 
@@ -37,8 +36,14 @@ returns c =
     let f = a .args .f in
     let n = f .precision .bits in
     let N = f .parts .high * a .args .x in
-    one-step-steps (contextOf f) (sound-fine f (a .pre .0) .some) (f .parts) (a .args .x) (sound-high f (a .pre .0)) (a .pre .1) (c .round-cut .result)
-    (c .round-cut .ensures ∙ ap (λ (z : ℕ). rn tieRule n z 1) (ap (uncut (n - 1)) (c .before .cut-word .ensures) ∙ cut-whole (n - 1) N))
+    let K = contextOf f in
+    let some = sound-fine f (a .pre .0) .some in
+    let high = sound-high f (a .pre .0) in
+    let near = c .round-cut .result in
+    let is = subst (λ (z : ℕ). RoundedCut tieRule n (n - 1) z near) (ap (uncut (n - 1)) (c .before .cut-word .ensures) ∙ cut-whole (n - 1) N) (c .round-cut .ensures) in
+    let steps = one-step-steps K some (f .parts) (a .args .x) high (a .pre .1) (near .taken) (is .value) in
+    let direction = is .direction ∙ sym (one-step-direction K some (f .parts) (a .args .x) high (a .pre .1)) in
+    λ i. record { taken = steps i; direction = direction i }
 
 pub steps-once-spec : {M : Type 1} → statement M
 steps-once-spec = tie.close (tie.spec (λ c. search needs) mul-cut-word (λ c κs. search needs) round-cut-requires returns)

@@ -12,11 +12,11 @@ use mir.Syntax.{w32}
 use mir.Val.{SFits, toZ, ofZ}
 use borrow.Author.Needs.{needs}
 use Rattle.round.specs.declared.Neighbour.{Neighbour}
-use Rattle.rounding.specs.Grid.{nearest}
+use Rattle.round.specs.Neighbour.{neighbour}
 use Rattle.factor.specs.Context.{tieRule, contextOf}
 use Rattle.product.specs.SoundLaws.{sound-fine, sound-high}
 use Rattle.quotient.specs.Quotient.{binadesBelow}
-use Rattle.quotient.specs.QuotientLaws.{quotient-is}
+use Rattle.quotient.specs.QuotientLaws.{quotient-is, quotient-direction}
 use Rattle.quotient.proofs.quotient_of.Statement.{statement}
 use Rattle.quotient.proofs.quotient_of.Tie as tie
 
@@ -78,10 +78,10 @@ nearest-quotient-requires c κs = (
   subst (λ (z : ℕ). z / H c + 1 < 2 ^ 64) (sym (word-is c)) (omega (arith, div-le-self (X c * 2 ^ t c) (H c), word-lt c)),
 )
 
-cast-t : tie.Need-cast-t11
+cast-t : tie.Need-cast-t13
 cast-t c = let k = c .before in rw (k .before .binades-below .ensures) (below-fits (ltb (X k) (H k)))
 
-sub-t : tie.Need-sub-t12
+sub-t : tie.Need-sub-t14
 sub-t c = let k = c .before in rw (k .before .binades-below .ensures) (minus-fits (ltb (X k) (H k)))
 
 returns : tie.Need-returns
@@ -91,10 +91,13 @@ returns c =
     let f = a k .args .f in
     let s = a k .pre .0 in
     let e = k .before .binades-below .ensures in
-    let taken : c .nearest-quotient .result .taken ≡ nearest tieRule (X k * 2 ^ (n k - 1 + binadesBelow (X k) (H k))) (H k) =
-    ap (λ (m : Neighbour). m .taken) (c .nearest-quotient .ensures) ∙ ap (λ (z : ℕ). nearest tieRule z (H k)) (word-is k ∙ ap (λ (z : ℕ). X k * 2 ^ (n k - 1 + z)) e) in
-    ap₂ (λ (S : ℕ) (z : ℤ). record { significand = S; binade = z }) taken (ap (λ (z : ℕ). toZ w32 (ofZ w32 (pos 0 -ℤ toZ w32 z))) e ∙ minus-is (ltb (X k) (H k)))
-    ∙ sym (quotient-is (contextOf f) (sound-fine f s .some) (f .parts) (X k) (sound-high f s) (a k .pre .1))
+    let near : c .nearest-quotient .result ≡ neighbour tieRule (X k * 2 ^ (n k - 1 + binadesBelow (X k) (H k))) (H k) =
+    c .nearest-quotient .ensures ∙ ap (λ (z : ℕ). neighbour tieRule z (H k)) (word-is k ∙ ap (λ (z : ℕ). X k * 2 ^ (n k - 1 + z)) e) in
+    let binade = ap (λ (z : ℕ). toZ w32 (ofZ w32 (pos 0 -ℤ toZ w32 z))) e ∙ minus-is (ltb (X k) (H k)) in
+    let is = quotient-is (contextOf f) (sound-fine f s .some) (f .parts) (X k) (sound-high f s) (a k .pre .1) in
+    let direction = quotient-direction (contextOf f) (sound-fine f s .some) (f .parts) (X k) (sound-high f s) (a k .pre .1) tieRule in
+    ap₂ (λ (m : Neighbour) (z : ℤ). record { quotient = record { significand = m .taken; binade = z }; direction = m .direction }) near binade
+    ∙ (λ i. record { quotient = sym is i; direction = sym direction i })
 
 pub quotient-of-spec : {M : Type 1} → statement M
 quotient-of-spec = tie.close (tie.spec (λ c κs. search needs) (λ c. search needs) add-nearest-quotient cast-nearest-quotient shl-nearest-quotient nearest-quotient-requires cast-t sub-t returns)

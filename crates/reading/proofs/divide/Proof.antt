@@ -9,14 +9,16 @@ use mir.Syntax.{w32}
 use mir.Val.{SFits, toZ, ofZ}
 use borrow.Author.Needs.{needs}
 use Rattle.marks.specs.Answers.{accepted}
+use Rattle.rounding.specs.declared.Direction.the-variants.{Equal}
 use Rattle.rounding.specs.Round.{HasBits}
 use Rattle.floats.specs.Fields.{zeroOf, significandOf, exponentOf}
 use Rattle.factor.specs.declared.Factor.{Factor}
 use Rattle.quotient.specs.declared.Quotient.{Quotient}
-use Rattle.quotient.specs.Quotient.{quotientBy}
+use Rattle.quotient.specs.declared.DirectedQuotient.{DirectedQuotient}
+use Rattle.quotient.specs.Quotient.{quotientBy, directedBy}
 use Rattle.quotient.specs.Tells.{sound-quotient, sound-binade}
-use Rattle.reading.specs.Reading.{signWith, placed}
-use Rattle.reading.specs.Divided.{quotientExponent, quotientOf, dividedReading}
+use Rattle.reading.specs.Reading.{placed}
+use Rattle.reading.specs.Divided.{placedQuotient, quotientOf, dividedReading}
 use Rattle.reading.specs.Exponents.{size-sum, scale-size, size-negated}
 use Rattle.reading.specs.AnswerLaws.{Ready, ready, normal-answered, zero-answered, refused-answered}
 use Rattle.reading.proofs.Laws.{kept}
@@ -51,11 +53,17 @@ module _ (c : tie.After-quotient-of) where
   abbrev X : ℕ
   X = significandOf binary32 (b k)
 
+  abbrev w : DirectedQuotient
+  w = c .quotient-of .result
+
   abbrev v : Quotient
-  v = c .quotient-of .result
+  v = w .quotient
+
+  w-is : w ≡ directedBy (f k) X
+  w-is = c .quotient-of .ensures ∙ ap (directedBy (f k)) (c .before .significand-of .ensures)
 
   v-is : v ≡ quotientBy (f k) X
-  v-is = c .quotient-of .ensures ∙ ap (quotientBy (f k)) (c .before .significand-of .ensures)
+  v-is = ap (λ (z : DirectedQuotient). z .quotient) w-is
 
   v-bits : HasBits (prec binary32) (v .significand)
   v-bits = rw v-is (subst (λ (n : ℕ). HasBits n (quotientBy (f k) X .significand)) (is-ready k .precision) (sound-quotient (f k) (is-ready k .sound) X (is-ready k .bits) .bits))
@@ -75,10 +83,10 @@ module _ (c : tie.After-quotient-of) where
       kept left (v .binade -ℤ scale) (ap₂ (λ (x y : ℤ). x -ℤ y) told read) (omega (arith, few))
 
 sub-place : tie.Need-sub-place
-sub-place c = is-kept (c .before .before .before .before .before) .0
+sub-place c = is-kept (c .before .before .before .before .before .before) .0
 
 place-requires : tie.Need-place-requires
-place-requires c κs = let q = c .before .before .before .before .before in (subst (λ (z : ℤ). natAbs z ≤ 101) (sym (is-kept q .1)) (omega (arith, few q)), v-bits q)
+place-requires c κs = let q = c .before .before .before .before .before .before in (subst (λ (z : ℤ). natAbs z ≤ 101) (sym (is-kept q .1)) (omega (arith, few q)), v-bits q)
 
 returns : tie.Need-returns
 unfolding dividedReading
@@ -89,16 +97,16 @@ unfolding dividedReading
 returns-2 c =
     let t = c .before .before .before .before .before in
     let a = t .before .args in
-    ap accepted (c .zero .ensures ∙ ap zeroOf (c .before .sign-with .ensures)) ∙ zero-answered (a .f) (a .reading) (t .take .result) (t .take .ensures) (quotientOf (a .f)) (c .before .before .before .bits .given .1)
+    ap (λ (y : Float). accepted (record { number = y; direction = Equal })) (c .zero .ensures ∙ ap zeroOf (c .before .sign-with .ensures)) ∙ zero-answered (a .f) (a .reading) (t .take .result) (t .take .ensures) (quotientOf (a .f)) (c .before .before .before .bits .given .1)
 
 returns-3 : tie.Need-returns-3
 unfolding dividedReading
 returns-3 c =
-    let q = c .before .before .before .before .before .before in
+    let q = c .before .before .before .before .before .before .before in
     let n = k q in
     c .place .ensures
-    ∙ ap₂ (λ (m : Bool) (z : ℤ). placed m (v q .significand) (exponentOf binary32 (b n) +ℤ z)) (c .before .before .before .before .before .sign-with2 .ensures) (is-kept q .1)
-    ∙ ap (λ (w : Quotient). placed (signWith (f n) (b n)) (w .significand) (quotientExponent (f n) (b n) w)) (v-is q)
+    ∙ ap₂ (λ (m : Bool) (z : ℤ). placed m (v q .significand) (exponentOf binary32 (b n) +ℤ z) (w q .direction)) (c .before .before .before .before .before .sign-with2 .ensures) (is-kept q .1)
+    ∙ ap (placedQuotient (f n) (b n)) (w-is q)
     ∙ normal-answered (f n) (x n) (n .before .before .before .take .result) (n .before .before .before .take .ensures) (quotientOf (f n)) (n .before .bits2 .given .1)
 
 pub divide-spec : {M : Type 1} → statement M

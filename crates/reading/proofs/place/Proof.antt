@@ -3,13 +3,14 @@ use mathlib.Core.Path.{_≡_, sym, ap, ap₂, _∙_}
 use Prim.Native.Nat.{ℕ, _-_, _*_, _^_, _≤_, _<_}
 use native.Mathlib.Omega.{arith}
 use lib.IntN.{ℤ, pos, natAbs, _+ℤ_, _-ℤ_}
-use lib.Ieee.{binary32, emax}
+use lib.Ieee.{Float, binary32, emax}
 use mir.Syntax.{w32}
 use mir.Val.{SFits, toZ, ofZ}
 use mir.ValLaws.{toZ-pos, toZ-ofZ}
 use borrow.Author.Needs.{needs}
 use Rattle.marks.specs.Answers.{accepted}
 use Rattle.marks.specs.AnswerLaws.{pass, stop, end, refuses, accepts}
+use Rattle.rounding.specs.declared.Direction.{Direction}
 use Rattle.floats.specs.Fields.{biasedExponent, exponentOf, floatOf}
 use Rattle.floats.specs.Powers.{sub-le}
 use Rattle.floats.specs.Pattern.{biased-most}
@@ -92,12 +93,14 @@ float-of-requires c κs =
 
 returns-3 : tie.Need-returns-3
 returns-3 c =
-    let h = c .before in
+    let told = c .before in
+    let h = told .before in
     let s = a (k h) in
-    ap accepted
-    (c .float-of .ensures ∙ ap (λ (z : ℕ). floatOf binary32 (s .args .minus) z (s .args .significand)) (ap natAbs (less-one h .1))
+    ap₂ (λ (y : Float) (d : Direction). accepted (record { number = y; direction = d }))
+    (told .float-of .ensures ∙ ap (λ (z : ℕ). floatOf binary32 (s .args .minus) z (s .args .significand)) (ap natAbs (less-one h .1))
     ∙ number-is binary32 (s .args .minus) (s .args .significand) (exponent (k h)) (s .pre .1) (p h) (at-p h) (within h .2) (within h .3))
+    (c .signed-direction .ensures)
     ∙ accepts (pass (out-none binary32 (exponent (k h)) (p h) (at-p h) (within h .2) (within h .3)) end) _
 
 pub place-spec : {M : Type 1} → statement M
-place-spec = tie.close (tie.spec (λ c κs. search needs) (λ c. search needs) add-exponent returns returns-2 sub-float-of cast-float-of (λ c. search needs) float-of-requires returns-3)
+place-spec = tie.close (tie.spec (λ c κs. search needs) (λ c. search needs) add-exponent returns returns-2 sub-float-of cast-float-of (λ c. search needs) float-of-requires (λ c κs. search needs) returns-3)

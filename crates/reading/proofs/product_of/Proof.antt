@@ -6,7 +6,7 @@ use borrow.Author.Needs.{needs}
 use Rattle.rounding.specs.Round.{HasBits}
 use Rattle.floats.specs.Pattern.{significand-bits}
 use Rattle.product.specs.declared.Device.{Device}
-use Rattle.product.specs.Devices.{productOn}
+use Rattle.product.specs.Devices.{directedOn}
 use Rattle.reading.proofs.product_of.Statement.{statement}
 use Rattle.reading.proofs.product_of.Tie as tie
 
@@ -30,13 +30,13 @@ returns : tie.Need-returns
 returns c =
     let k = c .before .before in
     let x = k .before .before in
-    c .second-step .ensures ∙ ap₂ (λ (d : Device) (X : ℕ). productOn d (x .before .args .f) X) (sym (k .enum-told .given .1)) (x .significand-of .ensures)
+    c .second-step .ensures ∙ ap₂ (λ (d : Device) (X : ℕ). directedOn d (x .before .args .f) X) (sym (k .enum-told .given .1)) (x .significand-of .ensures)
 
 returns-2 : tie.Need-returns-2
 returns-2 c =
     let k = c .before in
     let x = k .before .before in
-    c .one-step .ensures ∙ ap₂ (λ (d : Device) (X : ℕ). productOn d (x .before .args .f) X) (sym (k .enum-told2 .given .1)) (x .significand-of .ensures)
+    c .one-step .ensures ∙ ap₂ (λ (d : Device) (X : ℕ). directedOn d (x .before .args .f) X) (sym (k .enum-told2 .given .1)) (x .significand-of .ensures)
 
 pub product-of-spec : {M : Type 1} → statement M
 product-of-spec = tie.close (tie.spec (λ c κs. search needs) (λ c. search needs) (λ c. search needs) first-step-requires second-step-requires (λ c. search needs) (λ c. search needs) one-step-requires returns returns-2)

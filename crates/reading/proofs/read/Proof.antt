@@ -5,19 +5,20 @@ use lib.Ieee.{Float, binary32}
 use borrow.Author.Needs.{needs}
 use Rattle.marks.specs.declared.Mark.{Mark}
 use Rattle.marks.specs.Answers.{accepted, Marked}
+use Rattle.rounding.specs.declared.Direction.the-variants.{Equal}
 use Rattle.rounding.specs.Round.{HasBits}
 use Rattle.floats.specs.Fields.{zeroOf, significandOf}
 use Rattle.factor.specs.declared.Factor.{Factor}
 use Rattle.product.specs.declared.Device.{Device}
 use Rattle.product.specs.DeviceLaws.{formed}
-use Rattle.reading.specs.Reading.{Made, productOf, productAt, finished, applied}
+use Rattle.reading.specs.Reading.{DirectedNumber, Made, productOf, productAt, directedAt, finished, applied}
 use Rattle.reading.specs.AnswerLaws.{Ready, ready, normal-answered, zero-answered, refused-answered}
 use Rattle.reading.proofs.read.Statement.{statement}
 use Rattle.reading.proofs.read.Tie as tie
 
 -- what is made of a reading by its bits
-abbrev made : Device → Factor → ℕ → Made (Marked Float)
-made d f b = productOf f b (productAt d f b)
+abbrev made : Device → Factor → ℕ → Made (Marked DirectedNumber)
+made d f b = productOf f b (directedAt d f b)
 
 -- ---- a normal reading
 module _ (c : tie.After-known-told3) where
@@ -56,7 +57,7 @@ unfolding applied
 returns-2 c =
     let t = c .before .before .before .before .before in
     let a = t .before .args in
-    ap (λ (y : Float). accepted (record { mark = Mark.Right; value = y })) (c .zero .ensures ∙ ap zeroOf (c .before .sign-with .ensures)) ∙ zero-answered (a .f) (a .reading) (t .take .result) (t .take .ensures) (made (a .d) (a .f)) (c .before .before .before .bits .given .1)
+    ap (λ (y : Float). accepted (record { mark = Mark.Right; value = record { number = y; direction = Equal } })) (c .zero .ensures ∙ ap zeroOf (c .before .sign-with .ensures)) ∙ zero-answered (a .f) (a .reading) (t .take .result) (t .take .ensures) (made (a .d) (a .f)) (c .before .before .before .bits .given .1)
 
 returns-3 : tie.Need-returns-3
 unfolding applied finished

@@ -5,7 +5,7 @@ use native.Mathlib.Nat.{mod-lt}
 use native.Mathlib.Omega.{arith}
 use borrow.Author.Needs.{needs}
 use Rattle.rounding.specs.declared.Location.{Location}
-use Rattle.rounding.specs.Grid.{ruleOf, choose}
+use Rattle.rounding.specs.Grid.{ruleOf, choose, towards}
 use Rattle.rounding.specs.GridLaws.{location-alike}
 use Rattle.wide.specs.Value.{wordBits, valueOf}
 use Rattle.round.specs.Neighbour.{neighbourAt}
@@ -43,8 +43,8 @@ returns c =
     let r = x % d in
     c .nearest-of .ensures
     ∙ ap₂ (λ (t h : ℕ). neighbourAt rule (x / d) t (h * 2)) (twice-is s) (c .before .from-word2 .ensures)
-    ∙ ap (λ (l : Location). record { taken = choose rule (x / d) l; location = l }) (location-alike (r * 2) (d * 2) r d (omega (arith, a .pre .0)) (a .pre .0) (omega arith))
-    ∙ by-division rule x d
+    ∙ ap (λ (l : Location). record { taken = choose rule (x / d) l; direction = towards rule (x / d) l }) (location-alike (r * 2) (d * 2) r d (omega (arith, a .pre .0)) (a .pre .0) (omega arith))
+    ∙ by-division rule x d (a .pre .0)
 
 pub nearest-quotient-spec : {M : Type 1} → statement M
 nearest-quotient-spec = tie.close (tie.spec (λ c. search needs) (λ c κs. search needs) (λ c. search needs) sum-requires (λ c κs. search needs) nearest-of-requires returns)

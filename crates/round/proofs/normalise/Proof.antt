@@ -20,7 +20,7 @@ returns c =
     let a = s .before .args in
     let room : a .dropped + 1 < 2 ^ 31 = omega arith in
     let exponent = toZ-pos w32 room ∙ ap pos (add-one (a .dropped)) ∙ sym (minus-zero (suc (a .dropped))) in
-    rw (eq-eqb (a .kept) (2 ^ a .n) (c .before .if1 .taken ∙ s .power .ensures)) (λ i. record { significand = c .power2 .ensures i; exponent = exponent i; location = a .l })
+    rw (eq-eqb (a .kept) (2 ^ a .n) (c .before .if1 .taken ∙ s .power .ensures)) (λ i. record { significand = c .power2 .ensures i; exponent = exponent i; direction = a .direction })
 
 returns-2 : tie.Need-returns-2
 unfolding normalised

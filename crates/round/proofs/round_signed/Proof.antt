@@ -12,6 +12,7 @@ use mir.Val.{toZ, ofZ}
 use mir.ValLaws.{toZ-ofZ}
 use borrow.Author.Needs.{needs}
 use Rattle.wide.specs.Value.{wordBits, halfWord}
+use Rattle.rounding.specs.Direction.{signedDirection}
 use Rattle.rounding.specs.Grid.{Rule, ruleOf}
 use Rattle.rounding.specs.Round.{rounded}
 use Rattle.rounding.specs.RoundLaws.{rounded-bits}
@@ -34,7 +35,7 @@ with-sign-requires c κs =
 returns : tie.Need-returns
 unfolding roundedSigned
 returns c =
-    let signed = c .before in
+    let signed = c .before .before in
     let word = signed .before in
     let a = word .before .before in
     let z = a .args .z in
@@ -45,7 +46,8 @@ returns c =
     let s : toZ w64 (ofZ w64 (signed .with-sign .result)) ≡ signedOf (negative z) (word .round-word .result .significand) =
     toZ-ofZ w64 _ (record { sfits = signed .with-sign .ok }) ∙ signed .with-sign .ensures ∙ ap (λ (b : Bool). signedOf b (word .round-word .result .significand)) below-is in
     let e : toZ w32 (ofZ w32 (word .round-word .result .exponent)) ≡ word .round-word .result .exponent = search needs in
-    (λ i. record { significand = s i; exponent = e i; location = word .round-word .result .location }) ∙ ap (withSign (negative z)) r
+    let d = c .before .signed-direction .ensures ∙ ap (λ (b : Bool). signedDirection b (word .round-word .result .direction)) below-is in
+    (λ i. record { significand = s i; exponent = e i; direction = d i }) ∙ ap (withSign (negative z)) r
 
 pub round-signed-spec : {M : Type 1} → statement M
-round-signed-spec = tie.close (tie.spec (λ c κs. search needs) (λ c κs. search needs) with-sign-requires returns)
+round-signed-spec = tie.close (tie.spec (λ c κs. search needs) (λ c κs. search needs) with-sign-requires (λ c κs. search needs) returns)

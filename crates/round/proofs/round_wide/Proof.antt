@@ -74,9 +74,9 @@ returns-2 c =
     c .before .nearest-of .ensures
     ∙ ap₂ (λ (r e : ℕ). neighbourAt rule (shifted .shifted-right .result .lo) r e) (rest .low-digits .ensures) h
     ∙ ap (λ (z : ℕ). neighbourAt rule z (x % 2 ^ k) (2 ^ k)) q
-    ∙ by-division rule x (2 ^ k) in
+    ∙ by-division rule x (2 ^ k) (pow-pos k) in
     c .normalise .ensures
-    ∙ ap (λ (m : Neighbour). normalised (a .n) (m .taken) k 0 (m .location)) near
+    ∙ ap (λ (m : Neighbour). normalised (a .n) (m .taken) k 0 (m .direction)) near
     ∙ rounded-many rule (a .n) (d .before .before .pre .0) x (d .digits .result) (d .digits .ensures .0) (omega (arith, d .before .if1 .left)) (omega (arith, long d, d .before .before .pre .1))
 
 pub round-wide-spec : {M : Type 1} → statement M

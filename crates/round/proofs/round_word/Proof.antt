@@ -33,7 +33,7 @@ returns-3 c =
     let a = s .before .before in
     let k = s .word-digits .result - a .args .n in
     c .normalise .ensures
-    ∙ ap (λ (m : Neighbour). normalised (a .args .n) (m .taken) k 0 (m .location)) (c .before .nearest-word .ensures)
+    ∙ ap (λ (m : Neighbour). normalised (a .args .n) (m .taken) k 0 (m .direction)) (c .before .nearest-word .ensures)
     ∙ rounded-many (ruleOf (a .args .rule)) (a .args .n) (a .pre .0) (a .args .x) (s .word-digits .result) (s .word-digits .ensures .0) (pos-of-ne-zero (s .before .if1 .left)) (c .before .before .if2 .left)
 
 pub round-word-spec : {M : Type 1} → statement M

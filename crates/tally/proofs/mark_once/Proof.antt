@@ -31,11 +31,11 @@ returns c =
     let a = k .before .before in
     let f = a .args .f in
     let X = a .args .x in
-    c .compared .ensures ∙ ap (markUnits (lower .round-cut .result) (upper .round-cut2 .result)) (told .steps-on .ensures)
+    c .compared .ensures ∙ ap (markUnits (lower .round-cut .result .taken) (upper .round-cut2 .result .taken)) (told .steps-on .ensures)
     ∙ sym (
-    mark-steps (contextOf f) (sound-fine f (a .pre .0) .some) (lowerOf f) (upperOf f) X (oneStepBy f X) (lower .round-cut .result) (upper .round-cut2 .result)
-    (rounds f (a .pre .0) (lowerOf f) (a .pre .0 .lower-end) (k .scale .result) (k .scale .ensures) X (a .pre .1) (a .args .lower) (a .pre .2) (lower .round-cut .result) (lower .round-cut .ensures))
-    (rounds f (a .pre .0) (upperOf f) (a .pre .0 .upper-end) (k .scale .result) (k .scale .ensures) X (a .pre .1) (a .args .upper) (a .pre .3) (upper .round-cut2 .result) (upper .round-cut2 .ensures))
+    mark-steps (contextOf f) (sound-fine f (a .pre .0) .some) (lowerOf f) (upperOf f) X (oneStepBy f X) (lower .round-cut .result .taken) (upper .round-cut2 .result .taken)
+    (rounds f (a .pre .0) (lowerOf f) (a .pre .0 .lower-end) (k .scale .result) (k .scale .ensures) X (a .pre .1) (a .args .lower) (a .pre .2) (lower .round-cut .result .taken) (lower .round-cut .ensures .value))
+    (rounds f (a .pre .0) (upperOf f) (a .pre .0 .upper-end) (k .scale .result) (k .scale .ensures) X (a .pre .1) (a .args .upper) (a .pre .3) (upper .round-cut2 .result .taken) (upper .round-cut2 .ensures .value))
     )
 
 pub mark-once-spec : {M : Type 1} → statement M

@@ -1,0 +1,54 @@
+-- What the direction of an answer tells (request W4), for every device, factor and number as X (`product-directs`): whether the product is below, equal to or above what the device rounded last, that it is
+-- nothing else, and that equal means exact. Assumes nothing.
+use mathlib.Core.Path.{_≡_, refl, sym, subst}
+use mathlib.Core.Bool.{false}
+use Prim.Native.Nat.{ℕ, _-_}
+use lib.Pow.{pow-pos}
+use Rattle.marks.specs.Answers.{Outcome, refused, accepted, Marked}
+use Rattle.marks.specs.AnswerLaws.{of-answer}
+use Rattle.rounding.specs.declared.Direction.{Direction}
+use Rattle.rounding.specs.Round.{HasBits}
+use Rattle.rounding.specs.Fraction.{RN, Same, Directs}
+use Rattle.rounding.specs.Directed.{directs, direction-to}
+use Rattle.factor.specs.declared.Factor.{Factor}
+use Rattle.factor.specs.Context.{contextOf}
+use Rattle.factor.specs.SetUp.{Sound}
+use Rattle.product.specs.declared.Device.{Device}
+use Rattle.product.specs.declared.DirectedProduct.{DirectedProduct}
+use Rattle.product.specs.Product.{valueOf}
+use Rattle.product.specs.Devices.{productOn, lastOn, directionOn, directedOn}
+use Rattle.product.specs.Answer.{conditions, marked, multiplied}
+use Rattle.product.specs.AnswerLaws.{let-through}
+use Rattle.product.specs.StepLaws.{fused-counts}
+use Rattle.product.specs.SoundLaws.{sound-parts}
+use Rattle.product.specs.Demand2.{two-steps}
+use Rattle.product.specs.OneStepTells.{sound-value}
+
+-- a direction tells how the product lies as seen from what its device rounded last; a refusal has none
+abbrev pub AnswerDirects : Device → Factor → ℕ → Outcome (Marked DirectedProduct) → Type 0
+AnswerDirects d f X (refused k) = Unit {0}
+AnswerDirects d f X (accepted a) = Directs (a .value .direction) (lastOn d f X) (valueOf (f .precision .bits) (a .value .product))
+
+-- ---- of a sound factor and a significand in range
+module _ (f : Factor) (s : Sound f) (X : ℕ) (x : HasBits (f .precision .bits) X) where
+  -- the product is that number, rounded
+  last-value : (d : Device) → Same (RN (contextOf f .rule) (f .precision .bits) (lastOn d f X)) (valueOf (f .precision .bits) (productOn d f X))
+  last-value Device.TwoStep = two-steps f s X x .value
+  last-value Device.OneStep = sound-value f s X x
+
+  -- which is positive
+  pub last-plus : (d : Device) → lastOn d f X .minus ≡ false
+  last-plus Device.TwoStep = fused-counts (contextOf f) (f .parts) (sound-parts f s) X x .sign
+  last-plus Device.OneStep = refl
+
+  pub sound-directs : (d : Device) → Directs (directionOn d f X) (lastOn d f X) (valueOf (f .precision .bits) (productOn d f X))
+  sound-directs d =
+      let n = f .precision .bits in
+      let y = lastOn d f X in
+      let v = valueOf n (productOn d f X) in
+      subst (λ (e : Direction). Directs e y v) (sym (direction-to (contextOf f .rule) n y v (pow-pos (n - 1)) (last-value d))) (directs y v)
+
+-- every answer's direction tells the truth, whatever the device, the factor and the number
+pub product-directs : (d : Device) (f : Factor) (X : ℕ) → AnswerDirects d f X (multiplied d f X)
+unfolding multiplied
+product-directs d f X = of-answer (AnswerDirects d f X) (conditions f X) (marked f X (directedOn d f X)) (λ k. tt) (λ h. let t = let-through f X h in sound-directs f (t .0) X (t .1) d)
