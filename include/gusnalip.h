@@ -14,6 +14,11 @@
  * A reading of zero gives a zero of the reading's own sign, multiplied on either device (marked right) or divided, whatever sign the low
  * part has.
  *
+ * Products and quotients, those of readings too, are written with the direction of their last rounding: GUSNALIP_BELOW, GUSNALIP_EQUAL or
+ * GUSNALIP_ABOVE, as the rounded number lies below, on or above what was rounded, sign included: that of a negative reading is mirrored,
+ * and a zero is equal. In two steps Ch * x + u1 is rounded last, not C * x: equal says that this rounding was exact, and not that the
+ * product is C * x, which is for the mark to compare. In one step it is Ch * x, and divided x / Ch. A refusal has no direction.
+ *
  * gusnalip_read asks for the machine's default rounding mode, round to nearest (FE_TONEAREST): with another one that the caller has set,
  * readings whose products lie near a midpoint can come out differently. Nothing else depends on it: quotients and one-step products, those
  * of readings too, are worked out in whole numbers. */
@@ -24,9 +29,9 @@
 #include <stdint.h>
 
 #define GUSNALIP_FACTOR_WORDS 9
-#define GUSNALIP_PRODUCT_WORDS 2
-#define GUSNALIP_QUOTIENT_WORDS 2
-#define GUSNALIP_READING_WORDS 1
+#define GUSNALIP_PRODUCT_WORDS 3
+#define GUSNALIP_QUOTIENT_WORDS 3
+#define GUSNALIP_READING_WORDS 2
 #define GUSNALIP_TALLY_WORDS 3
 #define GUSNALIP_STATE_WORDS 13
 #define GUSNALIP_COUNT_WORDS 3
@@ -35,6 +40,9 @@
 #define GUSNALIP_RIGHT 1
 #define GUSNALIP_OPEN 2
 #define GUSNALIP_WRONG 3
+#define GUSNALIP_BELOW 1
+#define GUSNALIP_EQUAL 2
+#define GUSNALIP_ABOVE 3
 #define GUSNALIP_DAMAGED 31
 #define GUSNALIP_TOO_SHORT 255
 
@@ -48,22 +56,24 @@ extern "C" {
 /* Sets a factor up: 0 and the factor's words, or a refusal 11 to 16. */
 uint32_t gusnalip_set_up(uint32_t precision, int32_t scale, uint64_t lower, uint64_t upper, uint64_t *out, size_t out_length);
 
-/* Multiplies a significand: a mark, with significand and binade of the product, or the refusal 31 or 17. */
+/* Multiplies a significand: a mark, with the product's significand in out[0], its binade in out[1] and its direction in out[2], or the
+ * refusal 31 or 17. */
 uint32_t gusnalip_multiply(const uint64_t *factor, size_t factor_length, uint64_t x, uint64_t *out, size_t out_length);
 
-/* Multiplies a reading given by its bits: a mark, with the bits of the product in out[0], or a refusal 31, 20 to 23. */
+/* Multiplies a reading given by its bits: a mark, with the bits of the product in out[0] and its direction in out[1], or a refusal 31, 20
+ * to 23. */
 uint32_t gusnalip_read(const uint64_t *factor, size_t factor_length, uint32_t reading, uint32_t *out, size_t out_length);
 
-/* Divides a significand by the factor's high part, which the scale does not change: 0, with the quotient's significand in out[0] and its
- * binade in out[1] (two's complement of 64 bits: -1 is all ones), or the refusal 31 or 17. */
+/* Divides a significand by the factor's high part, which the scale does not change: 0, with the quotient's significand in out[0], its
+ * binade in out[1] (two's complement of 64 bits: -1 is all ones) and its direction in out[2], or the refusal 31 or 17. */
 uint32_t gusnalip_divide(const uint64_t *factor, size_t factor_length, uint64_t x, uint64_t *out, size_t out_length);
 
-/* Divides a reading given by its bits by the factor's high part times 2^scale: 0, with the bits of the quotient in out[0], or a refusal 31,
- * 20 to 23. */
+/* Divides a reading given by its bits by the factor's high part times 2^scale: 0, with the bits of the quotient in out[0] and its direction
+ * in out[1], or a refusal 31, 20 to 23. */
 uint32_t gusnalip_divide_reading(const uint64_t *factor, size_t factor_length, uint32_t reading, uint32_t *out, size_t out_length);
 
 /* The one-step device, a handheld without the fused step: its product is that by the factor's high part alone, rounded once. Answers are
- * those of gusnalip_multiply and gusnalip_read, the mark being this device's. */
+ * those of gusnalip_multiply and gusnalip_read, mark and direction being this device's. */
 uint32_t gusnalip_multiply_once(const uint64_t *factor, size_t factor_length, uint64_t x, uint64_t *out, size_t out_length);
 uint32_t gusnalip_read_once(const uint64_t *factor, size_t factor_length, uint32_t reading, uint32_t *out, size_t out_length);
 

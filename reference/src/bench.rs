@@ -98,7 +98,7 @@ fn single(output: &mut dyn Write) -> io::Result<()> {
     let all: Vec<Given> = (0..count).map(|i| given(&mut random, 4 + (i % 21) as u32, i % (KINDS - 1))).collect();
     // The calls alone: what `engine::set_up` and the others do with the words is the reference's own work.
     let mut out = [0; engine::FACTOR_WORDS];
-    let mut bits = [0; 1];
+    let mut bits = [0; engine::READING_WORDS];
     let ours = seconds(5, || {
         for g in &all {
             black_box(engine::set_up_to(g.bits, g.scale, g.lower, g.upper, &mut out));

@@ -4,8 +4,8 @@ use crate::factor::{set_up, Refusal};
 use crate::frame::{fields, for_lines};
 use crate::onestep::{multiply_once, read_once, tally};
 use crate::product::{multiply, Mark, Product};
-use crate::quotient::{divide, divide_reading};
-use crate::reading::read;
+use crate::quotient::{divide, divide_reading, Quotient};
+use crate::reading::{read, Number};
 use crate::search;
 use crate::sweep::{call, new_state};
 use crate::words::{from_words, state_from, state_words, words, FACTOR_WORDS, STATE_WORDS};
@@ -46,13 +46,14 @@ impl Cases {
         let refused = |refusal: u32| format!("{refusal:02}");
         let marked_product = |answer: Result<Product, Refusal>| match answer {
             Err(refusal) => refused(refusal),
-            Ok(Product { mark, significand, binade }) => {
-                format!("{:02} {significand:016X} {binade:02X}", mark.number())
+            Ok(Product { mark, significand, binade, direction }) => {
+                format!("{:02} {significand:016X} {binade:02X} {:02X}", mark.number(), direction.number())
             }
         };
-        let marked_reading = |answer: Result<(Mark, u32), Refusal>| match answer {
+        let number = |Number { bits, direction }| format!("{bits:08X} {:02X}", direction.number());
+        let marked_reading = |answer: Result<(Mark, Number), Refusal>| match answer {
             Err(refusal) => refused(refusal),
-            Ok((mark, product)) => format!("{:02} {product:08X}", mark.number()),
+            Ok((mark, product)) => format!("{:02} {}", mark.number(), number(product)),
         };
         let answer = match f[0] {
             1 => match set_up(f[1] as u32, f[2] as u32 as i32, f[3], f[4]) {
@@ -123,11 +124,13 @@ impl Cases {
             }
             9 => match from_words(&self.state).and_then(|factor| divide(&factor, f[1])) {
                 Err(refusal) => refused(refusal),
-                Ok(quotient) => format!("00 {:016X} {:016X}", quotient.significand, quotient.binade as u64),
+                Ok(Quotient { significand, binade, direction }) => {
+                    format!("00 {significand:016X} {:016X} {:02X}", binade as u64, direction.number())
+                }
             },
             10 => match from_words(&self.state).and_then(|factor| divide_reading(&factor, f[1] as u32)) {
                 Err(refusal) => refused(refusal),
-                Ok(quotient) => format!("00 {quotient:08X}"),
+                Ok(quotient) => format!("00 {}", number(quotient)),
             },
             11 => marked_product(from_words(&self.state).and_then(|factor| multiply_once(&factor, f[1]))),
             12 => marked_reading(from_words(&self.state).and_then(|factor| read_once(&factor, f[1] as u32))),

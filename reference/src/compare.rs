@@ -1,8 +1,9 @@
 //! The engine against the reference: every answer, word, state, list and count must be the same.
 
+use crate::directions::{of_one_step, of_product, of_quotient, places, PLACES};
 use crate::engine::{
-    self, words, COUNT_WORDS, FACTOR_WORDS, PRODUCT_WORDS, QUOTIENT_WORDS, STATE_WORDS, TALLY_WORDS, TOO_SHORT,
-    UNTOUCHED,
+    self, words, COUNT_WORDS, FACTOR_WORDS, PRODUCT_WORDS, QUOTIENT_WORDS, READING_WORDS, STATE_WORDS, TALLY_WORDS,
+    TOO_SHORT, UNTOUCHED,
 };
 use crate::factor::{greatest, least, of_high, set_up, Factor};
 use crate::figures::{pi, TABLE_1, TALLIES};
@@ -10,9 +11,11 @@ use crate::onestep::{count, multiply_once, near_ties, product_once, read_once, t
 use crate::product::{multiply, product, Mark, Product};
 use crate::quotient::{divide, divide_reading, machine, near_midpoints, quotient, Quotient};
 use crate::random::{given, Given, Random, KINDS, KNOWN};
-use crate::reading::read;
+use crate::reading::{read, Number};
+use crate::rounding::Direction;
 use crate::sweep::{call, new_state, word, Plain, State};
 use crate::{onestep, reading, search, suspects};
+use std::collections::{BTreeMap, BTreeSet};
 use std::io::{self, Write};
 use std::sync::atomic::{AtomicUsize, Ordering};
 use std::sync::Mutex;
@@ -88,12 +91,17 @@ fn parts() -> Vec<Part> {
         "random factors of every precision, with suspects, quotients near midpoints and one-step products near ties",
         large,
     ));
+    parts.push(part("directions by the dropped digits and by remainders, ties and carries among them", directions));
     parts.push(part("set-up, with every refusal", set_ups));
     parts.push(part("damaged factors", damaged));
     parts.push(part("upper halves that are not as written, through every function", upper_halves));
     parts.push(part("lists that are too short", short_lists));
     parts.push(part("readings, random and extreme, with every refusal", readings));
     parts.push(part("zeros of both signs, through every function that takes a reading", zeros));
+    parts.push(part(
+        "directions of readings of both signs, by the machine and mirrored, ties and carries among them",
+        directions_of_readings,
+    ));
     parts.push(part("quotients and one-step products of readings at every exponent, past both limits", every_exponent));
     for (name, scale, lower, upper) in KNOWN.into_iter().chain([("3/2", 0, 3 << 61, 3 << 61)]) {
         parts.push(part(format!("the whole sweep of {name} at 24 bits, in one call and in many"), move |random| {
@@ -101,7 +109,7 @@ fn parts() -> Vec<Part> {
         }));
     }
     parts.push(part("calls on states that nobody reached, and damaged ones", any_states));
-    parts.push(part("the remaining figures of document 01, and those of quotients", figures));
+    parts.push(part("the remaining figures of document 01, and those of quotients and directions", figures));
     parts.push(part("the tallies that W2 names, and those of source document 004, Table 1", figures_of_tallies));
     parts
 }
@@ -161,10 +169,10 @@ fn every_significand(random: &mut Random, factor: &Factor) -> u64 {
         let answer = engine::multiply(&words, x);
         agree!(answer, Ok(product(factor, x)), "{factor:X?} times {x:X}");
         // The machine's own operations: a third account of the same product.
-        let (mark, value) = reading::product(factor, (x - least(24)) as u32);
+        let by_machine = reading::product(factor, (x - least(24)) as u32);
         let whole = answer.expect("a product");
-        let expected = whole.significand as f32 * 2f32.powi(whole.binade as i32 - 23);
-        agree!((whole.mark, expected.to_bits()), (mark, value.to_bits()), "{factor:X?} times {x:X}, by the machine");
+        let value = whole.significand as f32 * 2f32.powi(whole.binade as i32 - 23);
+        agree!((whole.mark, value, whole.direction), by_machine, "{factor:X?} times {x:X}, by the machine");
         // As a reading, with any sign and exponent.
         let bits = random.word() as u32 & 0xFF80_0000 | (x - least(24)) as u32;
         both_read(&words, bits);
@@ -172,17 +180,17 @@ fn every_significand(random: &mut Random, factor: &Factor) -> u64 {
         let answer = engine::divide(&words, x);
         agree!(answer, Ok(quotient(factor, x)), "{x:X} divided by {factor:X?}");
         let whole = answer.expect("a quotient");
-        let expected = whole.significand as f32 * 2f32.powi(whole.binade as i32 - 23);
-        let value = machine(factor, (x - least(24)) as u32);
-        agree!(expected.to_bits(), value.to_bits(), "{x:X} divided by {factor:X?}, by the machine");
+        let value = whole.significand as f32 * 2f32.powi(whole.binade as i32 - 23);
+        let by_machine = machine(factor, (x - least(24)) as u32);
+        agree!((value, whole.direction), by_machine, "{x:X} divided by {factor:X?}, by the machine");
         both_divide_reading(&words, bits);
         // The one-step product: by whole numbers, by the machine, and now and then as a reading.
         let answer = engine::multiply_once(&words, x);
         agree!(answer, Ok(product_once(factor, x)), "{factor:X?} times {x:X} in one step");
         let whole = answer.expect("a product");
-        let expected = whole.significand as f32 * 2f32.powi(whole.binade as i32 - 23);
-        let (mark, value) = onestep::machine(factor, (x - least(24)) as u32);
-        agree!((whole.mark, expected.to_bits()), (mark, value.to_bits()), "{factor:X?} times {x:X}, by the machine");
+        let value = whole.significand as f32 * 2f32.powi(whole.binade as i32 - 23);
+        let by_machine = onestep::machine(factor, (x - least(24)) as u32);
+        agree!((whole.mark, value, whole.direction), by_machine, "{factor:X?} times {x:X}, by the machine");
         if x % 4 == 0 {
             both_read_once(&words, bits);
         }
@@ -237,7 +245,7 @@ fn every_quotient(_: &mut Random) -> u64 {
     (4..=12).flat_map(of_bits).sum()
 }
 
-/// Dividing by 2 or by 1 leaves the significand as it is, at every precision.
+/// Dividing by 2 or by 1 leaves the significand as it is, at every precision, and rounds nothing.
 fn high_two_and_one(_: &mut Random) -> u64 {
     let mut answers = 0;
     for bits in 4..=24 {
@@ -245,7 +253,7 @@ fn high_two_and_one(_: &mut Random) -> u64 {
             let factor = of_high(bits, high);
             let words = words(&factor);
             for x in least(bits)..=greatest(bits) {
-                let expected = Ok(Quotient { significand: x, binade });
+                let expected = Ok(Quotient { significand: x, binade, direction: Direction::Equal });
                 agree!(engine::divide(&words, x), expected, "{x:X} divided by {factor:X?}");
             }
             answers += least(bits);
@@ -323,7 +331,7 @@ fn every_range(random: &mut Random) -> u64 {
 /// 65,535, 65,536 and 65,537 significands at both borders and in between, where there are so many; one outside at either border, and
 /// what is no range at all.
 fn longest_tallies(random: &mut Random) -> u64 {
-    let (mut answers, mut met) = (0, std::collections::BTreeSet::new());
+    let (mut answers, mut met) = (0, BTreeSet::new());
     for bits in (17..=24).chain(17..=24) {
         let factor = accepted_at(random, bits);
         let (words, least, greatest) = (words(&factor), least(bits), greatest(bits));
@@ -429,6 +437,51 @@ fn large(random: &mut Random) -> u64 {
         }
     }
     answers
+}
+
+/// Significands whose products round in every way: ties and what lies next to them, the last ones below 2, and others.
+fn rounded_in_every_way(random: &mut Random, factor: &Factor) -> Vec<u64> {
+    let (first, last) = (least(factor.bits), greatest(factor.bits));
+    let mut significands = near_ties(factor);
+    let below_two = (1 << (2 * factor.bits - 1)) / factor.high;
+    significands.extend([below_two - 1, below_two, below_two + 1].map(|x: u64| x.clamp(first, last)));
+    significands.extend([first, last, factor.high.min(last), random.from_to(first, last)]);
+    significands
+}
+
+/// The engine's directions of products by the digits that the last rounding drops, and of quotients by the remainder, which is never half.
+/// Every way of rounding is met on both devices, and every direction of a quotient in both binades.
+fn directions(random: &mut Random) -> u64 {
+    let (mut count, mut met, mut divided) = (0, BTreeMap::new(), BTreeMap::new());
+    for i in 0..400_000 {
+        let factor = accepted_at(random, 4 + (i % 21) as u32);
+        let words = words(&factor);
+        for x in rounded_in_every_way(random, &factor) {
+            let answers = [engine::multiply(&words, x), engine::multiply_once(&words, x)];
+            for (device, place) in places(&factor, x).into_iter().enumerate() {
+                let direction = answers[device].map(|product| product.direction);
+                agree!(direction, Ok(place.direction), "{factor:X?} times {x:X}, device {device}");
+                *met.entry((device, place)).or_insert(0) += 1;
+            }
+            let Quotient { binade, direction, .. } = engine::divide(&words, x).expect("a quotient");
+            let rest = (x << (factor.bits as i64 - 1 - binade)) % factor.high;
+            let due = match rest {
+                0 => Direction::Equal,
+                _ if 2 * rest < factor.high => Direction::Below,
+                _ => Direction::Above,
+            };
+            agree!(direction, due, "{x:X} divided by {factor:X?}");
+            *divided.entry((binade, direction)).or_insert(0) += 1;
+            count += 3;
+        }
+    }
+    for due in [0, 1].into_iter().flat_map(|device| PLACES.map(|place| (device, place))) {
+        assert!(met.get(&due).is_some_and(|&count| count > 1000), "{due:?} of {met:?}");
+    }
+    for due in [-1, 0].into_iter().flat_map(|binade| Direction::ALL.map(|direction| (binade, direction))) {
+        assert!(divided.get(&due).is_some_and(|&count| count > 1000), "{due:?} of {divided:?}");
+    }
+    count
 }
 
 fn set_ups(random: &mut Random) -> u64 {
@@ -544,6 +597,16 @@ type ProductBy = fn(&Factor, u64) -> Result<Product, u32>;
 const PRODUCTS: [(ProductTo, ProductBy); 2] =
     [(engine::multiply_to, multiply), (engine::multiply_once_to, multiply_once)];
 
+type ReadingTo = fn(&[u64], u32, &mut [u32]) -> u32;
+type ReadingBy = fn(&Factor, u32) -> Result<(u32, Number), u32>;
+
+/// The functions that take a reading, by the engine and by the reference, which tells the answer's number too: a mark, or 0.
+const READINGS: [(ReadingTo, ReadingBy); 3] = [
+    (engine::read_to, |factor, bits| read(factor, bits).map(|(mark, number)| (mark.number(), number))),
+    (engine::read_once_to, |factor, bits| read_once(factor, bits).map(|(mark, number)| (mark.number(), number))),
+    (engine::divide_reading_to, |factor, bits| divide_reading(factor, bits).map(|number| (0, number))),
+];
+
 fn short_lists(random: &mut Random) -> u64 {
     let mut answers = 0;
     for _ in 0..1000 {
@@ -564,7 +627,7 @@ fn short_lists(random: &mut Random) -> u64 {
             answers += 1;
         }
         for factor_length in 0..=FACTOR_WORDS {
-            for length in 0..=PRODUCT_WORDS {
+            for length in 0..=PRODUCT_WORDS + 1 {
                 for (to, by) in PRODUCTS {
                     let x = least(factor.bits);
                     let mut out = vec![UNTOUCHED; length];
@@ -573,9 +636,10 @@ fn short_lists(random: &mut Random) -> u64 {
                     let number = if factor_length < FACTOR_WORDS || length < PRODUCT_WORDS {
                         TOO_SHORT
                     } else {
-                        let product = by(&factor, x).expect("a product");
-                        expected.copy_from_slice(&[product.significand, product.binade as u64]);
-                        product.mark.number()
+                        let Product { mark, significand, binade, direction } = by(&factor, x).expect("a product");
+                        let written = [significand, binade as u64, direction.number() as u64];
+                        expected[..PRODUCT_WORDS].copy_from_slice(&written);
+                        mark.number()
                     };
                     agree!((answer, out), (number, expected), "a product of {factor_length} words into {length}");
                     answers += 1;
@@ -600,7 +664,7 @@ fn short_lists(random: &mut Random) -> u64 {
                     answers += 1;
                 }
             }
-            for length in 0..=QUOTIENT_WORDS {
+            for length in 0..=QUOTIENT_WORDS + 1 {
                 let x = greatest(factor.bits);
                 let mut out = vec![UNTOUCHED; length];
                 let answer = engine::divide_to(&words[..factor_length], x, &mut out);
@@ -608,32 +672,33 @@ fn short_lists(random: &mut Random) -> u64 {
                 let number = if factor_length < FACTOR_WORDS || length < QUOTIENT_WORDS {
                     TOO_SHORT
                 } else {
-                    let quotient = divide(&factor, x).expect("a quotient");
-                    expected.copy_from_slice(&[quotient.significand, quotient.binade as u64]);
+                    let Quotient { significand, binade, direction } = divide(&factor, x).expect("a quotient");
+                    let written = [significand, binade as u64, direction.number() as u64];
+                    expected[..QUOTIENT_WORDS].copy_from_slice(&written);
                     0
                 };
                 agree!((answer, out), (number, expected), "a quotient of {factor_length} words into {length}");
                 answers += 1;
             }
             let enough = factor_length == FACTOR_WORDS;
-            for length in 0..2 {
-                let mut out = vec![5; length];
-                let answer = engine::divide_reading_to(&words[..factor_length], 0x8000_0000, &mut out);
-                let refused = if factor.bits == 24 { 0 } else { 20 };
-                let number = if enough && length > 0 { refused } else { TOO_SHORT };
-                let left = if number == 0 { 0x8000_0000 } else { 5 };
-                agree!((answer, out), (number, vec![left; length]), "a zero divided into {length} words");
-                answers += 1;
-            }
-            for length in 0..2 {
-                for to in [engine::read_to, engine::read_once_to] {
-                    let mut out = vec![5; length];
-                    let answer = to(&words[..factor_length], 0x8000_0000, &mut out);
-                    let refused = if factor.bits == 24 { 1 } else { 20 };
-                    let number = if enough && length > 0 { refused } else { TOO_SHORT };
-                    let left = if number == 1 { 0x8000_0000 } else { 5 };
-                    agree!((answer, out), (number, vec![left; length]), "a reading of zero into {length} words");
-                    answers += 1;
+            for length in 0..=READING_WORDS + 1 {
+                for (to, by) in READINGS {
+                    // A zero, and a reading of any kind.
+                    for bits in [0x8000_0000, reading_bits(random, factor.scale)] {
+                        let mut out = vec![5; length];
+                        let answer = to(&words[..factor_length], bits, &mut out);
+                        let mut expected = vec![5; length];
+                        let number = match by(&factor, bits) {
+                            _ if !enough || length < READING_WORDS => TOO_SHORT,
+                            Ok((number, Number { bits, direction })) => {
+                                expected[..READING_WORDS].copy_from_slice(&[bits, direction.number()]);
+                                number
+                            }
+                            Err(refusal) => refusal,
+                        };
+                        agree!((answer, out), (number, expected), "the reading {bits:X} into {length} words");
+                        answers += 1;
+                    }
                 }
             }
             for length in STATE_WORDS - 2..=STATE_WORDS {
@@ -762,7 +827,6 @@ fn readings(random: &mut Random) -> u64 {
     answers
 }
 
-type ReadingTo = fn(&[u64], u32, &mut [u32]) -> u32;
 type Operation = fn(f32, f32) -> f32;
 
 /// The functions that take a reading, with the number that an accepted zero is answered with and the machine's operation that is due.
@@ -773,20 +837,20 @@ const OF_READINGS: [(ReadingTo, u32, Operation); 3] = [
 ];
 
 /// A zero through these functions, from and into lists of every length. With a good factor its answer is the machine's own operation on
-/// the zero and Ch × 2^k; a refusal writes nothing.
+/// the zero and Ch × 2^k, and equal; a refusal writes nothing.
 fn zero_to_lists(words: &[u64], factor: Result<Factor, u32>, zero: f32) -> u64 {
     let mut answers = 0;
     for (to, number, operation) in OF_READINGS {
         let applied = |factor: Factor| f32::from_bits(factor.high_float) * 2f32.powi(factor.scale);
         let due = factor.map(|factor| operation(zero, applied(factor)).to_bits());
         for factor_length in 0..=words.len() {
-            for length in 0..=2 {
+            for length in 0..=READING_WORDS + 1 {
                 let expected = match due {
-                    _ if factor_length < FACTOR_WORDS || length == 0 => (TOO_SHORT, [5; 2]),
-                    Err(refusal) => (refusal, [5; 2]),
-                    Ok(bits) => (number, [bits, 5]),
+                    _ if factor_length < FACTOR_WORDS || length < READING_WORDS => (TOO_SHORT, [5; 3]),
+                    Err(refusal) => (refusal, [5; 3]),
+                    Ok(bits) => (number, [bits, Direction::Equal.number(), 5]),
                 };
-                let mut out = [5; 2];
+                let mut out = [5; 3];
                 let answer = to(&words[..factor_length], zero.to_bits(), &mut out[..length]);
                 agree!((answer, out), expected, "{zero:?} and {factor_length} words of {words:X?} into {length}");
                 answers += 1;
@@ -799,7 +863,7 @@ fn zero_to_lists(words: &[u64], factor: Result<Factor, u32>, zero: f32) -> u64 {
 /// Zeros of both signs with factors of every kind, with low parts of every sign, of other precisions and damaged: by the machine's own
 /// operations, and by the reference.
 fn zeros(random: &mut Random) -> u64 {
-    let (mut answers, mut met) = (0, std::collections::BTreeMap::new());
+    let (mut answers, mut met) = (0, BTreeMap::new());
     for i in 0..20_000 {
         let bits = if i % 4 == 0 { random.from_to(4, 24) as u32 } else { 24 };
         let mut words = words(&accepted(random, bits));
@@ -835,11 +899,75 @@ fn zeros(random: &mut Random) -> u64 {
     answers
 }
 
+type NumberBy = fn(&[u64], u32) -> Result<(u32, Number), u32>;
+type DirectionBy = fn(&Factor, f32, f32) -> Direction;
+
+/// The engine's functions that take a reading, with the machine's account of their directions.
+const DIRECTIONS_OF_READINGS: [(NumberBy, DirectionBy); 3] = [
+    (|words, bits| engine::read(words, bits).map(|(mark, number)| (mark.number(), number)), of_product),
+    (|words, bits| engine::read_once(words, bits).map(|(mark, number)| (mark.number(), number)), of_one_step),
+    (|words, bits| engine::divide_reading(words, bits).map(|number| (0, number)), of_quotient),
+];
+
+/// The high parts of 24 bits that take a significand half a unit below 2, a tie that is carried: both make 2^22 × (2^25 - 1), and
+/// 2^25 - 1 is 31 × 601 × 1801.
+const HALF_BELOW_TWO: [u64; 6] = [31 << 19, 601 << 14, 1801 << 13, 18_631 << 9, 55_831 << 8, 1_082_401 << 3];
+
+/// Readings of both signs: the direction is that of exact numbers of the machine with the sign on them, and the other sign's mirrored. Every
+/// way of rounding is met with both signs on both devices, every direction of a quotient too, and refusals.
+fn directions_of_readings(random: &mut Random) -> u64 {
+    let (mut answers, mut met, mut directions) = (0, BTreeMap::new(), BTreeMap::new());
+    for i in 0..150_000 {
+        let factor = match i % 100 {
+            0 => Factor { scale: random.below(201) as i32 - 100, ..of_high(24, random.one_of(&HALF_BELOW_TWO)) },
+            _ => accepted_at(random, 24),
+        };
+        let words = words(&factor);
+        for x in rounded_in_every_way(random, &factor) {
+            let places = places(&factor, x);
+            for (function, (number_by, direction_by)) in DIRECTIONS_OF_READINGS.into_iter().enumerate() {
+                // A normal reading, and the answer's exponent is within the limits, most often.
+                let raised = if function == 2 { -factor.scale } else { factor.scale };
+                let field = (random.below(257) as i32 - raised).clamp(1, 254) as u32;
+                let plus = field << 23 | x as u32 & 0x7F_FFFF;
+                let there = number_by(&words, plus);
+                let mirrored = there.map(|(number, Number { bits, direction })| {
+                    (number, Number { bits: bits ^ 0x8000_0000, direction: direction.mirrored() })
+                });
+                agree!(number_by(&words, plus ^ 0x8000_0000), mirrored, "{words:X?} and minus the reading {plus:X}");
+                answers += 2;
+                for (reading, answer) in [(plus, there), (plus ^ 0x8000_0000, mirrored)] {
+                    let minus = reading != plus;
+                    *directions.entry((function, minus, answer.map(|(_, number)| number.direction))).or_insert(0) += 1;
+                    let Ok((_, Number { bits, direction })) = answer else { continue };
+                    let due = direction_by(&factor, f32::from_bits(reading), f32::from_bits(bits));
+                    agree!(direction, due, "{words:X?} and the reading {reading:X}, by the machine");
+                    if let Some(place) = places.get(function) {
+                        *met.entry((function, minus, *place)).or_insert(0) += 1;
+                    }
+                }
+            }
+        }
+    }
+    for minus in [false, true] {
+        for due in [0, 1].into_iter().flat_map(|device| PLACES.map(|place| (device, minus, place))) {
+            assert!(met.get(&due).is_some_and(|&count| count > 100), "{due:?} of {met:?}");
+        }
+        for function in 0..3 {
+            for due in Direction::ALL.map(Ok).into_iter().chain([Err(23)]) {
+                let count = directions.get(&(function, minus, due));
+                assert!(count.is_some_and(|&count| count > 1000), "{function} {minus} {due:?} of {directions:?}");
+            }
+        }
+    }
+    answers
+}
+
 /// Every sign and exponent, zeros, subnormal numbers, infinities and NaN included, for scales of every size, significands next to
 /// the high part and high parts next to 1 and 2. Both binades of the quotient and of the one-step product meet both limits, and are
 /// refused past them.
 fn every_exponent(_: &mut Random) -> u64 {
-    let (mut answers, mut met) = (0, std::collections::BTreeSet::new());
+    let (mut answers, mut met) = (0, BTreeSet::new());
     let one = least(24);
     for high in [one, one + 1, 0xA2_F983, 0xC0_0000, 2 * one - 1, 2 * one] {
         for scale in [-100, -99, -28, -1, 0, 1, 26, 99, 100] {
@@ -855,10 +983,10 @@ fn every_exponent(_: &mut Random) -> u64 {
                     answers += 2;
                     let large = upper & 0xFF > 127;
                     let quotient = divide_reading(&factor, bits);
-                    met.insert((false, x < high, large, quotient.map(|bits| bits >> 23 & 0xFF)));
+                    met.insert((false, x < high, large, quotient.map(|number| number.bits >> 23 & 0xFF)));
                     let product = read_once(&factor, bits);
                     let binade = product_once(&factor, x).binade;
-                    met.insert((true, binade == 1, large, product.map(|(_, bits)| bits >> 23 & 0xFF)));
+                    met.insert((true, binade == 1, large, product.map(|(_, number)| number.bits >> 23 & 0xFF)));
                 }
             }
         }
@@ -1035,25 +1163,34 @@ fn any_states(random: &mut Random) -> u64 {
     count
 }
 
-/// Scale 100 with 3/2, and the square root of 2, of which nothing fails; the quotients that were worked out by hand.
+/// Scale 100 with 3/2, and the square root of 2, of which nothing fails; the quotients and directions that were worked out by hand.
 fn figures(_: &mut Random) -> u64 {
     let factor = engine::set_up(24, 100, 3 << 61, 3 << 61).expect("an accepted factor");
     let bits = |exponent: u32| (127 + exponent) << 23;
-    agree!(engine::read(&words(&factor), bits(27)), Ok((Mark::Right, 0x7F40_0000)), "the reading 2^27 at scale 100");
+    let due = Ok((Mark::Right, Number::equal(0x7F40_0000)));
+    agree!(engine::read(&words(&factor), bits(27)), due, "the reading 2^27 at scale 100");
     agree!(engine::read(&words(&factor), bits(28)), Err(23), "the reading 2^28 at scale 100");
     let root = engine::set_up(24, 0, 0x5A827999FCEF3242, 0x5A827999FCEF3243).expect("an accepted factor");
     let mut state = engine::new_sweep(&words(&root), least(24), greatest(24)).expect("a good range");
     let counts = engine::sweep(&mut state, u64::MAX, &mut [7], 0).expect("an accepted call");
     agree!((counts.place, state[12]), (0, 1), "the sweep of the square root of 2");
     let factor = engine::set_up(4, 0, 3 << 61, 3 << 61).expect("an accepted factor");
-    for (x, significand, binade) in [(8, 11, -1), (12, 8, 0), (15, 10, 0)] {
-        let expected = Ok(Quotient { significand, binade });
+    let quotients = [(8, 11, -1, Direction::Above), (12, 8, 0, Direction::Equal), (14, 9, 0, Direction::Below)];
+    for (x, significand, binade, direction) in quotients {
+        let expected = Ok(Quotient { significand, binade, direction });
         agree!(engine::divide(&words(&factor), x), expected, "{x} divided by 3/2");
     }
     let (_, scale, lower, upper) = KNOWN[0];
     let factor = engine::set_up(24, scale, lower, upper).expect("an accepted factor");
-    agree!(engine::divide_reading(&words(&factor), 0x3F00_0000), Ok(0x3FC9_0FDB), "1/2 divided by 1/pi");
-    8
+    let due = Ok(Number::below(0x3FC9_0FDB));
+    agree!(engine::divide_reading(&words(&factor), 0x3F00_0000), due, "1/2 divided by 1/pi");
+    for (reading, due) in [(0x3FC8_F5C3, Number::below(0x3EFF_DEC7)), (0xBFC8_F5C3, Number::above(0xBEFF_DEC7))] {
+        agree!(engine::read(&words(&factor), reading), Ok((Mark::Right, due)), "1/pi applied to {reading:X}");
+    }
+    let factor = engine::set_up(4, 0, 0x5555555555555555, 0x5555555555555556).expect("an accepted factor");
+    let directions = (8..16).map(|x| engine::multiply(&words(&factor), x).expect("a product").direction.number());
+    agree!(directions.collect::<Vec<_>>(), [3, 2, 1, 3, 2, 3, 1, 2], "directions of 4/3");
+    18
 }
 
 /// The tallies that are due, each by one call and by adjoining ones; and the table's, which are those of all significands, by

@@ -4,11 +4,14 @@ use crate::factor::{Factor, Refusal};
 use crate::onestep::Tally;
 use crate::product::{Mark, Product};
 use crate::quotient::Quotient;
+use crate::reading::Number;
+use crate::rounding::Direction;
 use crate::sweep::Counts;
 pub use crate::words::{from_words, state_from, state_words, words, FACTOR_WORDS, STATE_WORDS};
 
-pub const PRODUCT_WORDS: usize = 2;
-pub const QUOTIENT_WORDS: usize = 2;
+pub const PRODUCT_WORDS: usize = 3;
+pub const QUOTIENT_WORDS: usize = 3;
+pub const READING_WORDS: usize = 2;
 pub const TALLY_WORDS: usize = 3;
 pub const COUNT_WORDS: usize = 3;
 pub const TOO_SHORT: u32 = 255;
@@ -138,6 +141,10 @@ pub fn mark(number: u32) -> Option<Mark> {
     [Mark::Right, Mark::Open, Mark::Wrong].into_iter().find(|mark| mark.number() == number)
 }
 
+fn direction(word: u64) -> Direction {
+    Direction::ALL.into_iter().find(|direction| direction.number() as u64 == word).expect("a direction")
+}
+
 pub fn multiply(factor: &[u64], x: u64) -> Result<Product, Refusal> {
     product_by(multiply_to, factor, x)
 }
@@ -146,7 +153,7 @@ pub fn multiply_once(factor: &[u64], x: u64) -> Result<Product, Refusal> {
     product_by(multiply_once_to, factor, x)
 }
 
-/// The product that a device's function writes: mark, significand and binade, and nothing past them.
+/// The product that a device's function writes: mark, significand, binade and direction, and nothing past them.
 fn product_by(device: impl Fn(&[u64], u64, &mut [u64]) -> u32, factor: &[u64], x: u64) -> Result<Product, Refusal> {
     let mut out = [UNTOUCHED; PRODUCT_WORDS + 1];
     let number = device(factor, x, &mut out);
@@ -154,7 +161,7 @@ fn product_by(device: impl Fn(&[u64], u64, &mut [u64]) -> u32, factor: &[u64], x
     match mark(number) {
         Some(mark) => {
             let binade = u32::try_from(out[1]).expect("a binade");
-            Ok(Product { mark, significand: out[0], binade })
+            Ok(Product { mark, significand: out[0], binade, direction: direction(out[2]) })
         }
         None => {
             assert_eq!(out, [UNTOUCHED; PRODUCT_WORDS + 1]);
@@ -163,27 +170,30 @@ fn product_by(device: impl Fn(&[u64], u64, &mut [u64]) -> u32, factor: &[u64], x
     }
 }
 
-pub fn read(factor: &[u64], reading: u32) -> Result<(Mark, u32), Refusal> {
-    reading_by(read_to, factor, reading)
+pub fn read(factor: &[u64], reading: u32) -> Result<(Mark, Number), Refusal> {
+    number_by(read_to, factor, reading, mark)
 }
 
-pub fn read_once(factor: &[u64], reading: u32) -> Result<(Mark, u32), Refusal> {
-    reading_by(read_once_to, factor, reading)
+pub fn read_once(factor: &[u64], reading: u32) -> Result<(Mark, Number), Refusal> {
+    number_by(read_once_to, factor, reading, mark)
 }
 
-fn reading_by(
-    device: impl Fn(&[u64], u32, &mut [u32]) -> u32,
+/// The number that a function of readings writes where its answer is accepted: bits and direction, and nothing past them.
+fn number_by<T>(
+    function: impl Fn(&[u64], u32, &mut [u32]) -> u32,
     factor: &[u64],
     reading: u32,
-) -> Result<(Mark, u32), Refusal> {
-    let mut out = [0xA5A5_5A5A; 2];
-    let number = device(factor, reading, &mut out);
-    assert_eq!(out[1], 0xA5A5_5A5A);
-    match mark(number) {
-        Some(mark) => Ok((mark, out[0])),
+    accepted: impl Fn(u32) -> Option<T>,
+) -> Result<(T, Number), Refusal> {
+    let untouched = UNTOUCHED as u32;
+    let mut out = [untouched; READING_WORDS + 1];
+    let answer = function(factor, reading, &mut out);
+    assert_eq!(out[READING_WORDS], untouched);
+    match accepted(answer) {
+        Some(accepted) => Ok((accepted, Number { bits: out[0], direction: direction(out[1] as u64) })),
         None => {
-            assert_eq!(out[0], 0xA5A5_5A5A);
-            Err(number)
+            assert_eq!(out, [untouched; READING_WORDS + 1]);
+            Err(answer)
         }
     }
 }
@@ -193,7 +203,7 @@ pub fn divide(factor: &[u64], x: u64) -> Result<Quotient, Refusal> {
     let number = divide_to(factor, x, &mut out);
     assert_eq!(out[QUOTIENT_WORDS], UNTOUCHED);
     match number {
-        0 => Ok(Quotient { significand: out[0], binade: out[1] as i64 }),
+        0 => Ok(Quotient { significand: out[0], binade: out[1] as i64, direction: direction(out[2]) }),
         refusal => {
             assert_eq!(out, [UNTOUCHED; QUOTIENT_WORDS + 1]);
             Err(refusal)
@@ -201,17 +211,8 @@ pub fn divide(factor: &[u64], x: u64) -> Result<Quotient, Refusal> {
     }
 }
 
-pub fn divide_reading(factor: &[u64], reading: u32) -> Result<u32, Refusal> {
-    let mut out = [0xA5A5_5A5A; 2];
-    let number = divide_reading_to(factor, reading, &mut out);
-    assert_eq!(out[1], 0xA5A5_5A5A);
-    match number {
-        0 => Ok(out[0]),
-        refusal => {
-            assert_eq!(out[0], 0xA5A5_5A5A);
-            Err(refusal)
-        }
-    }
+pub fn divide_reading(factor: &[u64], reading: u32) -> Result<Number, Refusal> {
+    number_by(divide_reading_to, factor, reading, |answer| (answer == 0).then_some(())).map(|((), number)| number)
 }
 
 pub fn tally(factor: &[u64], first: u64, last: u64) -> Result<Tally, Refusal> {

@@ -1,12 +1,14 @@
-//! Document 01's example and figures, those of quotients, of the one-step device and of zeros, and the reference's methods held against
-//! each other.
+//! Document 01's example and figures, those of quotients, of the one-step device, of zeros and of directions, and the reference's methods
+//! held against each other.
 
+use crate::directions::{of_one_step, of_product, of_quotient, places, PLACES};
 use crate::factor::{greatest, least, set_up, Factor};
 use crate::onestep::{self, count, count_by_values, multiply_once, near_ties, product_once, read_once, tally, Tally};
 use crate::product::{multiply, product, Mark, Product};
 use crate::quotient::{divide, divide_reading, is_nearest, machine, near_midpoints, quotient, Quotient};
 use crate::random::{given, Random, KINDS, KNOWN};
-use crate::reading::read;
+use crate::reading::{self, read, Number};
+use crate::rounding::Direction;
 use crate::sweep::{call, new_state, Plain};
 use crate::{frame, search, suspects};
 use std::io::{self, Write};
@@ -90,10 +92,13 @@ pub fn selftest(output: &mut dyn Write) -> io::Result<()> {
     one_step_of_every_precision();
     zeros();
     zeros_of_many_factors();
+    directions();
+    directions_of_readings();
+    directions_of_every_precision();
     methods();
     writeln!(
         output,
-        "selftest: document 01's example and figures stand, those of quotients, of the one-step device and of zeros too, and the methods agree"
+        "selftest: document 01's example and figures stand, those of quotients, of the one-step device, of zeros and of directions too, and the methods agree"
     )
 }
 
@@ -152,7 +157,7 @@ fn table() {
 
 fn scale_100() {
     let factor = set_up(24, 100, 3 << 61, 3 << 61).expect("an accepted factor");
-    assert_eq!(read(&factor, (127 + 27) << 23), Ok((Mark::Right, 1.5f32.to_bits() + (127 << 23))));
+    assert_eq!(read(&factor, (127 + 27) << 23), Ok((Mark::Right, Number::equal(1.5f32.to_bits() + (127 << 23)))));
     assert_eq!(read(&factor, (127 + 28) << 23), Err(23));
 }
 
@@ -185,9 +190,9 @@ fn quotients() {
 fn quotients_of_readings() {
     // A diameter of 1/2 by 1/pi: a girth of pi/2.
     let f = set_up(24, -2, 0x517CC1B727220A94, 0x517CC1B727220A95).expect("an accepted factor");
-    assert_eq!(divide_reading(&f, 0x3F000000), Ok(0x3FC90FDB));
-    assert_eq!(divide_reading(&f, 0xBF000000), Ok(0xBFC90FDB));
-    assert_eq!(divide_reading(&f, 0x80000000), Ok(0x80000000));
+    assert_eq!(divide_reading(&f, 0x3F000000), Ok(Number::below(0x3FC90FDB)));
+    assert_eq!(divide_reading(&f, 0xBF000000), Ok(Number::above(0xBFC90FDB)));
+    assert_eq!(divide_reading(&f, 0x80000000), Ok(Number::equal(0x80000000)));
     assert_eq!(divide_reading(&f, 0x7F800000), Err(21));
     assert_eq!(divide_reading(&f, 0x807FFFFF), Err(22));
     assert_eq!(divide_reading(&Factor { scale: 101, ..f }, 0x7F800000), Err(31));
@@ -195,20 +200,20 @@ fn quotients_of_readings() {
     // 3/2: 1 is divided into the lower binade, 3/2 is not; so the exponents' limits are met one apart.
     let reading = |x: f32, exponent: i32| x.to_bits().wrapping_add_signed(exponent << 23);
     let f = set_up(24, 100, 3 << 61, 3 << 61).expect("an accepted factor");
-    assert_eq!(divide_reading(&f, reading(1.0, -25)), Ok(0x00AAAAAB));
+    assert_eq!(divide_reading(&f, reading(1.0, -25)), Ok(Number::above(0x00AAAAAB)));
     assert_eq!(divide_reading(&f, reading(1.0, -26)), Err(23));
-    assert_eq!(divide_reading(&f, reading(1.5, -26)), Ok(0x00800000));
+    assert_eq!(divide_reading(&f, reading(1.5, -26)), Ok(Number::equal(0x00800000)));
     assert_eq!(divide_reading(&f, reading(1.5, -27)), Err(23));
     let f = set_up(24, -100, 3 << 61, 3 << 61).expect("an accepted factor");
-    assert_eq!(divide_reading(&f, reading(1.0, 28)), Ok(0x7F2AAAAB));
+    assert_eq!(divide_reading(&f, reading(1.0, 28)), Ok(Number::above(0x7F2AAAAB)));
     assert_eq!(divide_reading(&f, reading(1.0, 29)), Err(23));
-    assert_eq!(divide_reading(&f, reading(1.5, 27)), Ok(0x7F000000));
+    assert_eq!(divide_reading(&f, reading(1.5, 27)), Ok(Number::equal(0x7F000000)));
     assert_eq!(divide_reading(&f, reading(1.5, 28)), Err(23));
     // Just below 2^-126: one division of the whole reading would round it up to that, by a tie of subnormal numbers.
     let f = accepted(24, (1 << 63) - 1, (1 << 63) - 1);
     assert_eq!((f32::from_bits(0x00FFFFFF) / 2.0).to_bits(), 0x00800000);
     assert_eq!(divide_reading(&f, 0x00FFFFFF), Err(23));
-    assert_eq!(divide_reading(&f, 0x01000000), Ok(0x00800000));
+    assert_eq!(divide_reading(&f, 0x01000000), Ok(Number::equal(0x00800000)));
 }
 
 /// Twice the distance from x / C to the quotient, C = end / 2^62, and the unit in the last place of x / C, both over the same.
@@ -242,7 +247,8 @@ fn farthest_quotients() {
         let end = (1 << 62) + (1 << (61 - half)) - (1 << (62 - bits));
         let (x, binade) = if bits % 2 == 0 { ((1 << bits) - (1 << (half - 1)), 0) } else { (least(bits), -1) };
         let factor = accepted(bits, end, end);
-        assert_eq!(quotient(&factor, x), Quotient { significand: (1 << bits) - (1 << half), binade });
+        let due = Quotient { significand: (1 << bits) - (1 << half), binade, direction: Direction::Below };
+        assert_eq!(quotient(&factor, x), due);
         assert!(near_enough(&factor, x, quotient_off));
         let (twice_off, unit) = quotient_off(&factor, end, x);
         assert!(bits < 24 || 100_000 * twice_off / (2 * unit) == 149_957);
@@ -262,9 +268,9 @@ fn quotients_of_every_precision() {
         for x in significands {
             assert!(is_nearest(&factor, x) && near_enough(&factor, x, quotient_off), "{factor:X?} {x:X}");
             if factor.bits == 24 {
-                let Quotient { significand, binade } = quotient(&factor, x);
+                let Quotient { significand, binade, direction } = quotient(&factor, x);
                 let value = significand as f32 * 2f32.powi(binade as i32 - 23);
-                assert_eq!(machine(&factor, x as u32 & 0x7F_FFFF), value, "{factor:X?} {x:X}");
+                assert_eq!(machine(&factor, x as u32 & 0x7F_FFFF), (value, direction), "{factor:X?} {x:X}");
             }
         }
     }
@@ -287,7 +293,8 @@ fn one_step() {
     let f = accepted(4, 0x4BFFFC0000000000, 0x4BFFFC0000000000);
     assert_eq!(answer(&f, 8), Ok((9, 0, Mark::Right)));
     assert_eq!(answer(&f, 15), Ok((8, 1, Mark::Wrong)));
-    assert_eq!(product(&f, 15), Product { significand: 9, binade: 1, mark: Mark::Right });
+    let due = Product { significand: 9, binade: 1, mark: Mark::Right, direction: Direction::Above };
+    assert_eq!(product(&f, 15), due);
     // P3's factor: its high part is 10/8, and 9 × 10/8 lies between what the ends are rounded to.
     let f = accepted(4, 0x51C71C71C71C71C7, 0x51C71C71C71C71C8);
     assert_eq!(answer(&f, 9), Ok((11, 0, Mark::Open)));
@@ -305,22 +312,22 @@ fn one_step_readings() {
     let f = set_up(24, -2, 0x517CC1B727220A94, 0x517CC1B727220A95).expect("an accepted factor");
     let applied = f32::from_bits(f.high_float) / 4.0;
     for girth in [1.57f32, -1.57, 1.0, 3.0e38, 4.0e-38] {
-        assert_eq!(read_once(&f, girth.to_bits()).map(|answer| answer.1), Ok((girth * applied).to_bits()));
+        assert_eq!(read_once(&f, girth.to_bits()).map(|answer| answer.1.bits), Ok((girth * applied).to_bits()));
     }
-    assert_eq!(read_once(&f, 0x80000000), Ok((Mark::Right, 0x80000000)));
+    assert_eq!(read_once(&f, 0x80000000), Ok((Mark::Right, Number::equal(0x80000000))));
     assert_eq!(read_once(&f, 0x7F800000), Err(21));
     assert_eq!(read_once(&f, 0x807FFFFF), Err(22));
     assert_eq!(read_once(&f, 0x00800000), Err(23));
     assert_eq!(read_once(&Factor { scale: 101, ..f }, 0x7F800000), Err(31));
     assert_eq!(read_once(&accepted(23, 3 << 61, 3 << 61), 0x7F800000), Err(20));
     let f = set_up(24, 100, 3 << 61, 3 << 61).expect("an accepted factor");
-    assert_eq!(read_once(&f, (127 + 27) << 23), Ok((Mark::Right, 1.5f32.to_bits() + (127 << 23))));
+    assert_eq!(read_once(&f, (127 + 27) << 23), Ok((Mark::Right, Number::equal(1.5f32.to_bits() + (127 << 23)))));
     assert_eq!(read_once(&f, (127 + 28) << 23), Err(23));
     // Just below 2^-126: one multiplication of the whole reading would round it up to that, by a tie of subnormal numbers.
     let f = set_up(24, -1, 1 << 62, 1 << 62).expect("an accepted factor");
     assert_eq!((f32::from_bits(0x00FFFFFF) * 0.5).to_bits(), 0x00800000);
     assert_eq!(read_once(&f, 0x00FFFFFF), Err(23));
-    assert_eq!(read_once(&f, 0x01000000), Ok((Mark::Right, 0x00800000)));
+    assert_eq!(read_once(&f, 0x01000000), Ok((Mark::Right, Number::equal(0x00800000))));
     // One binary32 multiplication of the whole reading by Ch × 2^k, where the product is not refused; and 23 where it lies outside.
     let mut random = Random::new(8);
     let mut refused = [0, 0];
@@ -332,12 +339,17 @@ fn one_step_readings() {
             continue;
         }
         let applied = f32::from_bits(factor.high_float) * 2f32.powi(factor.scale);
+        // With its sign, in binary64.
+        let exact = reading as f64 * applied as f64;
         match read_once(&factor, reading.to_bits()) {
-            Ok((_, bits)) => assert_eq!(bits, (reading * applied).to_bits()),
+            Ok((_, Number { bits, direction })) => {
+                let value = reading * applied;
+                assert_eq!(bits, value.to_bits());
+                assert_eq!(direction, Direction::of_exact(value as f64, exact), "{factor:X?} {reading}");
+            }
             Err(refusal) => {
                 assert_eq!(refusal, 23);
-                // Exact in binary64.
-                let size = (reading as f64 * applied as f64).abs();
+                let size = exact.abs();
                 assert!(size < 2f64.powi(-126) || 2f64.powi(128) <= size, "{factor:X?} {reading}");
                 refused[(size > 1.0) as usize] += 1;
             }
@@ -346,8 +358,8 @@ fn one_step_readings() {
     assert!(refused.iter().all(|&count| count > 10_000), "{refused:?}");
 }
 
-/// 003's example 1, for even and for odd precisions: hardly better than the bound, at 24 bits 1.499756 units. For odd ones the product
-/// lies a binade above C × x. (At 4 bits C is a tie whose even neighbour is 1, and the example none.)
+/// 003's example 1, for even and for odd precisions: hardly better than the bound, at 24 bits 1.499756 units. Ch × x is a tie that goes
+/// up, for odd precisions into the binade above C × x. (At 4 bits C is a tie whose even neighbour is 1, and the example none.)
 fn farthest_one_step() {
     for bits in 5..=24 {
         let half = bits / 2;
@@ -355,7 +367,8 @@ fn farthest_one_step() {
         let x = (1 << bits) - (1 << half);
         let (significand, binade) = if bits % 2 == 0 { (x + (1 << (half - 1)), 0) } else { (least(bits), 1) };
         let factor = accepted(bits, end, end);
-        assert_eq!(product_once(&factor, x), Product { mark: Mark::Wrong, significand, binade });
+        let due = Product { mark: Mark::Wrong, significand, binade, direction: Direction::Above };
+        assert_eq!(product_once(&factor, x), due);
         assert!(near_enough(&factor, x, one_step_off));
         let (twice_off, unit) = one_step_off(&factor, end, x);
         assert_eq!((3 * unit - twice_off) << ((bits + 1) / 2), 2 * unit);
@@ -413,9 +426,10 @@ fn one_step_of_every_precision() {
         for x in significands {
             assert!(near_enough(&factor, x, one_step_off), "{factor:X?} {x:X}");
             if factor.bits == 24 {
-                let Product { mark, significand, binade } = product_once(&factor, x);
+                let Product { mark, significand, binade, direction } = product_once(&factor, x);
                 let value = significand as f32 * 2f32.powi(binade as i32 - 23);
-                assert_eq!(onestep::machine(&factor, x as u32 & 0x7F_FFFF), (mark, value), "{factor:X?} {x:X}");
+                let due = (mark, value, direction);
+                assert_eq!(onestep::machine(&factor, x as u32 & 0x7F_FFFF), due, "{factor:X?} {x:X}");
             }
         }
     }
@@ -430,9 +444,9 @@ fn zeros() {
             let f = set_up(24, scale, lower, upper).expect("an accepted factor");
             assert_eq!(f.low.signum(), sign);
             for zero in [0x00000000, 0x80000000] {
-                assert_eq!(read(&f, zero), Ok((Mark::Right, zero)));
-                assert_eq!(read_once(&f, zero), Ok((Mark::Right, zero)));
-                assert_eq!(divide_reading(&f, zero), Ok(zero));
+                assert_eq!(read(&f, zero), Ok((Mark::Right, Number::equal(zero))));
+                assert_eq!(read_once(&f, zero), Ok((Mark::Right, Number::equal(zero))));
+                assert_eq!(divide_reading(&f, zero), Ok(Number::equal(zero)));
             }
             check_zeros(&f);
         }
@@ -455,9 +469,9 @@ fn check_zeros(factor: &Factor) {
     assert!(applied.is_normal());
     for zero in [0.0f32, -0.0] {
         let (bits, product, quotient) = (zero.to_bits(), (zero * applied).to_bits(), (zero / applied).to_bits());
-        assert_eq!(read(factor, bits), Ok((Mark::Right, product)), "{factor:X?}");
-        assert_eq!(read_once(factor, bits), Ok((Mark::Right, product)), "{factor:X?}");
-        assert_eq!(divide_reading(factor, bits), Ok(quotient), "{factor:X?}");
+        let right = Ok((Mark::Right, Number::equal(product)));
+        assert_eq!((read(factor, bits), read_once(factor, bits)), (right, right), "{factor:X?}");
+        assert_eq!(divide_reading(factor, bits), Ok(Number::equal(quotient)), "{factor:X?}");
         let lost = zero.is_sign_negative() && factor.low < 0;
         let steps = high.mul_add(zero, low * zero).to_bits();
         assert_eq!(steps, if lost { 0 } else { product }, "{factor:X?}");
@@ -476,6 +490,113 @@ fn zeros_of_many_factors() {
         met[(factor.low.signum() + 1) as usize] += 1;
     }
     assert!(met.iter().all(|&factors| factors > 1000), "{met:?}");
+}
+
+/// W4's figures at 4 bits: 8 to 15, the direction of the last rounding.
+fn directions() {
+    use Direction::{Above, Below, Equal};
+    let all = [8, 9, 10, 11, 12, 13, 14, 15];
+    let two_steps = |factor: &Factor| all.map(|x| product(factor, x).direction);
+    let one_step = |factor: &Factor| all.map(|x| product_once(factor, x).direction);
+    let divided = |factor: &Factor| all.map(|x| quotient(factor, x).direction);
+    // 4/3: Ch = 11/8 and Cl = -11/256.
+    let f = accepted(4, 0x5555555555555555, 0x5555555555555556);
+    assert_eq!(two_steps(&f), [Above, Equal, Below, Above, Equal, Above, Below, Equal]);
+    assert_eq!(one_step(&f), [Equal, Below, Above, Below, Below, Above, Above, Below]);
+    assert_eq!(divided(&f), [Above, Below, Above, Equal, Above, Below, Below, Above]);
+    // 3/2 has no low part, and both devices are one: 9 × 12 / 8 = 13 1/2 is a tie that goes up, 14 × 12 / 16 = 10 1/2 one that goes down.
+    let f = accepted(4, 3 << 61, 3 << 61);
+    assert_eq!(two_steps(&f), [Equal, Above, Equal, Below, Equal, Above, Below, Below]);
+    assert_eq!(one_step(&f), two_steps(&f));
+    assert_eq!(divided(&f), [Above, Equal, Below, Above, Equal, Above, Below, Equal]);
+    let answer = |product: Product| (product.significand, product.binade, product.direction, product.mark);
+    // Ties with a low part. 5/3: 195/64 + 5/64 = 25/8, that is 12 1/2 quarters, goes down. 9/5: 210/64 + 6/64 = 27/8, 13 1/2 quarters, up.
+    // Both are C × x too, and the ends are rounded apart.
+    let f = accepted(4, 0x6AAAAAAAAAAAAAAA, 0x6AAAAAAAAAAAAAAB);
+    assert_eq!(answer(product(&f, 15)), (12, 1, Below, Mark::Open));
+    let f = accepted(4, 0x7333333333333333, 0x7333333333333334);
+    assert_eq!(answer(product(&f, 15)), (14, 1, Above, Mark::Open));
+    // Carries. 7/4 on either device: 9 × 14 / 8 = 15 3/4 is rounded up to 16, which is 8 in the next binade.
+    let f = accepted(4, 7 << 60, 7 << 60);
+    assert_eq!(answer(product(&f, 9)), (8, 1, Above, Mark::Right));
+    assert_eq!(answer(product_once(&f, 9)), (8, 1, Above, Mark::Right));
+    // 13/9, whose Ch is 3/2 and Cl -7/128: 132/64 - 5/64 = 127/64 goes up to 2, where the one-step 132/64 goes down to it.
+    let f = accepted(4, 0x5C71C71C71C71C71, 0x5C71C71C71C71C72);
+    assert_eq!(answer(product(&f, 11)), (8, 1, Above, Mark::Right));
+    assert_eq!(answer(product_once(&f, 11)), (8, 1, Below, Mark::Right));
+    // Equal says that the last rounding was exact. 10 × 12 / 8 = 15 is, but 13/9 × 10 = 14 4/9, and 15 is wrong.
+    assert_eq!(answer(product_once(&f, 10)), (15, 0, Equal, Mark::Wrong));
+    // 2731/2048 has the parts of 4/3: 99/64 - 3/64 is 3/2, and 2731/2048 × 9/8 is not.
+    let f = accepted(4, 2731 << 51, 2731 << 51);
+    assert_eq!((f.high, f.low, f.places), (11, -11, 8));
+    assert_eq!(answer(product(&f, 9)), (12, 0, Equal, Mark::Right));
+}
+
+/// 1/pi on readings. The product of 1.57 comes down in two steps and goes up to the same in one; a minus mirrors either.
+fn directions_of_readings() {
+    let f = set_up(24, -2, 0x517CC1B727220A94, 0x517CC1B727220A95).expect("an accepted factor");
+    assert_eq!(read(&f, 0x3FC8F5C3), Ok((Mark::Right, Number::below(0x3EFFDEC7))));
+    assert_eq!(read(&f, 0xBFC8F5C3), Ok((Mark::Right, Number::above(0xBEFFDEC7))));
+    assert_eq!(read_once(&f, 0x3FC8F5C3), Ok((Mark::Right, Number::above(0x3EFFDEC7))));
+    assert_eq!(read_once(&f, 0xBFC8F5C3), Ok((Mark::Right, Number::below(0xBEFFDEC7))));
+    assert_eq!(divide_reading(&f, 0x3FC8F5C3), Ok(Number::above(0x409DD569)));
+    assert_eq!(divide_reading(&f, 0xBFC8F5C3), Ok(Number::below(0xC09DD569)));
+    // Ch × pi lies below 2 and is carried there in one step; u1 takes it past 2, and the second step comes down to it.
+    assert_eq!(read(&f, 0x40490FDB), Ok((Mark::Right, Number::below(0x3F800000))));
+    assert_eq!(read_once(&f, 0x40490FDB), Ok((Mark::Right, Number::above(0x3F800000))));
+    // In one step 1 gives Ch itself.
+    assert_eq!(read(&f, 0x3F800000), Ok((Mark::Right, Number::below(0x3EA2F983))));
+    assert_eq!(read_once(&f, 0x3F800000), Ok((Mark::Right, Number::equal(0x3EA2F983))));
+    assert_eq!(read_once(&f, 0xBF800000), Ok((Mark::Right, Number::equal(0xBEA2F983))));
+    // Ch × 2^-2 divided by itself.
+    assert_eq!(divide_reading(&f, f.high_float - (2 << 23)), Ok(Number::equal(0x3F800000)));
+}
+
+/// For factors of many kinds: what is compared as whole numbers has the direction that the dropped digits tell; at 24 bits it is the
+/// machine's too, and readings of both signs have it, one mirrored. Ties and carries are met on both devices.
+fn directions_of_every_precision() {
+    let mut random = Random::new(12);
+    let mut met = std::collections::BTreeMap::new();
+    for i in 0..100_000 {
+        let given = given(&mut random, 4 + (i / KINDS % 21) as u32, i % KINDS);
+        let Ok(factor) = set_up(given.bits, given.scale, given.lower, given.upper) else { continue };
+        let (first, last) = (least(factor.bits), greatest(factor.bits));
+        let mut significands = near_ties(&factor);
+        significands.extend([first, last, random.from_to(first, last), (factor.first_high() - 1).max(first)]);
+        for x in significands {
+            let answers = [product(&factor, x), product_once(&factor, x)];
+            for (device, place) in places(&factor, x).into_iter().enumerate() {
+                assert_eq!(answers[device].direction, place.direction, "{factor:X?} {x:X}");
+                *met.entry((device, place)).or_insert(0) += 1;
+            }
+            if factor.bits == 24 {
+                check_signs(&factor, x as u32 & 0x7F_FFFF);
+            }
+        }
+    }
+    for due in [0, 1].into_iter().flat_map(|device| PLACES.map(|place| (device, place))) {
+        assert!(met.get(&due).is_some_and(|&count| count > 100), "{due:?} of {met:?}");
+    }
+}
+
+/// The significand with these fraction bits as a reading, of both signs.
+fn check_signs(factor: &Factor, fraction: u32) {
+    let whole = product(factor, (0x80_0000 | fraction) as u64);
+    let value = whole.significand as f32 * 2f32.powi(whole.binade as i32 - 23);
+    assert_eq!(reading::product(factor, fraction), (whole.mark, value, whole.direction), "{factor:X?} {fraction:X}");
+    let check = |function: &dyn Fn(u32) -> Number, direction: fn(&Factor, f32, f32) -> Direction| {
+        let plus = 0x3F80_0000 | fraction;
+        let (there, mirrored) = (function(plus), function(plus ^ 0x8000_0000));
+        let due = Number { bits: there.bits ^ 0x8000_0000, direction: there.direction.mirrored() };
+        assert_eq!(mirrored, due, "{factor:X?} {fraction:X}");
+        for (reading, number) in [(plus, there), (plus ^ 0x8000_0000, mirrored)] {
+            let by_machine = direction(factor, f32::from_bits(reading), f32::from_bits(number.bits));
+            assert_eq!(number.direction, by_machine, "{factor:X?} {fraction:X}");
+        }
+    };
+    check(&|bits| read(factor, bits).expect("a product").1, of_product);
+    check(&|bits| read_once(factor, bits).expect("a product").1, of_one_step);
+    check(&|bits| divide_reading(factor, bits).expect("a quotient"), of_quotient);
 }
 
 /// For many factors of small precision: what is not right is a suspect, both rows are one, the search finds the row, the

@@ -5,6 +5,7 @@ use crate::factor::{greatest, least, Factor, Refusal};
 use crate::onestep::{Tally, LONGEST};
 use crate::product::{Mark, Product};
 use crate::quotient::Quotient;
+use crate::rounding::Direction;
 
 /// The significand of `bits` bits nearest to a whole number that has at least so many, ties to even, and the digits dropped.
 fn rounded(whole: u128, bits: u32) -> (u64, u32) {
@@ -81,7 +82,7 @@ fn check(factor: &Factor, first: u64, last: u64) -> Result<(), Refusal> {
 }
 
 /// A product and its mark, by RN of both ends times x.
-fn marked(factor: &Factor, x: u64, significand: u64, binade: u32) -> Product {
+fn marked(factor: &Factor, x: u64, significand: u64, binade: u32, direction: Direction) -> Product {
     let rounded_by = |end: u64| {
         let (significand, dropped) = rounded(end as u128 * x as u128, factor.bits);
         significand << (dropped - 62)
@@ -94,7 +95,7 @@ fn marked(factor: &Factor, x: u64, significand: u64, binade: u32) -> Product {
     } else {
         Mark::Open
     };
-    Product { mark, significand, binade }
+    Product { mark, significand, binade, direction }
 }
 
 pub fn multiply(factor: &Factor, x: u64) -> Result<Product, Refusal> {
@@ -108,8 +109,10 @@ pub fn multiply(factor: &Factor, x: u64) -> Result<Product, Refusal> {
         let (significand, dropped) = rounded((factor.low.unsigned_abs() * x) as u128, bits);
         (significand as u128) << (dropped + 62 - factor.places)
     };
-    let (significand, dropped) = rounded(if factor.low < 0 { high - first } else { high + first }, bits);
-    Ok(marked(factor, x, significand, dropped - 62))
+    let sum = if factor.low < 0 { high - first } else { high + first };
+    let (significand, dropped) = rounded(sum, bits);
+    let direction = Direction::of(((significand as u128) << dropped).cmp(&sum));
+    Ok(marked(factor, x, significand, dropped - 62, direction))
 }
 
 pub fn divide(factor: &Factor, x: u64) -> Result<Quotient, Refusal> {
@@ -119,7 +122,12 @@ pub fn divide(factor: &Factor, x: u64) -> Result<Quotient, Refusal> {
     let below_one = x < factor.high;
     let dividend = x << (bits - 1 + below_one as u32);
     let (kept, rest) = (dividend / factor.high, dividend % factor.high);
-    Ok(Quotient { significand: kept + (2 * rest > factor.high) as u64, binade: -(below_one as i64) })
+    let (significand, direction) = match rest {
+        0 => (kept, Direction::Equal),
+        _ if 2 * rest > factor.high => (kept + 1, Direction::Above),
+        _ => (kept, Direction::Below),
+    };
+    Ok(Quotient { significand, binade: -(below_one as i64), direction })
 }
 
 /// A whole number without its last `dropped` digits, rounded.
@@ -137,9 +145,11 @@ pub fn multiply_once(factor: &Factor, x: u64) -> Result<Product, Refusal> {
     let bits = factor.bits;
     let product = factor.high * x;
     let binade = (product >> (2 * bits - 1)) as u32;
-    let kept = without(product, bits - 1 + binade);
+    let dropped = bits - 1 + binade;
+    let kept = without(product, dropped);
     let carry = (kept >> bits) as u32;
-    Ok(marked(factor, x, kept >> carry, binade + carry))
+    let direction = Direction::of((kept << dropped).cmp(&product));
+    Ok(marked(factor, x, kept >> carry, binade + carry, direction))
 }
 
 /// The refusals 31, 17 and 41, and the least significands that the high part and the ends take to 2 or more.

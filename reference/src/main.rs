@@ -6,6 +6,7 @@ mod bench;
 mod cases;
 #[cfg(engine)]
 mod compare;
+mod directions;
 #[cfg(engine)]
 mod engine;
 mod factor;

@@ -2,8 +2,8 @@
 
 use crate::factor::{greatest, least, Factor, Refusal};
 use crate::product::{marked, Mark, Product};
-use crate::reading::{mark, read_by};
-use crate::rounding::nearest;
+use crate::reading::{mark, read_by, Number};
+use crate::rounding::Direction;
 use std::ops::Add;
 
 /// One tally takes as many significands at most; more are refused with 41.
@@ -46,17 +46,19 @@ pub fn multiply_once(factor: &Factor, x: u64) -> Result<Product, Refusal> {
 
 /// The one-step product of an intact factor and a significand that 17 does not refuse: an exact fraction, rounded once.
 pub fn product_once(factor: &Factor, x: u64) -> Product {
-    marked(factor, x, nearest(factor.bits, factor.high_part().times(factor.fraction(x))))
+    marked(factor, x, factor.high_part().times(factor.fraction(x)))
 }
 
-pub fn read_once(factor: &Factor, reading: u32) -> Result<(Mark, u32), Refusal> {
+pub fn read_once(factor: &Factor, reading: u32) -> Result<(Mark, Number), Refusal> {
     read_by(factor, reading, machine)
 }
 
-/// Mark and one-step product, in [1, 4), of the significand whose fraction bits are given: one binary32 multiplication.
-pub fn machine(factor: &Factor, fraction: u32) -> (Mark, f32) {
-    let value = f32::from_bits(0x3F80_0000 | fraction) * f32::from_bits(factor.high_float);
-    (mark(factor, fraction, value), value)
+/// Mark, one-step product, in [1, 4), and direction of the significand whose fraction bits are given: one binary32 multiplication. The
+/// exact product is a binary64 number.
+pub fn machine(factor: &Factor, fraction: u32) -> (Mark, f32, Direction) {
+    let (x, high) = (f32::from_bits(0x3F80_0000 | fraction), f32::from_bits(factor.high_float));
+    let value = x * high;
+    (mark(factor, fraction, value), value, Direction::of_exact(value as f64, x as f64 * high as f64))
 }
 
 pub fn tally(factor: &Factor, first: u64, last: u64) -> Result<Tally, Refusal> {
@@ -133,9 +135,10 @@ mod tests {
     use crate::factor::of_high;
 
     /// The nearest of all numbers of n bits in reach, and of two equally near the one with the even significand.
-    fn by_trial(bits: u32, high: u64, x: u64) -> (u64, u32) {
-        // Twice the distance from the exact product, over 2^(2n - 2).
-        let apart = |significand: u64, binade: u32| (significand << (bits - 1 + binade)).abs_diff(x * high);
+    fn by_trial(bits: u32, high: u64, x: u64) -> (u64, u32, Direction) {
+        // Numbers over 2^(2n - 2), and their distance from the exact product.
+        let over = |significand: u64, binade: u32| significand << (bits - 1 + binade);
+        let apart = |significand: u64, binade: u32| over(significand, binade).abs_diff(x * high);
         let mut best = (least(bits), 0);
         for binade in 0..2 {
             for significand in least(bits)..=greatest(bits) {
@@ -145,7 +148,7 @@ mod tests {
                 }
             }
         }
-        best
+        (best.0, best.1, Direction::of(over(best.0, best.1).cmp(&(x * high))))
     }
 
     #[test]
@@ -154,8 +157,8 @@ mod tests {
             for high in least(bits)..=1 << bits {
                 let factor = of_high(bits, high);
                 for x in least(bits)..=greatest(bits) {
-                    let product = product_once(&factor, x);
-                    assert_eq!((product.significand, product.binade), by_trial(bits, high, x), "{bits} {high} {x}");
+                    let Product { significand, binade, direction, .. } = product_once(&factor, x);
+                    assert_eq!((significand, binade, direction), by_trial(bits, high, x), "{bits} {high} {x}");
                 }
             }
         }

@@ -1,7 +1,7 @@
-//! The product of a significand in two steps, and the mark of any device's product.
+//! The product of a significand in two steps, and mark and direction of any device's product.
 
 use crate::factor::{Factor, Refusal};
-use crate::rounding::{nearest, Dyadic};
+use crate::rounding::{directed, nearest, Direction, Dyadic};
 use std::cmp::Ordering;
 
 #[derive(Clone, Copy, Debug, PartialEq, Eq)]
@@ -26,6 +26,8 @@ pub struct Product {
     pub mark: Mark,
     pub significand: u64,
     pub binade: u32,
+    /// That of the last rounding.
+    pub direction: Direction,
 }
 
 pub fn multiply(factor: &Factor, x: u64) -> Result<Product, Refusal> {
@@ -35,15 +37,20 @@ pub fn multiply(factor: &Factor, x: u64) -> Result<Product, Refusal> {
 
 /// The product of an intact factor and a significand that 17 does not refuse.
 pub fn product(factor: &Factor, x: u64) -> Product {
+    marked(factor, x, second_sum(factor, x))
+}
+
+/// Ch × x + u1, which the second step rounds.
+pub fn second_sum(factor: &Factor, x: u64) -> Dyadic {
     let fraction = factor.fraction(x);
     let low = Dyadic::new(factor.low as i128, factor.places as i32);
     let u1 = nearest(factor.bits, low.times(fraction));
-    let u2 = nearest(factor.bits, factor.high_part().times(fraction).plus(u1));
-    marked(factor, x, u2)
+    factor.high_part().times(fraction).plus(u1)
 }
 
-/// A value of n bits in [1, 4), whichever device made it, with its mark as a product of X: by RN of both ends times x.
-pub fn marked(factor: &Factor, x: u64, value: Dyadic) -> Product {
+/// What a device rounds last, which is a value in [1, 4) then, with its mark as a product of X: by RN of both ends times x.
+pub fn marked(factor: &Factor, x: u64, last: Dyadic) -> Product {
+    let (value, direction) = directed(factor.bits, last);
     let rounded = |end: u64| nearest(factor.bits, Dyadic::new(end as i128, 62).times(factor.fraction(x)));
     let (first, second) = (rounded(factor.lower), rounded(factor.upper));
     let mark = if value.equals(first) && value.equals(second) {
@@ -55,5 +62,5 @@ pub fn marked(factor: &Factor, x: u64, value: Dyadic) -> Product {
     };
     let binade = factor.bits as i32 - 1 - value.places;
     assert!(binade == 0 || binade == 1, "the product lies in [1, 4)");
-    Product { mark, significand: value.whole as u64, binade: binade as u32 }
+    Product { mark, significand: value.whole as u64, binade: binade as u32, direction }
 }

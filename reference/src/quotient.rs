@@ -1,14 +1,15 @@
 //! The quotient of a significand or of a reading by the high part, with the machine's own divisions (document 02, W1).
 
 use crate::factor::{greatest, least, Factor, Refusal};
-use crate::reading::{put_on, taken};
-use crate::rounding::{nearest, Dyadic};
+use crate::reading::{put_on, taken, Number};
+use crate::rounding::{nearest, Direction, Dyadic};
 
 #[derive(Clone, Copy, Debug, PartialEq, Eq)]
 pub struct Quotient {
     pub significand: u64,
     /// -1 for [1/2, 1), 0 for [1, 2).
     pub binade: i64,
+    pub direction: Direction,
 }
 
 pub fn divide(factor: &Factor, x: u64) -> Result<Quotient, Refusal> {
@@ -18,7 +19,8 @@ pub fn divide(factor: &Factor, x: u64) -> Result<Quotient, Refusal> {
 
 /// The quotient by an intact factor of a significand that 17 does not refuse: one binary64 division, rounded again to n bits.
 /// Rounding twice does no harm, since 53 is at least 2n + 2: the exact quotient is never a midpoint of n bits, and from
-/// each it is at least 2^-(2n + 1) away, while the division is off by 2^-53 at most.
+/// each it is at least 2^-(2n + 1) away, while the division is off by 2^-53 at most. The direction compares
+/// the quotient with X / H, both times H and over the quotient's places.
 pub fn quotient(factor: &Factor, x: u64) -> Quotient {
     let value = x as f64 / factor.high as f64;
     // From 1/2 on a binary64 number has no more than 53 places.
@@ -26,25 +28,30 @@ pub fn quotient(factor: &Factor, x: u64) -> Quotient {
     let rounded = nearest(factor.bits, Dyadic::new(whole as i128, 53));
     let binade = factor.bits as i32 - 1 - rounded.places;
     assert!(binade == -1 || binade == 0, "the quotient lies in [1/2, 2)");
-    Quotient { significand: rounded.whole as u64, binade: binade as i64 }
+    let significand = rounded.whole as u64;
+    let direction = Direction::of((significand * factor.high).cmp(&(x << rounded.places)));
+    Quotient { significand, binade: binade as i64, direction }
 }
 
 /// A zero's quotient is the machine's own by the high part, which tells its sign (W3).
-pub fn divide_reading(factor: &Factor, reading: u32) -> Result<u32, Refusal> {
+pub fn divide_reading(factor: &Factor, reading: u32) -> Result<Number, Refusal> {
     match taken(factor, reading)? {
-        None => Ok((f32::from_bits(reading) / f32::from_bits(factor.high_float)).to_bits()),
+        None => Ok(Number::equal((f32::from_bits(reading) / f32::from_bits(factor.high_float)).to_bits())),
         Some(fraction) => put_on(machine(factor, fraction), reading, -factor.scale),
     }
 }
 
-/// The quotient, in [1/2, 2), of the significand whose fraction bits are given: one binary32 division.
-pub fn machine(factor: &Factor, fraction: u32) -> f32 {
-    f32::from_bits(0x3F80_0000 | fraction) / f32::from_bits(factor.high_float)
+/// The quotient, in [1/2, 2), of the significand whose fraction bits are given, and its direction: one binary32 division. The quotient
+/// times the high part is a binary64 number.
+pub fn machine(factor: &Factor, fraction: u32) -> (f32, Direction) {
+    let (x, high) = (f32::from_bits(0x3F80_0000 | fraction), f32::from_bits(factor.high_float));
+    let value = x / high;
+    (value, Direction::of_exact(value as f64 * high as f64, x as f64))
 }
 
 /// Whether the quotient is the number of n bits nearest to X / H, and no other is as near: by whole numbers.
 pub fn is_nearest(factor: &Factor, x: u64) -> bool {
-    let Quotient { significand, binade } = quotient(factor, x);
+    let Quotient { significand, binade, .. } = quotient(factor, x);
     let exact = x << (factor.bits as i64 - 1 - binade);
     least(factor.bits) <= significand
         && significand <= greatest(factor.bits)
@@ -83,16 +90,15 @@ mod tests {
 
     /// The nearest of all numbers of n bits in reach, and the only one as near: there is no tie.
     fn by_trial(bits: u32, high: u64, x: u64) -> Quotient {
-        // The distance from X / H, over H × 2^(n + 1).
-        let apart = |q: &Quotient| (x << (bits + 1)).abs_diff((q.significand * high) << (q.binade + 2));
-        let all = || {
-            (-2..=1).flat_map(|binade| {
-                (least(bits)..=greatest(bits)).map(move |significand| Quotient { significand, binade })
-            })
-        };
+        // X / H and the numbers, over H × 2^(n + 1).
+        let exact = x << (bits + 1);
+        let over = |&(significand, binade): &(u64, i64)| (significand * high) << (binade + 2);
+        let apart = |q: &(u64, i64)| exact.abs_diff(over(q));
+        let all = || (-2..=1).flat_map(|binade| (least(bits)..=greatest(bits)).map(move |s| (s, binade)));
         let nearest = all().min_by_key(apart).expect("some number");
         assert_eq!(all().filter(|q| apart(q) == apart(&nearest)).count(), 1, "a tie");
-        nearest
+        let (significand, binade) = nearest;
+        Quotient { significand, binade, direction: Direction::of(over(&nearest).cmp(&exact)) }
     }
 
     #[test]
@@ -117,7 +123,7 @@ mod tests {
             for x in (0..300_000).map(|_| random.from_to(least(24), greatest(24))).chain(near_midpoints(&factor)) {
                 let whole = quotient(&factor, x);
                 let expected = whole.significand as f32 * 2f32.powi(whole.binade as i32 - 23);
-                assert_eq!(machine(&factor, (x - least(24)) as u32), expected);
+                assert_eq!(machine(&factor, (x - least(24)) as u32), (expected, whole.direction));
                 assert!(is_nearest(&factor, x));
             }
         }
@@ -130,7 +136,7 @@ mod tests {
             for high in least(bits)..=1 << bits {
                 let factor = of_high(bits, high);
                 for x in near_midpoints(&factor) {
-                    let Quotient { significand, binade } = quotient(&factor, x);
+                    let Quotient { significand, binade, .. } = quotient(&factor, x);
                     let apart = (x << (bits as i64 - 1 - binade)).abs_diff(significand * high);
                     assert_eq!(2 * apart + (1 << high.trailing_zeros()), high, "{bits} {high} {x}");
                     found += 1;
@@ -154,7 +160,11 @@ mod tests {
             }
             let applied = f32::from_bits(factor.high_float) * 2f32.powi(factor.scale);
             match divide_reading(&factor, reading.to_bits()) {
-                Ok(bits) => assert_eq!(bits, (reading / applied).to_bits()),
+                Ok(Number { bits, direction }) => {
+                    assert_eq!(bits, (reading / applied).to_bits());
+                    let back = f32::from_bits(bits) as f64 * applied as f64;
+                    assert_eq!(direction, Direction::of_exact(back, reading as f64), "{factor:X?} {reading}");
+                }
                 Err(refusal) => {
                     assert_eq!(refusal, 23);
                     let size = (reading as f64 / applied as f64).abs();

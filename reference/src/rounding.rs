@@ -1,6 +1,49 @@
-//! RN: round to nearest, ties to even, to n bits with exponents unbounded.
+//! RN: round to nearest, ties to even, to n bits with exponents unbounded; and its direction.
 
 use std::cmp::Ordering;
+
+/// On which side of what was rounded the rounded number lies, sign included (document 02, W4).
+#[derive(Clone, Copy, Debug, PartialEq, Eq, PartialOrd, Ord)]
+pub enum Direction {
+    Below,
+    Equal,
+    Above,
+}
+
+impl Direction {
+    pub const ALL: [Direction; 3] = [Direction::Below, Direction::Equal, Direction::Above];
+
+    /// By the order of the rounded number to what was rounded.
+    pub fn of(order: Ordering) -> Direction {
+        match order {
+            Ordering::Less => Direction::Below,
+            Ordering::Equal => Direction::Equal,
+            Ordering::Greater => Direction::Above,
+        }
+    }
+
+    /// The same for numbers of the machine that are exact.
+    pub fn of_exact(rounded: f64, exact: f64) -> Direction {
+        Direction::of(rounded.partial_cmp(&exact).expect("two numbers"))
+    }
+
+    /// That of the negative numbers.
+    pub fn mirrored(self) -> Direction {
+        match self {
+            Direction::Below => Direction::Above,
+            Direction::Equal => Direction::Equal,
+            Direction::Above => Direction::Below,
+        }
+    }
+
+    pub fn number(self) -> u32 {
+        match self {
+            Direction::Below => 1,
+            Direction::Equal => 2,
+            Direction::Above => 3,
+        }
+    }
+}
 
 /// The number `whole` / 2^`places`.
 #[derive(Clone, Copy, Debug)]
@@ -70,6 +113,12 @@ pub fn nearest(bits: u32, number: Dyadic) -> Dyadic {
     Dyadic::new(signed, places)
 }
 
+/// RN with its direction: both numbers are compared.
+pub fn directed(bits: u32, number: Dyadic) -> (Dyadic, Direction) {
+    let rounded = nearest(bits, number);
+    (rounded, Direction::of(rounded.compare(number)))
+}
+
 #[cfg(test)]
 mod tests {
     use super::*;
@@ -83,6 +132,24 @@ mod tests {
         assert!(rounded(-19, 4).equals(Dyadic::new(-20, 4)));
         assert!(rounded(-17, 4).equals(Dyadic::new(-1, 0)));
         assert_eq!(rounded(31, 4).whole, 8);
+    }
+
+    /// Ties down and up, the carry into the next binade, what needs no rounding, and zero; of a negative number it is mirrored.
+    #[test]
+    fn directions() {
+        for (whole, direction) in [
+            (17, Direction::Below),
+            (19, Direction::Above),
+            (31, Direction::Above),
+            (33, Direction::Below),
+            (35, Direction::Above),
+            (30, Direction::Equal),
+            (3, Direction::Equal),
+            (0, Direction::Equal),
+        ] {
+            assert_eq!(directed(4, Dyadic::new(whole, 4)).1, direction, "{whole}");
+            assert_eq!(directed(4, Dyadic::new(-whole, 4)).1, direction.mirrored(), "-{whole}");
+        }
     }
 
     /// The nearest of all numbers of `bits` bits in reach, and of two equally near the one with the even significand.
@@ -128,6 +195,8 @@ mod tests {
             let machine = whole as f32;
             let value = ours.whole as f64 * 2f64.powi(-ours.places);
             assert!(value == machine as f64, "{whole}");
+            let direction = Direction::of((machine as i128).cmp(&(whole as i128)));
+            assert_eq!(directed(24, Dyadic::new(whole as i128, 0)).1, direction, "{whole}");
         }
     }
 }
