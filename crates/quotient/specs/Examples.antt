@@ -14,7 +14,7 @@ use Rattle.factor.specs.Context.{tieRule}
 use Rattle.factor.specs.Parts.{partsAt}
 use Rattle.factor.specs.SetUp.{appliedOf, factorOf}
 use Rattle.rounding.specs.declared.Direction.{Direction}
-use Rattle.rounding.specs.declared.Direction.the-variants.{Below, Equal, Above}
+use Rattle.rounding.specs.declared.Direction.the-variants.{Equal, Above}
 use Rattle.rounding.specs.Direction.{sideOf}
 use Rattle.quotient.specs.declared.DirectedQuotient.{DirectedQuotient}
 use Rattle.quotient.specs.Quotient.{quotientBy, valueOf}

@@ -1,8 +1,8 @@
 -- Laws of the quotient: its binade is -1 or 0, its significand has n bits and is the nearest of one division, its value is RN(x / Ch), its direction that of the division, and x / Ch is never half way between two numbers, so that every tie rule gives the same. Assumes nothing.
 use mathlib.Core.Path.{_≡_, refl, sym, ap, _∙_, subst}
 use mathlib.Core.Bool.{Bool, true, false, cond}
-use Prim.Native.Nat.{ℕ, zero, suc, _+_, _-_, _*_, _/_, _%_, _^_, _≤_, _<_}
-use native.Mathlib.Nat.{div-add-mod', mul-le-mul-right, mul-le-mul-left, mul-pos, le-trans, mul-one, pow-succ', add-zero}
+use Prim.Native.Nat.{ℕ, zero, suc, _+_, _-_, _*_, _/_, _^_, _≤_, _<_}
+use native.Mathlib.Nat.{mul-le-mul-right, mul-le-mul-left, mul-pos, le-trans, mul-one, pow-succ', add-zero}
 use native.Mathlib.Omega.{arith}
 use lib.IntN.{ℤ, pos, _+ℤ_}
 use lib.Dec.{ltb}

@@ -4,25 +4,23 @@ use mathlib.Core.Bool.{Bool, true, false, not}
 use Prim.Native.Nat.{ℕ, zero, suc, _+_, _*_, _^_, _≤_, _<_}
 use native.Mathlib.Nat.{zero-lt-suc, le-refl, mul-one, mul-pos}
 use native.Mathlib.Omega.{arith}
-use lib.IntN.{ℤ, pos, negsuc, negℤ, natAbs, negℤ-negℤ}
+use lib.IntN.{ℤ, pos, negsuc, natAbs}
 use lib.Pow.{pow-pos}
 use lib.Ieee.{size, up, down}
 use lib.Ieee.Fits.{up-pos, down-pos}
-use lib.Ieee.Order.{drop}
 use Rattle.rounding.specs.declared.Direction.{Direction}
 use Rattle.rounding.specs.declared.Direction.the-variants.{Below, Equal, Above}
-use Rattle.rounding.specs.declared.Rounded.{Rounded}
 use Rattle.rounding.specs.Direction.{sideOf, mirrored, signedDirection}
 use Rattle.rounding.specs.DirectionLaws.{side-holds, side-only, side-mirrored, side-equal, side-alike}
-use Rattle.rounding.specs.Grid.{Rule, nearest, sideAt}
+use Rattle.rounding.specs.Grid.{Rule, sideAt}
 use Rattle.rounding.specs.Digits.{enough-digits}
-use Rattle.rounding.specs.Unit.{kept, rn}
+use Rattle.rounding.specs.Unit.{rn}
 use Rattle.rounding.specs.UnitLaws.{rn-fixed}
-use Rattle.rounding.specs.Round.{stepped, roundedIn, rounded}
+use Rattle.rounding.specs.Round.{rounded}
 use Rattle.rounding.specs.RoundLaws.{roundedIn-direction}
 use Rattle.rounding.specs.Signed.{negative, signedOf, roundedSigned}
 use Rattle.rounding.specs.Fraction.{Fraction, negated, signedAs, RN, Same, beside, scaledAs, Falls, direction, directionOf, Directs}
-use Rattle.rounding.specs.FractionLaws.{InUnits, Scaled, RN-some, RN-scaled, RN-in-units, RN-in-units-fraction, units-finer, units-same}
+use Rattle.rounding.specs.FractionLaws.{InUnits, RN-some, RN-in-units, RN-in-units-fraction, units-finer}
 
 -- ---- signs
 pub size-of : (s : Bool) (m : ℕ) → natAbs (signedOf s m) ≡ m
@@ -59,7 +57,7 @@ direction-sizes x y alike = ap (λ (m : Bool). sideOf (beside x y) (signedOf m (
 
 module _ (x y : Fraction) (alike : x .minus ≡ y .minus) where
   -- it depends on the number alone
-  pub direction-same : (z : Fraction) → 0 < y .den → 0 < z .den → Same y z → direction x y ≡ direction x z
+  direction-same : (z : Fraction) → 0 < y .den → 0 < z .den → Same y z → direction x y ≡ direction x z
   direction-same z Y Z s =
       direction-sizes x y alike
       ∙ ap (signedDirection (x .minus)) (side-alike (x .num * y .den) (y .num * x .den) (z .den) (x .num * z .den) (z .num * x .den) (y .den) Z Y (omega arith) (omega (arith, ap (λ (k : ℕ). k * x .den) (s .1))))

@@ -3,12 +3,10 @@ use mathlib.Core.Path.{_≡_, refl, sym, ap, ap₂, _∙_, subst}
 use mathlib.Core.Bool.{Bool, true, false, cond}
 use Prim.Native.Nat.{ℕ, suc, _+_, _*_, _/_, _%_, _≤_, _<_}
 use native.Mathlib.Decide.{decLe}
-use native.Mathlib.Nat.{div-add-mod', mod-lt, mul-comm, mul-le-mul-right, le-antisymm, lt-of-mul-lt-mul-right, eq-of-mul-eq-mul-right, le-of-eq, mul-pos, lt-of-not-le, mul-mod-left}
+use native.Mathlib.Nat.{div-add-mod', mod-lt, mul-comm, mul-le-mul-right, le-antisymm, lt-of-mul-lt-mul-right, eq-of-mul-eq-mul-right, le-of-eq, mul-pos, lt-of-not-le}
 use native.Mathlib.Omega.{arith}
 use lib.Dec.{eqb, ltb}
-use lib.IntN.{pos}
 use borrow.Author.Tests.{eqb-true, eqb-false, ltb-true, ltb-false, eq-eqb, ne-eqb, lt-ltb, le-ltb}
-use lib.Ieee.Nearest.{div-same}
 use Rattle.rounding.specs.declared.Direction.the-variants.{Below, Above}
 use Rattle.rounding.specs.declared.Location.{Location}
 use Rattle.rounding.specs.declared.Location.the-variants.{Exact, BelowHalf, Half, AboveHalf}

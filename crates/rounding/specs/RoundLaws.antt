@@ -1,7 +1,7 @@
 -- Laws of RN: its significand has n bits, its value in every unit that is fine enough is that of `rn`, and it depends on the fraction alone. Assumes nothing.
 use mathlib.Core.Path.{_≡_, refl, sym, ap, _∙_, subst}
 use mathlib.Core.Bool.{Bool, true, false, cond}
-use Prim.Native.Nat.{ℕ, zero, suc, _+_, _-_, _*_, _%_, _^_, _≤_, _<_}
+use Prim.Native.Nat.{ℕ, zero, suc, _+_, _-_, _*_, _^_, _≤_, _<_}
 use native.Mathlib.Decide.{decLe}
 use native.Mathlib.Nat.{zero-lt-suc, pos-of-ne-zero, le-refl, zero-add, mul-pos, add-comm, mul-le-mul-right, le-of-eq, lt-of-not-le, pow-succ', eq-of-mul-eq-mul-right}
 use native.Mathlib.Omega.{arith}
