@@ -68,6 +68,12 @@ markNumber Mark.Right = 1
 markNumber Mark.Open = 2
 markNumber Mark.Wrong = 3
 
+-- a direction's number (request W4)
+abbrev pub directionNumber : Direction → ℕ
+directionNumber Direction.Below = 1
+directionNumber Direction.Equal = 2
+directionNumber Direction.Above = 3
+
 -- the number of the mark and the words of the value, or the refusal
 abbrev pub markedAnswer : {A : Type 0} → (A → List ℕ) → Outcome (Marked A) → Answer
 markedAnswer words o = toWords (λ a. markNumber (a .mark)) (λ a. words (a .value)) o
@@ -83,12 +89,6 @@ setUpAnswer o = plainAnswer factorWords o
 unfoldable pub setUpTo : Description → (out : List ℕ) → Answer
 unfolding setUp factorWords
 setUpTo d out = setUpAnswer (andThen (answer (tooShort (length out) factorLength ∷ []) d) setUp)
-
--- a direction's number (request W4)
-abbrev pub directionNumber : Direction → ℕ
-directionNumber Direction.Below = 1
-directionNumber Direction.Equal = 2
-directionNumber Direction.Above = 3
 
 -- ---- a product: 1 right, 2 open, 3 wrong, with significand, binade and direction, or the refusal
 abbrev pub productWords : DirectedProduct → List ℕ

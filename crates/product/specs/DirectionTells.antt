@@ -36,7 +36,7 @@ module _ (f : Factor) (s : Sound f) (X : ℕ) (x : HasBits (f .precision .bits) 
   last-value Device.TwoStep = two-steps f s X x .value
   last-value Device.OneStep = sound-value f s X x
 
-  -- which is positive
+  -- which has no minus
   pub last-plus : (d : Device) → lastOn d f X .minus ≡ false
   last-plus Device.TwoStep = fused-counts (contextOf f) (f .parts) (sound-parts f s) X x .sign
   last-plus Device.OneStep = refl

@@ -48,7 +48,7 @@ use Rattle.product.specs.DeviceLaws.{formed}
 use Rattle.product.specs.OneStepTells.{sound-value}
 use Rattle.product.specs.Demand2.{mark-tells, mark-alone}
 use Rattle.product.specs.DirectionTells.{last-plus, sound-directs}
-use Rattle.reading.specs.Reading.{unreadable, signWith, exponentOut, numberOf, conditions, DirectedNumber, directedZero, productExponent, putOn, productOf, productAt, directedAt, applied}
+use Rattle.reading.specs.Reading.{unreadable, signWith, exponentOut, numberOf, conditions, DirectedNumber, productExponent, putOn, productOf, productAt, directedAt, applied}
 use Rattle.reading.specs.Exponents.{let-through, out-none}
 use Rattle.reading.specs.ReadingLaws.{number-value, number-normal}
 use Rattle.reading.specs.AnswerLaws.{is-intact, precision-is, of-reading}
@@ -110,7 +110,7 @@ pub record Tells (d : Device) (f : Factor) (b : ℕ) (a : Marked DirectedNumber)
 -- of every answer: its sign is that of the standard's product, of a zero too, which is marked right and equal; a refusal tells nothing
 abbrev pub AnswerTells : Device → Factor → ℕ → Outcome (Marked DirectedNumber) → Type 0
 AnswerTells d f b (refused k) = Unit {0}
-AnswerTells d f b (accepted a) = StandardSign multiplying f b (a .value .number) × (((zeroBits binary32 b ≡ true) × (a .mark ≡ Mark.Right) × (a .value ≡ directedZero (signWith f b))) ⊎ ((zeroBits binary32 b ≡ false) × Tells d f b a))
+AnswerTells d f b (accepted a) = StandardSign multiplying f b (a .value .number) × (((zeroBits binary32 b ≡ true) × (a .mark ≡ Mark.Right) × (a .value .number ≡ zeroOf (signWith f b)) × (a .value .direction ≡ Equal)) ⊎ ((zeroBits binary32 b ≡ false) × Tells d f b a))
 
 -- ---- sign and scale change nothing of what a mark says
 module _ (f : Factor) (b : ℕ) (v : Product) (y : Float) (is : HasValue y (signWith f b) (v .significand * 2 ^ v .binade * up (scaled f b)) (hid binary32 * down (scaled f b))) (C : Fraction) (positive : 0 < C .num) (some : 0 < C .den) (sign : C .minus ≡ false) where
@@ -245,7 +245,7 @@ module _ (d : Device) (f : Factor) (b : ℕ) (h : NoneHolds (unreadable f b)) (n
 pub reading-tells : (d : Device) (f : Factor) (x : Float) → AnswerTells d f (toBits binary32 x) (applied d f x)
 unfolding applied
 reading-tells d f x = let b = toBits binary32 x in of-reading (AnswerTells d f b) f b (productOf f b (directedAt d f b)) (λ k. tt)
-    (λ h z. (zero-sign multiplying multiplies f b h, inl (z, refl, refl)))
+    (λ h z. (zero-sign multiplying multiplies f b h, inl (z, refl, refl, refl)))
     (λ h z o. (let v = productAt d f b in number-sign multiplying multiplies f b h z (v .significand) (productExponent f b v), inr (z, tells d f b h z o)))
 
 -- and a reading that none of 31 and 20 to 23 refuses is answered, with a zero or the number with its mark

@@ -1,5 +1,5 @@
--- What an answer to a reading's division tells, for every factor and every reading (`divided-reading-answered`, `divided-reading-tells`): its sign is that of the standard's quotient, which of a zero is the whole answer (`zero-divided`); its direction tells how it lies as seen from x / Ch, sign and scale on (request W4); any other is RN(x / Ch) with sign and exponent
--- put on, exactly; one division of the standard, of significands and of the reading itself by Ch * 2 ^ k, gives the same; and it is less than 3/2 units in the last place from the reading / (C * 2 ^ k) for every fraction C between the ends. Assumes nothing.
+-- What an answer to a reading's division tells, for every factor and every reading (`divided-reading-answered`, `divided-reading-tells`): its sign is that of the standard's quotient, which of a zero is the whole answer (`zero-divided`), equal; any other is RN(x / Ch) with sign and exponent
+-- put on, exactly; one division of the standard, of significands and of the reading itself by Ch * 2 ^ k, gives the same; it is less than 3/2 units in the last place from the reading / (C * 2 ^ k) for every fraction C between the ends; and its direction tells how it lies as seen from x / Ch, sign and scale on (request W4). Assumes nothing.
 use mathlib.Core.Path.{_≡_, refl, sym, ap, _∙_, subst}
 use mathlib.Core.Bool.{Bool, true, false, cond}
 use mathlib.Core.Logic.{_⊎_, inl, inr}
@@ -31,7 +31,7 @@ use Rattle.product.specs.Product.{high}
 use Rattle.quotient.specs.declared.Quotient.{Quotient}
 use Rattle.quotient.specs.Quotient.{byHigh, quotientBy, directionBy, directedBy, valueOf}
 use Rattle.quotient.specs.Tells.{Tells as TellsOf, sound-quotient}
-use Rattle.reading.specs.Reading.{unreadable, signWith, exponentOut, numberOf, DirectedNumber, directedNumber, directedZero, conditions}
+use Rattle.reading.specs.Reading.{unreadable, signWith, exponentOut, numberOf, DirectedNumber, directedNumber, conditions}
 use Rattle.reading.specs.Divided.{quotientExponent, quotientOf, dividedReading}
 use Rattle.reading.specs.Exponents.{let-through}
 use Rattle.reading.specs.ReadingLaws.{number-value, number-normal}
@@ -73,7 +73,7 @@ pub record Tells (f : Factor) (b : ℕ) (a : DirectedNumber) : Type 0 where
 -- of every answer: its sign is that of the standard's quotient, of a zero too, which is equal; a refusal tells nothing
 abbrev pub AnswerTells : Factor → ℕ → Outcome DirectedNumber → Type 0
 AnswerTells f b (refused k) = Unit {0}
-AnswerTells f b (accepted a) = StandardSign dividing f b (a .number) × (((zeroBits binary32 b ≡ true) × (a ≡ directedZero (signWith f b))) ⊎ ((zeroBits binary32 b ≡ false) × Tells f b a))
+AnswerTells f b (accepted a) = StandardSign dividing f b (a .number) × (((zeroBits binary32 b ≡ true) × (a .number ≡ zeroOf (signWith f b)) × (a .direction ≡ Equal)) ⊎ ((zeroBits binary32 b ≡ false) × Tells f b a))
 
 -- ---- a reading that is let through, and not a zero
 module _ (f : Factor) (b : ℕ) (h : NoneHolds (unreadable f b)) (nonzero : zeroBits binary32 b ≡ false) (o : exponentOut binary32 (quotientExponent f b (quotientAt f b)) ≡ false) where
@@ -159,7 +159,7 @@ module _ (f : Factor) (b : ℕ) (h : NoneHolds (unreadable f b)) (nonzero : zero
 pub divided-reading-tells : (f : Factor) (x : Float) → AnswerTells f (toBits binary32 x) (dividedReading f x)
 unfolding dividedReading
 divided-reading-tells f x = let b = toBits binary32 x in of-reading (AnswerTells f b) f b (quotientOf f b) (λ k. tt)
-    (λ h z. (zero-sign dividing divides f b h, inl (z, refl)))
+    (λ h z. (zero-sign dividing divides f b h, inl (z, refl, refl)))
     (λ h z o. (let v = quotientAt f b in number-sign dividing divides f b h z (v .significand) (quotientExponent f b v), inr (z, tells f b h z o)))
 
 -- and a reading that none of 31 and 20 to 23 refuses is answered, with a zero or the number

@@ -1,4 +1,4 @@
-// A binary32 reading times a factor (document 01, "Binary32"), on the two-step device or the one-step device of request W2: the product with its mark, or a refusal; and divided by it (request W1): the quotient, or a refusal. Zeros keep the sign that the standard gives (request W3), and every answer tells the direction of its last rounding (request W4).
+// A binary32 reading times a factor (document 01, "Binary32"), on the two-step device or the one-step device of request W2: the product with its mark, or a refusal; and divided by it (request W1): the quotient, or a refusal. Zeros keep the sign that the standard gives (request W3), and every number that is answered has the direction of its last rounding (request W4).
 use factor::Factor;
 use marks::Mark;
 use product::Device;

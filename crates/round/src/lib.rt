@@ -1,5 +1,5 @@
 // Rounding numbers of one word and of two words to n bits, and quotients of words to whole numbers: where the number lies between its neighbours, which of them is taken, and the carry.
-// Every rounding hands back its direction (request W4), read off where the number lies. Contracts are equations with RN (`rounded` of the crate `rounding`), or with `nearest` and `location`, of which it is made.
+// Every rounding hands back its direction (request W4), read off where the number lies. Contracts are equations with RN (`rounded` of the crate `rounding`), or with what it is made of: `location`, `upward`, `nearest` and the number of digits.
 use rounding::Direction;
 use rounding::Location;
 use rounding::Rounded;
@@ -53,7 +53,7 @@ pub fn goes_up(q: u64, r: Wide, half: Wide, rule: TieRule) -> bool
     wide::below(half, past)
 }
 
-// On which side of a fraction its neighbour lies, by where the fraction lies and whether it goes up: two choices and no branch.
+// On which side of a fraction its neighbour lies, by where the fraction lies and whether it goes up: choices between constants, which need no branch.
 fn direction_at(l: Location, up: bool) -> Direction
     ensures { λ r. ⌜ r ≡ sideTaken l up ⌝ }
 {

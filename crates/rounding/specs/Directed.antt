@@ -1,4 +1,4 @@
--- Laws of a rounding's direction (request W4): exactly one of the three holds, and it is `directionOf`; it is symmetric in sign; equal means exact; sign and scale put on later mirror it and change nothing; and it is what `rounded` hands back. Assumes nothing.
+-- Laws of a rounding's direction (request W4): exactly one of the three holds, and it is `directionOf`; it is symmetric in sign; equal means exact; a sign put on later mirrors it, and a scale changes nothing; and it is what `rounded` hands back. Assumes nothing.
 use mathlib.Core.Path.{_≡_, refl, sym, ap, ap₂, _∙_, subst}
 use mathlib.Core.Bool.{Bool, true, false, not}
 use Prim.Native.Nat.{ℕ, zero, suc, _+_, _*_, _^_, _≤_, _<_}
@@ -22,7 +22,7 @@ use Rattle.rounding.specs.Signed.{negative, signedOf, roundedSigned}
 use Rattle.rounding.specs.Fraction.{Fraction, negated, signedAs, RN, Same, beside, scaledAs, Falls, direction, directionOf, Directs}
 use Rattle.rounding.specs.FractionLaws.{InUnits, RN-some, RN-in-units, RN-in-units-fraction, units-finer}
 
--- ---- signs
+-- ---- signs, and signed numbers by their sizes
 pub size-of : (s : Bool) (m : ℕ) → natAbs (signedOf s m) ≡ m
 size-of true zero = refl
 size-of true (suc m) = refl
@@ -63,7 +63,7 @@ module _ (x y : Fraction) (alike : x .minus ≡ y .minus) where
       ∙ ap (signedDirection (x .minus)) (side-alike (x .num * y .den) (y .num * x .den) (z .den) (x .num * z .den) (z .num * x .den) (y .den) Z Y (omega arith) (omega (arith, ap (λ (k : ℕ). k * x .den) (s .1))))
       ∙ sym (direction-sizes x z (alike ∙ s .0))
 
--- sign and scale put on both mirror it, or change nothing
+-- a sign put on both mirrors it if it is minus, and a scale changes nothing
 direction-scaled : (s : Bool) (z : ℤ) (x y : Fraction) → x .minus ≡ false → y .minus ≡ false → direction (scaledAs s z x) (scaledAs s z y) ≡ signedDirection s (direction x y)
 direction-scaled s z x y p q =
     let b = up z * down z in

@@ -112,7 +112,7 @@ directionOf rule n x = direction x (RN rule n x)
 abbrev pub Falls : Direction → Fraction → Fraction → Type 0
 Falls d x y = On d (beside x y) (beside y x)
 
--- y falls so, and in no other way
+-- y falls so, and in no other way, denominators being above 0
 pub record Directs (d : Direction) (x y : Fraction) : Type 0 where
   pub falls : Falls d x y
   pub alone : (e : Direction) → Falls e x y → d ≡ e

@@ -29,7 +29,7 @@ pub struct Rounded {
     pub direction: Direction,
 }
 
-// The same with a sign: the significand keeps that of what was rounded, and a negative number's direction is not its size's.
+// The same with a sign: the significand keeps that of what was rounded, and a negative number's direction is its size's, mirrored.
 pub struct RoundedSigned {
     pub significand: i64,
     pub exponent: i32,
