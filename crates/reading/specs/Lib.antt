@@ -9,6 +9,7 @@ pub mod Standard
 pub mod OneOperation
 pub mod OneOperationLaws
 pub mod SignLaws
+pub mod MirrorLaws
 pub mod Demand2
 pub mod QuotientTells
 pub mod FromProduct

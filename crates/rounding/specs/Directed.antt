@@ -33,7 +33,7 @@ signed-side : (s : Bool) (a b : ℕ) → sideOf (signedOf s a) (signedOf s b) �
 signed-side true a b = side-mirrored (pos a) (pos b)
 signed-side false a b = refl
 
-turned-again : (s : Bool) (d : Direction) → signedDirection (not s) d ≡ mirrored (signedDirection s d)
+pub turned-again : (s : Bool) (d : Direction) → signedDirection (not s) d ≡ mirrored (signedDirection s d)
 turned-again false d = refl
 turned-again true Below = refl
 turned-again true Equal = refl
