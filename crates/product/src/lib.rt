@@ -95,7 +95,7 @@ fn rounded_units(p: Precision, y: Wide) -> DirectedProduct
     DirectedProduct { product, direction }
 }
 
-// The second step, u2 = RN(Ch * x + u1), of a factor that was accepted, a significand in range and its u1.
+// The second step, u2 = RN(Ch * x + u1) with its direction, of a factor that was accepted, a significand in range and its u1.
 pub fn second_step(f: Factor, x: u64, u1: u64) -> DirectedProduct
     requires { ⌜ Sound f × HasBits (f .precision .bits) x × (u1 ≡ firstUnits (contextOf f) (unitPartsOf (contextOf f) (f .parts)) x) ⌝ }
     ensures { λ r. ⌜ r ≡ directedOn Device.TwoStep f x ⌝ }
@@ -115,7 +115,7 @@ fn two_steps(f: Factor, x: u64) -> DirectedProduct
     second_step(f, x, first_units(p, parts, x))
 }
 
-// RN(Ch * x) of a factor that was accepted and a significand in range, in steps of binade 0, 2 ^ (1 - n): in the unit 2 ^ - 2(n - 1) Ch * x is a whole number, and n - 1 digits stand behind such a step.
+// RN(Ch * x), and its direction, of a factor that was accepted and a significand in range, in steps of binade 0, 2 ^ (1 - n): in the unit 2 ^ - 2(n - 1) Ch * x is a whole number, and n - 1 digits stand behind such a step.
 fn steps_once(f: Factor, x: u64) -> Neighbour
     requires { ⌜ Sound f × HasBits (f .precision .bits) x ⌝ }
     ensures { λ r. ⌜ r ≡ record { taken = stepsOf (oneStepBy f x); direction = directionOn Device.OneStep f x } ⌝ }
@@ -125,7 +125,7 @@ fn steps_once(f: Factor, x: u64) -> Neighbour
     round::round_cut(round::cut_word(f.parts.high * x, k), k, n, TieRule::ToEven)
 }
 
-// The same as a significand and a binade.
+// The same as a significand and a binade, with its direction.
 pub fn one_step(f: Factor, x: u64) -> DirectedProduct
     requires { ⌜ Sound f × HasBits (f .precision .bits) x ⌝ }
     ensures { λ r. ⌜ r ≡ directedOn Device.OneStep f x ⌝ }

@@ -37,7 +37,7 @@ fn binades_below(x: u64, high: u64) -> u32
     0
 }
 
-// RN(x / Ch) of a factor that was accepted and a significand in range. Below 1 it has one digit more behind the point, so that n digits come out of the one division.
+// RN(x / Ch) and its direction, of a factor that was accepted and a significand in range. Below 1 it has one digit more behind the point, so that n digits come out of the one division.
 pub fn quotient_of(f: Factor, x: u64) -> DirectedQuotient
     requires { ⌜ Sound f × HasBits (f .precision .bits) x ⌝ }
     ensures { λ r. ⌜ r ≡ directedBy f x ⌝ }

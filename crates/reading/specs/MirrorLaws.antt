@@ -7,9 +7,9 @@ use lib.Dec.{T}
 use lib.IntN.{ℤ, pos, _+ℤ_, _-ℤ_}
 use lib.Ieee.{Float, nan, inf, fin, isNan, binary32, emax, hid, unlike, minus, up, down, neg, fits, toBits}
 use Rattle.marks.specs.declared.Mark.{Mark}
-use Rattle.marks.specs.Answers.{Refusal, number, none, unless, judged, Outcome, refused, accepted, answer, andThen, Marked}
+use Rattle.marks.specs.Answers.{Refusal, number, none, unless, judged, Outcome, accepted, answer, andThen, Marked}
 use Rattle.rounding.specs.declared.Direction.{Direction}
-use Rattle.rounding.specs.Direction.{mirrored, signedDirection}
+use Rattle.rounding.specs.Direction.{mirrored}
 use Rattle.rounding.specs.Directed.{turned-again}
 use Rattle.floats.specs.Fields.{signOf, zeroBits, significandOf, exponentOf}
 use Rattle.floats.specs.Signs.{Turned, round-turned, turned-bits}

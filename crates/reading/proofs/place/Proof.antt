@@ -11,6 +11,7 @@ use borrow.Author.Needs.{needs}
 use Rattle.marks.specs.Answers.{accepted}
 use Rattle.marks.specs.AnswerLaws.{pass, stop, end, refuses, accepts}
 use Rattle.rounding.specs.declared.Direction.{Direction}
+use Rattle.rounding.specs.Direction.{signedDirection}
 use Rattle.floats.specs.Fields.{biasedExponent, exponentOf, floatOf}
 use Rattle.floats.specs.Powers.{sub-le}
 use Rattle.floats.specs.Pattern.{biased-most}
@@ -96,10 +97,11 @@ returns-3 c =
     let told = c .before in
     let h = told .before in
     let s = a (k h) in
+    let mirrored : c .signed-direction .result ≡ signedDirection (s .args .minus) (s .args .d) = c .signed-direction .ensures in
     ap₂ (λ (y : Float) (d : Direction). accepted (record { number = y; direction = d }))
     (told .float-of .ensures ∙ ap (λ (z : ℕ). floatOf binary32 (s .args .minus) z (s .args .significand)) (ap natAbs (less-one h .1))
     ∙ number-is binary32 (s .args .minus) (s .args .significand) (exponent (k h)) (s .pre .1) (p h) (at-p h) (within h .2) (within h .3))
-    (c .signed-direction .ensures)
+    mirrored
     ∙ accepts (pass (out-none binary32 (exponent (k h)) (p h) (at-p h) (within h .2) (within h .3)) end) _
 
 pub place-spec : {M : Type 1} → statement M
