@@ -17,7 +17,7 @@
  * Products and quotients, those of readings too, are written with the direction of their last rounding: GUSNALIP_BELOW, GUSNALIP_EQUAL or
  * GUSNALIP_ABOVE, as the rounded number lies below, on or above what was rounded, sign included: that of a negative reading is mirrored,
  * and a zero is equal. In two steps Ch * x + u1 is rounded last, not C * x: equal says that this rounding was exact, and not that the
- * product is the one of C, which is what the mark is about. In one step it is Ch * x, and divided x / Ch. A refusal has no direction.
+ * product is RN(C * x), which is what the mark tells. In one step it is Ch * x, and divided x / Ch. A refusal has no direction.
  *
  * gusnalip_read asks for the machine's default rounding mode, round to nearest (FE_TONEAREST): with another one that the caller has set,
  * readings whose products lie near a midpoint can come out differently. Nothing else depends on it: quotients and one-step products, those
