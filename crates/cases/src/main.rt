@@ -1,6 +1,6 @@
 // Answers lines of calls of the engine: each line comes back, then one blank and the result. Fields are upper-case hexadecimal digits, one blank apart.
 //
-//   01 n (8) k (8) L (16) U (16)    set-up; an accepted factor becomes the factor
+//   01 S (8) n (8) k (8) L (16) U (16)   set-up with the sign S, 0 or not 0; an accepted factor becomes the factor
 //   02 F (2) V (16)                 word F of the state becomes V
 //   03 X (16)                       multiplies the significand X
 //   04 R (8)                        multiplies the reading with these bits
@@ -14,7 +14,7 @@
 //   0C R (8)                        multiplies the reading with these bits in one step
 //   0D A (16) B (16)                the tally of the significands from A to B in one step: right, wrong and open, 8 digits each
 //
-// The factor and the state are the exported words, at first all 0. A refusal is two decimal digits, and so is a mark: 01 right, 02 open, 03 wrong. A product, a quotient and a reading's answer end in the direction: 01 below, 02 equal, 03 above. Any other line is answered with 24.
+// The factor and the state are the exported words, at first all 0. A refusal is two decimal digits, and so is a mark: 01 right, 02 open, 03 wrong. A product, a quotient and a reading's answer end in the direction: 01 below, 02 equal, 03 above; those of significands then in the sign, 00 plus or 01 minus. Any other line is answered with 24.
 use exports::TakenFactor;
 use factor::Factor;
 use frame::Field;
@@ -69,13 +69,14 @@ struct Cursor {
     value: u64,
 }
 
-// What a line says after its kind: up to four numbers, and whether they are all that it says.
+// What a line says after its kind: up to five numbers, and whether they are all that it says.
 struct Numbers {
     good: bool,
     a: u64,
     b: u64,
     c: u64,
     d: u64,
+    e: u64,
 }
 
 // The next field, of `width` digits behind a blank; none where the width is 0.
@@ -111,8 +112,8 @@ fn next_field(line: &[u8], c: Cursor, width: usize) -> Cursor
 }
 
 // The fields of a line, of these widths, which are all that stands behind its kind.
-fn fields(line: &[u8], a: usize, b: usize, c: usize, d: usize) -> Numbers
-    requires { ⌜ (a ≤ 16) × (b ≤ 16) × (c ≤ 16) × (d ≤ 16) ⌝ }
+fn fields(line: &[u8], a: usize, b: usize, c: usize, d: usize, e: usize) -> Numbers
+    requires { ⌜ (a ≤ 16) × (b ≤ 16) × (c ≤ 16) × (d ≤ 16) × (e ≤ 16) ⌝ }
 {
     let start = Cursor {
         good: true,
@@ -123,30 +124,33 @@ fn fields(line: &[u8], a: usize, b: usize, c: usize, d: usize) -> Numbers
     let second = next_field(line, first, b);
     let third = next_field(line, second, c);
     let fourth = next_field(line, third, d);
+    let fifth = next_field(line, fourth, e);
     Numbers {
-        good: fourth.good & (fourth.at == line.len()),
+        good: fifth.good & (fifth.at == line.len()),
         a: first.value,
         b: second.value,
         c: third.value,
         d: fourth.value,
+        e: fifth.value,
     }
 }
 
 // What a line of a kind says.
 fn arguments(line: &[u8], kind: u64) -> Numbers {
     match kind {
-        1 => fields(line, 8, 8, 16, 16),
-        2 | 5 => fields(line, 2, 16, 0, 0),
-        3 | 9 | 11 => fields(line, 16, 0, 0, 0),
-        4 | 8 | 10 | 12 => fields(line, 8, 0, 0, 0),
-        6 | 13 => fields(line, 16, 16, 0, 0),
-        7 => fields(line, 16, 2, 16, 0),
+        1 => fields(line, 8, 8, 8, 16, 16),
+        2 | 5 => fields(line, 2, 16, 0, 0, 0),
+        3 | 9 | 11 => fields(line, 16, 0, 0, 0, 0),
+        4 | 8 | 10 | 12 => fields(line, 8, 0, 0, 0, 0),
+        6 | 13 => fields(line, 16, 16, 0, 0, 0),
+        7 => fields(line, 16, 2, 16, 0, 0),
         _ => Numbers {
             good: false,
             a: 0,
             b: 0,
             c: 0,
             d: 0,
+            e: 0,
         },
     }
 }
@@ -160,25 +164,33 @@ fn kind_of(line: &[u8]) -> u64 {
 }
 
 // ---- kinds of lines
-fn put_factor(state: &[u64; 13]) {
-    put_field(16, state[3]);
+fn put_factor(state: &[u64; 14]) {
+    put_field(2, state[0]);
     put_field(16, state[4]);
-    put_field(8, state[5]);
+    put_field(16, state[5]);
     put_field(8, state[6]);
     put_field(8, state[7]);
+    put_field(8, state[8]);
 }
 
-fn set_up(state: &mut [u64; 13], n: Numbers) {
-    let scale = words::signed_half(words::low_half(n.b));
-    let number = exports::gusnalip_set_up(words::low_half(n.a), scale, n.c, n.d, state);
+fn set_up(state: &mut [u64; 14], n: Numbers) {
+    let scale = words::signed_half(words::low_half(n.c));
+    let number = exports::gusnalip_set_up(
+        words::low_half(n.a),
+        words::low_half(n.b),
+        scale,
+        n.d,
+        n.e,
+        state,
+    );
     put_outcome(number);
     if number == 0 {
         put_factor(state);
     }
 }
 
-fn change(state: &mut [u64; 13], number: u64, v: u64) {
-    if 12 < number {
+fn change(state: &mut [u64; 14], number: u64, v: u64) {
+    if 13 < number {
         not_a_line();
         return;
     }
@@ -186,14 +198,15 @@ fn change(state: &mut [u64; 13], number: u64, v: u64) {
     state[number as usize] = v;
 }
 
-fn put_product(out: &[u64; 3]) {
+fn put_product(out: &[u64; 4]) {
     put_field(16, out[0]);
     put_field(2, out[1]);
     put_field(2, out[2]);
+    put_field(2, out[3]);
 }
 
-fn multiply(state: &[u64; 13], x: u64) {
-    let mut out = [0u64; 3];
+fn multiply(state: &[u64; 14], x: u64) {
+    let mut out = [0u64; 4];
     let number = exports::gusnalip_multiply(state, x, &mut out);
     put_outcome(number);
     if number <= 3 {
@@ -218,7 +231,7 @@ fn put_reading(out: &[u32; 2]) {
     put_field(2, wide(out[1]));
 }
 
-fn read(state: &[u64; 13], reading: u32) {
+fn read(state: &[u64; 14], reading: u32) {
     let mut out = [0u32; 2];
     let number = exports::gusnalip_read(state, reading, &mut out);
     put_outcome(number);
@@ -227,14 +240,15 @@ fn read(state: &[u64; 13], reading: u32) {
     }
 }
 
-fn put_quotient(out: &[u64; 3]) {
+fn put_quotient(out: &[u64; 4]) {
     put_field(16, out[0]);
     put_field(16, out[1]);
     put_field(2, out[2]);
+    put_field(2, out[3]);
 }
 
-fn divide(state: &[u64; 13], x: u64) {
-    let mut out = [0u64; 3];
+fn divide(state: &[u64; 14], x: u64) {
+    let mut out = [0u64; 4];
     let number = exports::gusnalip_divide(state, x, &mut out);
     put_outcome(number);
     if number == 0 {
@@ -242,7 +256,7 @@ fn divide(state: &[u64; 13], x: u64) {
     }
 }
 
-fn divide_reading(state: &[u64; 13], reading: u32) {
+fn divide_reading(state: &[u64; 14], reading: u32) {
     let mut out = [0u32; 2];
     let number = exports::gusnalip_divide_reading(state, reading, &mut out);
     put_outcome(number);
@@ -251,8 +265,8 @@ fn divide_reading(state: &[u64; 13], reading: u32) {
     }
 }
 
-fn multiply_once(state: &[u64; 13], x: u64) {
-    let mut out = [0u64; 3];
+fn multiply_once(state: &[u64; 14], x: u64) {
+    let mut out = [0u64; 4];
     let number = exports::gusnalip_multiply_once(state, x, &mut out);
     put_outcome(number);
     if number <= 3 {
@@ -260,7 +274,7 @@ fn multiply_once(state: &[u64; 13], x: u64) {
     }
 }
 
-fn read_once(state: &[u64; 13], reading: u32) {
+fn read_once(state: &[u64; 14], reading: u32) {
     let mut out = [0u32; 2];
     let number = exports::gusnalip_read_once(state, reading, &mut out);
     put_outcome(number);
@@ -275,7 +289,7 @@ fn put_tally(out: &[u64; 3]) {
     put_field(8, out[2]);
 }
 
-fn tally(state: &[u64; 13], first: u64, last: u64) {
+fn tally(state: &[u64; 14], first: u64, last: u64) {
     let mut out = [0u64; 3];
     let number = exports::gusnalip_tally(state, first, last, &mut out);
     put_outcome(number);
@@ -321,18 +335,18 @@ fn search(f: Factor, high: bool, x: u64) {
     put_outcome(31);
 }
 
-fn search_half(state: &[u64; 13], half: u64, x: u64) {
+fn search_half(state: &[u64; 14], half: u64, x: u64) {
     if 1 < half {
         not_a_line();
         return;
     }
-    match exports::take_factor(state, 9, 0, 0) {
+    match exports::take_factor(state, 10, 0, 0) {
         TakenFactor::Accepted(f) => search(f, half == 1, x),
         TakenFactor::Refused(number) => put_outcome(number),
     }
 }
 
-fn new_sweep(given: [u64; 13], state: &mut [u64; 13], first: u64, last: u64) {
+fn new_sweep(given: [u64; 14], state: &mut [u64; 14], first: u64, last: u64) {
     put_outcome(exports::gusnalip_new_sweep(&given, first, last, state));
 }
 
@@ -342,15 +356,15 @@ fn put_counts(counts: &[u64; 3]) {
     put_field(16, counts[2]);
 }
 
-fn put_state(state: &[u64; 13]) {
-    put_field(16, state[9]);
+fn put_state(state: &[u64; 14]) {
     put_field(16, state[10]);
     put_field(16, state[11]);
-    put_field(2, (state[12] != 0) as u64);
+    put_field(16, state[12]);
+    put_field(2, (state[13] != 0) as u64);
 }
 
 // A sweep call with what it answers, then the state and the list.
-fn call(state: &mut [u64; 13], cap: u64, list: &mut [u32], free: usize) {
+fn call(state: &mut [u64; 14], cap: u64, list: &mut [u32], free: usize) {
     let mut counts = [0u64; 3];
     let number = exports::gusnalip_sweep(state, cap, list, free, &mut counts);
     put_outcome(number);
@@ -362,7 +376,7 @@ fn call(state: &mut [u64; 13], cap: u64, list: &mut [u32], free: usize) {
 }
 
 // The same on the list's first words.
-fn call_on(state: &mut [u64; 13], cap: u64, list: &mut [u32], n: usize, free: usize) {
+fn call_on(state: &mut [u64; 14], cap: u64, list: &mut [u32], n: usize, free: usize) {
     if list.len() < n {
         not_a_line();
         return;
@@ -377,7 +391,7 @@ fn fill(list: &mut [u32; 64], v: u32) {
 
 // ---- lines
 // The answer to a line by its kind and what it says.
-fn answer(state: &mut [u64; 13], list: &mut [u32; 64], kind: u64, n: Numbers) {
+fn answer(state: &mut [u64; 14], list: &mut [u32; 64], kind: u64, n: Numbers) {
     if !n.good {
         not_a_line();
         return;
@@ -399,7 +413,7 @@ fn answer(state: &mut [u64; 13], list: &mut [u32; 64], kind: u64, n: Numbers) {
     }
 }
 
-fn answer_line(state: &mut [u64; 13], list: &mut [u32; 64], line: &[u8]) {
+fn answer_line(state: &mut [u64; 14], list: &mut [u32; 64], line: &[u8]) {
     io::write_all(1, line);
     let kind = kind_of(line);
     answer(state, list, kind, arguments(line, kind));
@@ -414,7 +428,7 @@ fn last_line(line: &[u8]) {
 }
 
 fn run(input: &[u8]) {
-    let mut state = [0u64; 13];
+    let mut state = [0u64; 14];
     let mut list = [4294967295u32; 64];
     let mut from: usize = 0;
     let mut i: usize = 0;

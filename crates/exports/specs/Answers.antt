@@ -13,9 +13,9 @@ use Rattle.factor.specs.declared.Description.{Description}
 use Rattle.factor.specs.declared.Factor.{Factor}
 use Rattle.factor.specs.SetUp.{setUp}
 use Rattle.product.specs.declared.Device.{Device}
-use Rattle.product.specs.declared.DirectedProduct.{DirectedProduct}
+use Rattle.product.specs.declared.SignedProduct.{SignedProduct}
 use Rattle.product.specs.Answer.{multiplied}
-use Rattle.quotient.specs.declared.DirectedQuotient.{DirectedQuotient}
+use Rattle.quotient.specs.declared.SignedQuotient.{SignedQuotient}
 use Rattle.quotient.specs.Answer.{divided}
 use Rattle.reading.specs.Reading.{DirectedNumber, applied}
 use Rattle.reading.specs.Divided.{dividedReading}
@@ -27,7 +27,7 @@ use Rattle.sweep.specs.Answers.{callOf}
 use Rattle.tally.specs.declared.Counts.{Counts}
 use Rattle.tally.specs.Tally.{tallied}
 use Rattle.exports.specs.declared.TakenFactor.{TakenFactor}
-use Rattle.exports.specs.Words.{factorLength, factorFrom, factorWords, damaged, stateLength, stateOf, stateWords}
+use Rattle.exports.specs.Words.{flagWord, factorLength, factorFrom, factorWords, damaged, stateLength, stateOf, stateWords}
 
 -- ---- what is taken from a caller's lists
 -- a list is too short: it has fewer words than are due
@@ -90,14 +90,14 @@ unfoldable pub setUpTo : Description → (out : List ℕ) → Answer
 unfolding setUp factorWords
 setUpTo d out = setUpAnswer (andThen (answer (tooShort (length out) factorLength ∷ []) d) setUp)
 
--- ---- a product: 1 right, 2 open, 3 wrong, with significand, binade and direction, or the refusal
-abbrev pub productWords : DirectedProduct → List ℕ
-productWords v = v .product .significand ∷ v .product .binade ∷ directionNumber (v .direction) ∷ []
+-- ---- a product: 1 right, 2 open, 3 wrong, with significand, binade, direction and sign, or the refusal
+abbrev pub productWords : SignedProduct → List ℕ
+productWords v = v .product .significand ∷ v .product .binade ∷ directionNumber (v .direction) ∷ flagWord (v .minus) ∷ []
 
 -- on a device
 unfoldable pub multiplyTo : Device → (factor : List ℕ) (X : ℕ) (out : List ℕ) → Answer
 unfolding multiplied taken
-multiplyTo d factor X out = markedAnswer productWords (andThen (taken factor factorLength (length out) 3) (λ f. multiplied d f X))
+multiplyTo d factor X out = markedAnswer productWords (andThen (taken factor factorLength (length out) 4) (λ f. multiplied d f X))
 
 -- ---- a reading: 1 right, 2 open, 3 wrong, with the product's bits and direction, or the refusal
 abbrev pub readingWords : DirectedNumber → List ℕ
@@ -119,13 +119,13 @@ unfoldable pub tallyTo : (factor : List ℕ) (first last : ℕ) (out : List ℕ)
 unfolding tallied taken
 tallyTo factor first last out = plainAnswer tallyWords (andThen (taken factor factorLength (length out) 3) (λ f. tallied f first last))
 
--- ---- a quotient: 0 with significand, binade, which is a word in two's complement, and direction, or the refusal
-abbrev pub quotientWords : DirectedQuotient → List ℕ
-quotientWords v = v .quotient .significand ∷ unsigned 64 (v .quotient .binade) ∷ directionNumber (v .direction) ∷ []
+-- ---- a quotient: 0 with significand, binade, which is a word in two's complement, direction and sign, or the refusal
+abbrev pub quotientWords : SignedQuotient → List ℕ
+quotientWords v = v .quotient .significand ∷ unsigned 64 (v .quotient .binade) ∷ directionNumber (v .direction) ∷ flagWord (v .minus) ∷ []
 
 unfoldable pub divideTo : (factor : List ℕ) (X : ℕ) (out : List ℕ) → Answer
 unfolding divided taken
-divideTo factor X out = plainAnswer quotientWords (andThen (taken factor factorLength (length out) 3) (λ f. divided f X))
+divideTo factor X out = plainAnswer quotientWords (andThen (taken factor factorLength (length out) 4) (λ f. divided f X))
 
 -- ---- a reading's quotient: 0 with its bits and direction, or the refusal
 unfoldable pub divideReadingTo : (factor : List ℕ) (reading : ℕ) (out : List ℕ) → Answer

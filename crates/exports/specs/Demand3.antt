@@ -37,7 +37,7 @@ module _ (s : State Factor) (W : Writable (s .factor)) (rest : List ℕ) (cap : 
 
   state-taken : 3 ≤ length counts → taken ws stateLength (length counts) 3 ≡ accepted (factorFrom ws)
   unfolding taken stateWords
-  state-taken room = sym (accepts (pass (le-ltb (length ws) 13 (omega arith)) (pass (le-ltb (length counts) 3 room) (pass (state-not-damaged s W rest) end))) (factorFrom ws))
+  state-taken room = sym (accepts (pass (le-ltb (length ws) 14 (omega arith)) (pass (le-ltb (length counts) 3 room) (pass (state-not-damaged s W rest) end))) (factorFrom ws))
 
   pub call-to : 3 ≤ length counts → sweepTo ws cap list free counts ≡ replyWords reply
   unfolding sweepTo stateFrom
@@ -186,7 +186,7 @@ begins-to d f e rest first last out inside room =
     let W = set-up-writable d f e in
     let ws = factorWords f ++ rest in
     ap (λ (o : Outcome Factor). newSweepAnswer (andThen o (λ f. newState engine f first last)) .number)
-    (sym (accepts (pass (le-ltb (length ws) 9 (omega arith)) (pass (le-ltb (length out) 13 room) (pass (not-damaged f W rest) end))) (factorFrom ws)))
+    (sym (accepts (pass (le-ltb (length ws) 10 (omega arith)) (pass (le-ltb (length out) 14 room) (pass (not-damaged f W rest) end))) (factorFrom ws)))
     ∙ ap (λ (g : Factor). newSweepAnswer (newState engine g first last) .number) (factor-back f W rest)
     ∙ ap (λ (o : Outcome (State Factor)). newSweepAnswer o .number) (set-up-begins d f first last e inside)
 

@@ -1,12 +1,12 @@
 -- What is written as words is read back: factors that were accepted, and states over them. Assumes nothing.
 use mathlib.Core.Path.{_≡_, refl, sym, ap, _∙_, subst}
-use mathlib.Core.Bool.{Bool, true, false, cond, not}
+use mathlib.Core.Bool.{Bool, true, false}
 use mathlib.Core.List.{List, _∷_, _++_}
 use Prim.Native.Nat.{ℕ, _^_, _≤_, _<_}
 use native.Mathlib.Omega.{arith}
 use native.Mathlib.Nat.{lt-of-not-le}
 use native.Mathlib.Decide.{decLe}
-use lib.Dec.{T, eqb, ltb}
+use lib.Dec.{T, ltb}
 use lib.IntN.{ℤ, pos, negsuc, natAbs}
 use lib.Pow.{pow-mono}
 use lib.Signed.{mag}
@@ -28,7 +28,7 @@ use Rattle.factor.specs.SetUpLaws.{setUp-sound, intact-sound}
 use Rattle.factor.specs.Stored.{Storable}
 use Rattle.factor.specs.StoredLaws.{storable}
 use Rattle.calls.specs.State.{State}
-use Rattle.exports.specs.Words.{word, factorFrom, factorWords, damaged, stateFrom, stateWords}
+use Rattle.exports.specs.Words.{word, flagWord, flagFrom, factorFrom, factorWords, damaged, stateFrom, stateWords}
 
 -- ---- a factor that words hold whole: it is sound, and its floats are of binary32
 pub record Writable (f : Factor) : Type 0 where
@@ -47,7 +47,12 @@ set-up-writable d f e =
 -- and what is read from words, where 31 lets it through
 pub read-writable : (ws : List ℕ) → intact (factorFrom ws) ≡ true → Writable (factorFrom ws)
 unfolding factorFrom
-read-writable ws e = record { sound = intact-sound (factorFrom ws) e; high = ofBits-fits binary32 (low32 (word ws 6)); low = ofBits-fits binary32 (low32 (word ws 7)) }
+read-writable ws e = record { sound = intact-sound (factorFrom ws) e; high = ofBits-fits binary32 (low32 (word ws 7)); low = ofBits-fits binary32 (low32 (word ws 8)) }
+
+-- ---- a yes or no
+flag-back : (b : Bool) → flagFrom (flagWord b) ≡ b
+flag-back true = refl
+flag-back false = refl
 
 -- ---- the sizes of its fields
 scale-small : (k : ℤ) → scaleOut k ≡ false → mag k ≤ 100
@@ -109,6 +114,7 @@ module _ (f : Factor) (W : Writable f) where
       let low-float = float-back (f .applied .low) (W .low) in
       let scale = ap (signed 32) (low-all (unsigned 32 (f .applied .scale)) scale-narrow) ∙ signed-unsigned 32 (omega arith) (f .applied .scale) scale-held in
       λ i. record {
+        minus = flag-back (f .minus) i;
         precision = record { bits = bits i };
         lower = f .lower;
         upper = f .upper;
@@ -117,14 +123,10 @@ module _ (f : Factor) (W : Writable f) where
       }
 
 -- ---- a state over such a factor, likewise
-mark-back : (b : Bool) → not (eqb (cond b 1 0) 0) ≡ b
-mark-back true = refl
-mark-back false = refl
-
 module _ (s : State Factor) (W : Writable (s .factor)) (rest : List ℕ) where
   -- the words behind the factor's
   abbrev behind : List ℕ
-  behind = s .first ∷ s .last ∷ s .next ∷ cond (s .finished) 1 0 ∷ rest
+  behind = s .first ∷ s .last ∷ s .next ∷ flagWord (s .finished) ∷ rest
 
   pub state-not-damaged : damaged (stateWords s ++ rest) ≡ false
   unfolding stateWords
@@ -132,4 +134,4 @@ module _ (s : State Factor) (W : Writable (s .factor)) (rest : List ℕ) where
 
   pub state-back : stateFrom (stateWords s ++ rest) ≡ s
   unfolding stateFrom stateWords
-  state-back = λ i. record { factor = factor-back (s .factor) W behind i; first = s .first; last = s .last; next = s .next; finished = mark-back (s .finished) i }
+  state-back = λ i. record { factor = factor-back (s .factor) W behind i; first = s .first; last = s .last; next = s .next; finished = flag-back (s .finished) i }

@@ -14,25 +14,34 @@ use Rattle.calls.specs.State.{State}
 abbrev pub word : List ℕ → ℕ → ℕ
 word ws i = getD ws i 0
 
--- ---- a factor as 9 words: bits, lower end, upper end, high significand, low significand, places, both floats by their bits, scale
+-- a yes or no as a word, and from one: any word but 0 is a yes
+abbrev pub flagWord : Bool → ℕ
+flagWord b = cond b 1 0
+
+abbrev pub flagFrom : ℕ → Bool
+flagFrom w = not (eqb w 0)
+
+-- ---- a factor as 10 words: whether it lies below zero, bits, lower end, upper end, high significand, low significand, places, both floats by their bits, scale
 abbrev pub factorLength : ℕ
-factorLength = 9
+factorLength = 10
 
 unfoldable pub factorFrom : List ℕ → Factor
 unfolding ofBits
 factorFrom ws =
     record {
-      precision = record { bits = low32 (word ws 0) };
-      lower = word ws 1;
-      upper = word ws 2;
-      parts = record { high = word ws 3; low = signed 64 (word ws 4); places = low32 (word ws 5) };
-      applied = record { high = ofBits binary32 (low32 (word ws 6)); low = ofBits binary32 (low32 (word ws 7)); scale = signed 32 (low32 (word ws 8)) };
+      minus = flagFrom (word ws 0);
+      precision = record { bits = low32 (word ws 1) };
+      lower = word ws 2;
+      upper = word ws 3;
+      parts = record { high = word ws 4; low = signed 64 (word ws 5); places = low32 (word ws 6) };
+      applied = record { high = ofBits binary32 (low32 (word ws 7)); low = ofBits binary32 (low32 (word ws 8)); scale = signed 32 (low32 (word ws 9)) };
     }
 
 unfoldable pub factorWords : Factor → List ℕ
 unfolding toBits
 factorWords f =
-    f .precision .bits
+    flagWord (f .minus)
+    ∷ f .precision .bits
     ∷ f .lower
     ∷ f .upper
     ∷ f .parts .high
@@ -45,15 +54,15 @@ factorWords f =
 
 -- damage: precision, places, floats and scale are written with an upper half of 0, so a word of theirs with another one was altered
 unfoldable pub damaged : List ℕ → Bool
-damaged ws = pastHalf (word ws 0) || pastHalf (word ws 5) || pastHalf (word ws 6) || pastHalf (word ws 7) || pastHalf (word ws 8)
+damaged ws = pastHalf (word ws 1) || pastHalf (word ws 6) || pastHalf (word ws 7) || pastHalf (word ws 8) || pastHalf (word ws 9)
 
--- ---- a sweep's state as 13 words: the factor's, then first, last and next significand, and the finished mark, which is any word but 0
+-- ---- a sweep's state as 14 words: the factor's, then first, last and next significand, and the finished mark
 abbrev pub stateLength : ℕ
-stateLength = 13
+stateLength = 14
 
 -- the state over a factor, from the words behind the factor's
 abbrev pub stateOf : Factor → List ℕ → State Factor
-stateOf f ws = record { factor = f; first = word ws 9; last = word ws 10; next = word ws 11; finished = not (eqb (word ws 12) 0) }
+stateOf f ws = record { factor = f; first = word ws 10; last = word ws 11; next = word ws 12; finished = flagFrom (word ws 13) }
 
 unfoldable pub stateFrom : List ℕ → State Factor
 unfolding factorFrom
@@ -61,4 +70,4 @@ stateFrom ws = stateOf (factorFrom ws) ws
 
 unfoldable pub stateWords : State Factor → List ℕ
 unfolding factorWords
-stateWords s = factorWords (s .factor) ++ (s .first ∷ s .last ∷ s .next ∷ cond (s .finished) 1 0 ∷ [])
+stateWords s = factorWords (s .factor) ++ (s .first ∷ s .last ∷ s .next ∷ flagWord (s .finished) ∷ [])

@@ -6,10 +6,10 @@ use factor::Parts;
 use factor::Precision;
 use factor::SetUp;
 use product::Device;
-use product::DirectedProduct;
 use product::ProductAnswer;
-use quotient::DirectedQuotient;
+use product::SignedProduct;
 use quotient::QuotientAnswer;
+use quotient::SignedQuotient;
 use reading::NumberAnswer;
 use reading::ReadingAnswer;
 use rounding::Direction;
@@ -19,7 +19,9 @@ use sweep::SweepState;
 use tally::Counts;
 use tally::TallyAnswer;
 ghost use mathlib.Core.Path.{_≡_};
+ghost use mathlib.Core.Bool.{not};
 ghost use Prim.Native.Nat.{_≤_};
+ghost use lib.Dec.{eqb};
 ghost use lib.ListN.{length};
 ghost use lib.Seq.{sets};
 ghost use Rattle.product.specs.declared.Device.{Device};
@@ -29,17 +31,17 @@ ghost use Rattle.exports.specs.Words.{factorFrom, factorWords, damaged, 
 ghost use Rattle.exports.specs.Answers.{taken, takenOf, leaves, setUpTo, directionNumber, productWords, quotientWords, readingWords, multiplyTo, readingAnswer, readTo, tallyWords, tallyTo, divideTo, divideReadingTo, newSweepTo, sweepTo};
 
 // So many words have a factor, a product, a quotient, what a reading is answered with, a tally, a sweep's state, and what a sweep call counts.
-const FACTOR_WORDS: usize = 9;
+const FACTOR_WORDS: usize = 10;
 
-const PRODUCT_WORDS: usize = 3;
+const PRODUCT_WORDS: usize = 4;
 
-const QUOTIENT_WORDS: usize = 3;
+const QUOTIENT_WORDS: usize = 4;
 
 const READING_WORDS: usize = 2;
 
 const TALLY_WORDS: usize = 3;
 
-const STATE_WORDS: usize = 13;
+const STATE_WORDS: usize = 14;
 
 const COUNT_WORDS: usize = 3;
 
@@ -54,28 +56,29 @@ pub enum TakenFactor {
     Refused(u32),
 }
 
-// A factor from its words.
+// A factor from its words; the sign is minus where its word is not 0.
 fn factor_from(words: &[u64]) -> Factor
-    requires { ⌜ 9 ≤ length (now words) ⌝ }
+    requires { ⌜ 10 ≤ length (now words) ⌝ }
     ensures { λ r. ⌜ r ≡ factorFrom (now (words .entry)) ⌝ }
 {
     let precision = Precision {
-        bits: words::low_half(words[0]),
+        bits: words::low_half(words[1]),
     };
     let parts = Parts {
-        high: words[3],
-        low: words::signed_word(words[4]),
-        places: words::low_half(words[5]),
+        high: words[4],
+        low: words::signed_word(words[5]),
+        places: words::low_half(words[6]),
     };
     let applied = Applied {
-        high: floats::float_from(words::low_half(words[6])),
-        low: floats::float_from(words::low_half(words[7])),
-        scale: words::signed_half(words::low_half(words[8])),
+        high: floats::float_from(words::low_half(words[7])),
+        low: floats::float_from(words::low_half(words[8])),
+        scale: words::signed_half(words::low_half(words[9])),
     };
     Factor {
+        minus: words[0] != 0,
         precision,
-        lower: words[1],
-        upper: words[2],
+        lower: words[2],
+        upper: words[3],
         parts,
         applied,
     }
@@ -83,19 +86,19 @@ fn factor_from(words: &[u64]) -> Factor
 
 // Whether a word of precision, places, floats or scale has an upper half that is not as written, 0.
 fn is_damaged(words: &[u64]) -> bool
-    requires { ⌜ 9 ≤ length (now words) ⌝ }
+    requires { ⌜ 10 ≤ length (now words) ⌝ }
     ensures { λ r. ⌜ r ≡ damaged (now (words .entry)) ⌝ }
 {
-    words::is_past_half(words[0])
-        | words::is_past_half(words[5])
+    words::is_past_half(words[1])
         | words::is_past_half(words[6])
         | words::is_past_half(words[7])
         | words::is_past_half(words[8])
+        | words::is_past_half(words[9])
 }
 
 // The factor in a caller's words, of which so many are due, for an answer that needs so much room; 255 where either is too short, 31 where the words are damaged.
 pub fn take_factor(words: &[u64], due: usize, room: usize, needed: usize) -> TakenFactor
-    requires { ⌜ 9 ≤ due ⌝ }
+    requires { ⌜ 10 ≤ due ⌝ }
     ensures { λ r. ⌜ takenOf r ≡ taken (now (words .entry)) due room needed ⌝ }
 {
     if words.len() < due {
@@ -112,18 +115,19 @@ pub fn take_factor(words: &[u64], due: usize, room: usize, needed: usize) -> Tak
 
 // The words of a factor.
 fn put_factor(f: Factor, out: &mut [u64])
-    requires { ⌜ 9 ≤ length (now out) ⌝ }
+    requires { ⌜ 10 ≤ length (now out) ⌝ }
     ensures { λ _. ⌜ now (out .exit) ≡ sets (now (out .entry)) 0 (factorWords f) ⌝ }
 {
-    out[0] = f.precision.bits as u64;
-    out[1] = f.lower;
-    out[2] = f.upper;
-    out[3] = f.parts.high;
-    out[4] = words::unsigned_word(f.parts.low);
-    out[5] = f.parts.places as u64;
-    out[6] = floats::bits_of(f.applied.high) as u64;
-    out[7] = floats::bits_of(f.applied.low) as u64;
-    out[8] = words::unsigned_half(f.applied.scale);
+    out[0] = f.minus as u64;
+    out[1] = f.precision.bits as u64;
+    out[2] = f.lower;
+    out[3] = f.upper;
+    out[4] = f.parts.high;
+    out[5] = words::unsigned_word(f.parts.low);
+    out[6] = f.parts.places as u64;
+    out[7] = floats::bits_of(f.applied.high) as u64;
+    out[8] = floats::bits_of(f.applied.low) as u64;
+    out[9] = words::unsigned_half(f.applied.scale);
 }
 
 // A direction as a word: 1 below, 2 equal, 3 above.
@@ -138,8 +142,8 @@ fn direction_number(d: Direction) -> u32
 }
 
 // The words of a product, and its mark as the answer.
-fn put_product(mark: u32, v: DirectedProduct, out: &mut [u64]) -> u32
-    requires { ⌜ 3 ≤ length (now out) ⌝ }
+fn put_product(mark: u32, v: SignedProduct, out: &mut [u64]) -> u32
+    requires { ⌜ 4 ≤ length (now out) ⌝ }
     ensures { λ r. ⌜ r ≡ mark ⌝ }
     ensures { λ _. ⌜ now (out .exit) ≡ sets (now (out .entry)) 0 (productWords v) ⌝ }
 {
@@ -148,12 +152,13 @@ fn put_product(mark: u32, v: DirectedProduct, out: &mut [u64]) -> u32
     out[0] = p.significand;
     out[1] = p.binade as u64;
     out[2] = direction_number(direction) as u64;
+    out[3] = v.minus as u64;
     mark
 }
 
 // The words of a quotient, and 0 as the answer: it has no mark.
-fn put_quotient(v: DirectedQuotient, out: &mut [u64]) -> u32
-    requires { ⌜ 3 ≤ length (now out) ⌝ }
+fn put_quotient(v: SignedQuotient, out: &mut [u64]) -> u32
+    requires { ⌜ 4 ≤ length (now out) ⌝ }
     ensures { λ r. ⌜ r ≡ 0 ⌝ }
     ensures { λ _. ⌜ now (out .exit) ≡ sets (now (out .entry)) 0 (quotientWords v) ⌝ }
 {
@@ -162,6 +167,7 @@ fn put_quotient(v: DirectedQuotient, out: &mut [u64]) -> u32
     out[0] = q.significand;
     out[1] = words::unsigned_word(q.binade as i64);
     out[2] = direction_number(direction) as u64;
+    out[3] = v.minus as u64;
     0
 }
 
@@ -204,29 +210,29 @@ fn put_counts(t: Counts, out: &mut [u64]) -> u32
 
 // A sweep's state over a factor, from the words behind the factor's: the first, last and next significand, and whether it is finished.
 fn state_of(factor: Factor, words: &[u64]) -> SweepState
-    requires { ⌜ 13 ≤ length (now words) ⌝ }
+    requires { ⌜ 14 ≤ length (now words) ⌝ }
     ensures { λ r. ⌜ viewOf r ≡ stateOf factor (now (words .entry)) ⌝ }
 {
     SweepState {
         factor,
-        first: words[9],
-        last: words[10],
-        next: words[11],
-        finished: words[12] != 0,
+        first: words[10],
+        last: words[11],
+        next: words[12],
+        finished: words[13] != 0,
     }
 }
 
 // The words of a sweep's state.
 fn put_state(s: SweepState, out: &mut [u64])
-    requires { ⌜ 13 ≤ length (now out) ⌝ }
+    requires { ⌜ 14 ≤ length (now out) ⌝ }
     ensures { λ _. ⌜ now (out .exit) ≡ sets (now (out .entry)) 0 (stateWords (viewOf s)) ⌝ }
 {
     let f = s.factor;
     put_factor(f, out);
-    out[9] = s.first;
-    out[10] = s.last;
-    out[11] = s.next;
-    out[12] = s.finished as u64;
+    out[10] = s.first;
+    out[11] = s.last;
+    out[12] = s.next;
+    out[13] = s.finished as u64;
 }
 
 // A significand multiplied on a device, as a number and words. The factor's words are lent on: a slice that is passed on as it came goes through memory, which costs 3 ns.
@@ -258,22 +264,24 @@ fn read_on(d: Device, factor: &[u64], reading: u32, out: &mut [u32]) -> u32
     }
 }
 
-// Set-up: 0 and the factor's 9 words, or the refusal; 255 where the list is too short.
+// Set-up: 0 and the factor's 10 words, or the refusal; 255 where the list is too short. The sign is minus where it is not 0.
 #[no_mangle]
 pub extern "C" fn gusnalip_set_up(
+    minus: u32,
     precision: u32,
     scale: i32,
     lower: u64,
     upper: u64,
     out: &mut [u64],
 ) -> u32
-    ensures { λ r. ⌜ r ≡ setUpTo (record { precision = precision; scale = scale; lower = lower; upper = upper }) (now (out .entry)) .number ⌝ }
-    ensures { λ _. ⌜ now (out .exit) ≡ leaves (setUpTo (record { precision = precision; scale = scale; lower = lower; upper = upper }) (now (out .entry))) (now (out .entry)) ⌝ }
+    ensures { λ r. ⌜ r ≡ setUpTo (record { minus = not (eqb minus 0); precision = precision; scale = scale; lower = lower; upper = upper }) (now (out .entry)) .number ⌝ }
+    ensures { λ _. ⌜ now (out .exit) ≡ leaves (setUpTo (record { minus = not (eqb minus 0); precision = precision; scale = scale; lower = lower; upper = upper }) (now (out .entry))) (now (out .entry)) ⌝ }
 {
     if out.len() < FACTOR_WORDS {
         return TOO_SHORT;
     }
     let d = Description {
+        minus: minus != 0,
         precision,
         scale,
         lower,
@@ -288,7 +296,7 @@ pub extern "C" fn gusnalip_set_up(
     }
 }
 
-// Multiplies a significand: 1 right, 2 open, 3 wrong, with significand, binade and direction (1 below, 2 equal, 3 above), or the refusal; 255 where a list is too short, 31 where the factor's words are damaged.
+// Multiplies a significand: 1 right, 2 open, 3 wrong, with significand, binade, direction (1 below, 2 equal, 3 above) and sign (0 plus, 1 minus), or the refusal; 255 where a list is too short, 31 where the factor's words are damaged.
 #[no_mangle]
 pub extern "C" fn gusnalip_multiply(factor: &[u64], x: u64, out: &mut [u64]) -> u32
     ensures { λ r. ⌜ r ≡ multiplyTo Device.TwoStep (now (factor .entry)) x (now (out .entry)) .number ⌝ }
@@ -339,7 +347,7 @@ pub extern "C" fn gusnalip_tally(factor: &[u64], first: u64, last: u64, out: &mu
     }
 }
 
-// Divides a significand: 0 with the quotient's significand, its binade, a word in two's complement, and its direction, or the refusal; 255 where a list is too short, 31 where the factor's words are damaged.
+// Divides a significand: 0 with the quotient's significand, its binade, a word in two's complement, its direction and its sign, or the refusal; 255 where a list is too short, 31 where the factor's words are damaged.
 #[no_mangle]
 pub extern "C" fn gusnalip_divide(factor: &[u64], x: u64, out: &mut [u64]) -> u32
     ensures { λ r. ⌜ r ≡ divideTo (now (factor .entry)) x (now (out .entry)) .number ⌝ }
@@ -369,7 +377,7 @@ pub extern "C" fn gusnalip_divide_reading(factor: &[u64], reading: u32, out: &mu
     }
 }
 
-// A new sweep: 0 and the state's 13 words, or the refusal; 255 where a list is too short, 31 where the factor's words are damaged.
+// A new sweep: 0 and the state's 14 words, or the refusal; 255 where a list is too short, 31 where the factor's words are damaged.
 #[no_mangle]
 pub extern "C" fn gusnalip_new_sweep(factor: &[u64], first: u64, last: u64, out: &mut [u64]) -> u32
     ensures { λ r. ⌜ r ≡ newSweepTo (now (factor .entry)) first last (now (out .entry)) .number ⌝ }

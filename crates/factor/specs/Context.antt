@@ -1,5 +1,4 @@
 -- What every definition and law of a factor is over: the tie rule, the precision n and the scale E of the ends. Definitions only. Assumes nothing.
-use mathlib.Core.Bool.{Bool, false}
 use Prim.Native.Nat.{ℕ, _*_, _≤_, _<_}
 use Rattle.rounding.specs.Grid.{Rule, toEven}
 use Rattle.factor.specs.declared.Description.{Description}
@@ -35,7 +34,3 @@ lowerOf f = f .lower
 
 abbrev pub upperOf : Factor → ℕ
 upperOf f = f .upper
-
--- whether a factor has a minus: none has, as document 01's factors lie above zero
-abbrev pub minusOf : Factor → Bool
-minusOf f = false

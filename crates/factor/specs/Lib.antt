@@ -10,5 +10,6 @@ pub mod PartsLaws
 pub mod Accepted
 pub mod SetUp
 pub mod SetUpLaws
+pub mod Signs
 pub mod Stored
 pub mod StoredLaws

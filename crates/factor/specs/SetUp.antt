@@ -55,9 +55,9 @@ unfoldable pub appliedOf : Description → Applied
 unfolding Ieee.round
 appliedOf d = record { high = floatIn binary32 (highPart (contextFor d) (d .lower)); low = floatIn binary32 (lowPart (contextFor d) (d .lower)); scale = d .scale }
 
--- the factor: precision, both ends, the parts, and what a handheld applies
+-- the factor: sign, precision, both ends, the parts, and what a handheld applies, these being those of the size
 abbrev pub factorOf : Description → Factor
-factorOf d = record { precision = record { bits = d .precision }; lower = d .lower; upper = d .upper; parts = partsAt (contextFor d) (d .lower); applied = appliedOf d }
+factorOf d = record { minus = d .minus; precision = record { bits = d .precision }; lower = d .lower; upper = d .upper; parts = partsAt (contextFor d) (d .lower); applied = appliedOf d }
 
 -- ---- set-up
 -- the conditions that refuse a description
@@ -85,7 +85,7 @@ outcomeOf (Refused k) = refused k
 abbrev pub sameApplied : Applied → Applied → Bool
 sameApplied a b = sameFloat binary32 (a .high) (b .high) && (sameFloat binary32 (a .low) (b .low) && sameZ (a .scale) (b .scale))
 
--- the stored parts of two factors with the same precision and ends
+-- the stored parts of two factors with the same precision and ends; a sign has nothing to compare
 abbrev pub sameFactor : Factor → Factor → Bool
 sameFactor f g = sameHigh (f .parts) (g .parts) && (sameLow (f .parts) (g .parts) && sameApplied (f .applied) (g .applied))
 
@@ -96,7 +96,7 @@ given f (refused k) = false
 
 -- a factor as it would be described
 abbrev pub described : Factor → Description
-described f = record { precision = f .precision .bits; scale = f .applied .scale; lower = f .lower; upper = f .upper }
+described f = record { minus = f .minus; precision = f .precision .bits; scale = f .applied .scale; lower = f .lower; upper = f .upper }
 
 -- 31 stands if this is false: the factor's stored parts are those that its ends, precision and scale set up, and those are not refused
 unfoldable pub intact : Factor → Bool

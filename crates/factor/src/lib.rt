@@ -12,15 +12,16 @@ ghost use Rattle.wide.specs.Value.{halfWord};
 ghost use Rattle.rounding.specs.Apart.{apart};
 ghost use Rattle.rounding.specs.Signed.{negative, signedOf};
 ghost use Rattle.factor.specs.Precision.{ValidPrecision, scaleOf, roundsOf, precisionOut, newPrecision, precisionSays, leastOf, mostOf};
-ghost use Rattle.factor.specs.Context.{contextAt, minusOf};
+ghost use Rattle.factor.specs.Context.{contextAt};
 ghost use Rattle.factor.specs.UnitParts.{partsFrom};
 ghost use Rattle.factor.specs.Ends.{End};
 ghost use Rattle.factor.specs.Parts.{partsAt};
 ghost use Rattle.factor.specs.SetUp.{endOut, scaleOut, sameLow, sameApplied, sameFactor, setUp, outcomeOf, intact};
 ghost use Rattle.factor.specs.Stored.{LowStorable, Storable, appliedFrom};
 
-// A factor as an office describes it: precision, scale and both ends, none of them judged yet.
+// A factor as an office describes it: sign, precision, scale and both ends, none of them judged yet. The ends describe the size.
 pub struct Description {
+    pub minus: bool,
     pub precision: u32,
     pub scale: i32,
     pub lower: u64,
@@ -46,22 +47,14 @@ pub struct Applied {
     pub scale: i32,
 }
 
-// A factor: precision, both ends, the parts, and what a handheld applies.
+// A factor: whether it lies below zero (request W5), precision, both ends, the parts, and what a handheld applies. All but the sign are those of the size.
 pub struct Factor {
+    pub minus: bool,
     pub precision: Precision,
     pub lower: u64,
     pub upper: u64,
     pub parts: Parts,
     pub applied: Applied,
-}
-
-impl Factor {
-    // Whether a factor has a minus: none has, as document 01's factors lie above zero.
-    pub fn is_minus(self) -> bool
-        ensures { λ r. ⌜ r ≡ minusOf self ⌝ }
-    {
-        false
-    }
 }
 
 // The answer to set-up: the factor, or one of the refusals 11 to 16.
@@ -322,6 +315,7 @@ pub fn set_up(d: Description) -> SetUp
     }
     let applied = stored_parts(precision, parts, d.scale);
     SetUp::Accepted(Factor {
+        minus: d.minus,
         precision,
         lower: d.lower,
         upper: d.upper,
@@ -342,7 +336,7 @@ fn same_applied(a: Applied, b: Applied) -> bool
     false
 }
 
-// Whether two factors of the same precision, scale and ends store the same parts, bit for bit.
+// Whether two factors of the same precision, scale and ends store the same parts, bit for bit. Of a sign there is nothing to compare.
 fn same_factor(f: Factor, g: Factor) -> bool
     ensures { λ r. ⌜ r ≡ sameFactor f g ⌝ }
 {
@@ -363,6 +357,7 @@ pub fn is_intact(f: Factor) -> bool
     ensures { λ r. ⌜ r ≡ intact f ⌝ }
 {
     let own = Description {
+        minus: f.minus,
         precision: f.precision.bits,
         scale: f.applied.scale,
         lower: f.lower,

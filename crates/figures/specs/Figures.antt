@@ -1,5 +1,6 @@
 -- The figures P1 to P9 of document 01 as one table, with directions (request W4), and the theorem that every row holds.
 use mathlib.Core.Path.{refl}
+use mathlib.Core.Bool.{false}
 use mathlib.Core.List.{List, [], _∷_}
 use Prim.Native.Nat.{ℕ, _+_, _-_, _*_, _^_}
 use lib.IntN.{ℤ, pos, negsuc}
@@ -24,9 +25,9 @@ use Rattle.suspects.specs.Suspects.{isSuspect}
 use Rattle.calls.specs.Plain.{row, pick, span, spanOf}
 use Rattle.figures.specs.Table.{unsaid, exactly, Row, All, Holds}
 
--- precision n and the ends, at scale 0
+-- precision n and the ends, at scale 0, above zero
 abbrev ends : (n L U : ℕ) → Description
-ends n L U = record { precision = n; scale = pos 0; lower = L; upper = U }
+ends n L U = record { minus = false; precision = n; scale = pos 0; lower = L; upper = U }
 
 -- Ch = h / 2 ^ (n - 1) and Cl = s / 2 ^ q
 abbrev parts : (h : ℕ) (s : ℤ) (q : ℕ) → Outcome Parts

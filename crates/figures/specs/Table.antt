@@ -41,9 +41,9 @@ pub record Row : Type 0 where
 abbrev pub Gives : Description → Outcome Parts → Type 0
 Gives d given = andThen (setUp d) (λ f. accepted (f .parts)) ≡ given
 
--- what a multiplication with the factor that is set up answers
+-- what a multiplication with the factor that is set up answers, with its sign
 abbrev pub Multiplies : Description → Multiplied → Type 0
-Multiplies d m = andThen (setUp d) (λ f. multiplied Device.TwoStep f (m .X)) ≡ accepted (record { mark = m .mark; value = record { product = record { significand = m .S; binade = m .b }; direction = m .direction } })
+Multiplies d m = andThen (setUp d) (λ f. multiplied Device.TwoStep f (m .X)) ≡ accepted (record { mark = m .mark; value = record { minus = d .minus; product = record { significand = m .S; binade = m .b }; direction = m .direction } })
 
 abbrev pub Suspects : Description → Suspected → Type 0
 Suspects d unsaid = Unit {0}

@@ -1,4 +1,4 @@
--- Laws: rounding keeps the sign, also of what becomes zero or infinite; and a zero is rounded to the zero of its sign. Assumes nothing.
+-- Laws: rounding keeps the sign, also of what becomes zero or infinite; a zero is rounded to the zero of its sign; and what a turned sign does. Assumes nothing.
 use mathlib.Core.Path.{_≡_, refl, sym, ap, _∙_, subst}
 use mathlib.Core.Bool.{Bool, true, false, not, cond, true≢false}
 use Prim.Native.Nat.{ℕ, zero, suc, _+_, _*_, _/_, _^_, _<_}
@@ -7,6 +7,7 @@ use lib.Dec.{T, ltb, lit<}
 use lib.IntN.{ℤ}
 use lib.Ieee
 use lib.Ieee.{Float, nan, inf, fin, isNan, Format, binary32, binary64, prec, emax, low, hid, top, ones, odd, units, neg, fits, toBits}
+use lib.Ieee.Exact.{HasValue}
 use lib.Ieee.Bits.{toBits-lt}
 use lib.Ieee.Fits.{neg-fits}
 use lib.Ieee.Scale.{round-same}
@@ -56,6 +57,13 @@ units-turned f s q k = go (ltb (q * 2 ^ k) (2 ^ (low f + suc (emax f))))
 pub round-turned : (f : Format) (s : Bool) (a c : ℕ) → Ieee.round f (not s) a c ≡ neg (Ieee.round f s a c)
 unfolding Ieee.round
 round-turned f s a c = units-turned f s _ _
+
+-- and the value of a number with its sign turned is as large
+pub neg-value : (x : Float) (s : Bool) (a c : ℕ) → HasValue x s a c → HasValue (neg x) (not s) a c
+unfolding neg
+neg-value nan s a c v = v
+neg-value (inf t) s a c v = v
+neg-value (fin t m e) s a c v = (ap not (v .0), v .1)
 
 -- the fields of a binary32 number with its sign turned: the sign alone is another
 pub record Turned (b c : ℕ) : Type 0 where

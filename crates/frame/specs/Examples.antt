@@ -1,5 +1,6 @@
 -- Document 01's example, line by line, and lines that are no frames, worked out by computation. Assumes nothing.
 use mathlib.Core.Path.{_≡_, refl}
+use mathlib.Core.Bool.{Bool, true, false}
 use mathlib.Core.List.{List, [] as []ᴸ, _∷_ as _∷ᴸ_}
 use Prim.Native.Nat.{ℕ}
 use Prim.Native.Char.{code}
@@ -18,8 +19,11 @@ unfolding answer digitByte digits digitValue valueAfter fieldAt spaced frameOf w
 bytes [] = []ᴸ
 bytes (c ∷ s) = code c ∷ᴸ bytes s
 
+abbrev signed : Bool → ℕ → ℤ → ℕ → ℕ → Outcome Description
+signed s n k l u = accepted (record { minus = s; precision = n; scale = k; lower = l; upper = u })
+
 abbrev frame : ℕ → ℤ → ℕ → ℕ → Outcome Description
-frame n k l u = accepted (record { precision = n; scale = k; lower = l; upper = u })
+frame n k l u = signed false n k l u
 
 abbrev report : (number trials wrongs opens : ℕ) → Report
 report number trials wrongs opens = record { number = number; trials = trials; wrongs = wrongs; opens = opens }
@@ -38,9 +42,19 @@ unfolding bytes
 frame-3 = refl
 
 -- A scale below zero; precision and scale are judged later.
-least-scale : frameOf (bytes "FF 80 0000000000000000 FFFFFFFFFFFFFFFF") ≡ frame 255 (negsuc 127) 0 0xFFFFFFFFFFFFFFFF
+least-scale : frameOf (bytes "7F 80 0000000000000000 FFFFFFFFFFFFFFFF") ≡ frame 127 (negsuc 127) 0 0xFFFFFFFFFFFFFFFF
 unfolding bytes
 least-scale = refl
+
+-- Factors below zero: 80 hexadecimal is added to the precision, 4, 24, 3, 0 and 127 (request W5).
+below-zero :
+    (frameOf (bytes "84 00 6000000000000000 6000000000000000") ≡ signed true 4 (pos 0) 0x6000000000000000 0x6000000000000000)
+    × (frameOf (bytes "98 F9 624DD2F1A9FBE76C 624DD2F1A9FBE76D") ≡ signed true 24 (negsuc 6) 0x624DD2F1A9FBE76C 0x624DD2F1A9FBE76D)
+    × (frameOf (bytes "83 00 6000000000000000 6000000000000000") ≡ signed true 3 (pos 0) 0x6000000000000000 0x6000000000000000)
+    × (frameOf (bytes "80 00 6000000000000000 6000000000000000") ≡ signed true 0 (pos 0) 0x6000000000000000 0x6000000000000000)
+    × (frameOf (bytes "FF 00 6000000000000000 6000000000000000") ≡ signed true 127 (pos 0) 0x6000000000000000 0x6000000000000000)
+unfolding bytes
+below-zero = (refl, refl, refl, refl, refl)
 
 -- ---- lines that are no frames
 lower-case : frameOf (bytes "04 00 4bfffc0000000000 4bfffc0000000000") ≡ refused 24

@@ -2,8 +2,8 @@
 -- A line is the bytes before its line feed. Definitions only. Assumes nothing.
 use mathlib.Core.Bool.{Bool, cond, not, _&&_}
 use mathlib.Core.List.{List, [], _∷_}
-use Prim.Native.Nat.{ℕ, _+_, _-_, _*_, _^_, _<_}
-use lib.Dec.{eqb, ltb}
+use Prim.Native.Nat.{ℕ, _+_, _-_, _*_, _%_, _^_, _<_}
+use lib.Dec.{eqb, ltb, leb}
 use lib.IntN.{ℤ, pos, negsuc, _-ℤ_}
 use lib.ListN.{length, getD}
 use lib.Signed.{mag}
@@ -23,6 +23,16 @@ endDigits = 16
 -- a byte in two's complement
 abbrev pub signedByte : ℕ → ℤ
 signedByte b = cond (ltb b 128) (pos b) (pos b -ℤ pos 256)
+
+-- what the precision's byte has added for a negative factor (request W5), whether a byte has it, and the precision without it
+abbrev pub signAdded : ℕ
+signAdded = 0x80
+
+abbrev pub minusIn : ℕ → Bool
+minusIn b = leb signAdded b
+
+abbrev pub precisionIn : ℕ → ℕ
+precisionIn b = b % signAdded
 
 -- a blank stands there
 abbrev pub blankAt : List ℕ → ℕ → Bool
@@ -59,13 +69,14 @@ conditions line =
 abbrev pub describedBy : List ℕ → Description
 describedBy line =
     record {
-      precision = numberOf (precisionField line);
+      minus = minusIn (numberOf (precisionField line));
+      precision = precisionIn (numberOf (precisionField line));
       scale = signedByte (numberOf (scaleField line));
       lower = numberOf (lowerField line);
       upper = numberOf (upperField line);
     }
 
--- a **frame** (document 01): precision, scale, L and U, each in its place; 24 stands alone, whatever else is wrong with the line
+-- a **frame** (document 01): precision with the sign (request W5), scale, L and U, each in its place; 24 stands alone, whatever else is wrong with the line
 unfoldable pub frameOf : List ℕ → Outcome Description
 unfolding spaced fieldAt
 frameOf line = answer (conditions line) (describedBy line)
@@ -81,10 +92,14 @@ abbrev pub byteOf : ℤ → ℕ
 byteOf (pos n) = n
 byteOf (negsuc n) = 255 - n
 
+-- the byte of a sign and a precision
+abbrev pub precisionByte : Bool → ℕ → ℕ
+precisionByte s n = cond s (signAdded + n) n
+
 -- the fields of a frame
 abbrev pub frameFields : Description → List (List ℕ)
 frameFields f =
-    hexDigits 2 (f .precision)
+    hexDigits 2 (precisionByte (f .minus) (f .precision))
     ∷ hexDigits 2 (byteOf (f .scale))
     ∷ hexDigits endDigits (f .lower)
     ∷ hexDigits endDigits (f .upper)
@@ -96,7 +111,7 @@ frameText f = joined (frameFields f) []
 
 -- what the fields of a frame can hold
 pub record Printable (f : Description) : Type 0 where
-  pub precision : f .precision < 256
+  pub precision : f .precision < signAdded
   pub scale : mag (f .scale) < 128
   pub lower : f .lower < 16 ^ endDigits
   pub upper : f .upper < 16 ^ endDigits

@@ -15,6 +15,9 @@ const NOT_A_FRAME: u32 = 24;
 // An end has so many digits.
 const END_DIGITS: usize = 16;
 
+// What the precision's byte has added for a negative factor.
+const SIGN: u64 = 128;
+
 // The bytes between fields and at a line's end.
 const BLANK: u8 = 32;
 
@@ -140,7 +143,8 @@ pub fn read_frame(line: &[u8]) -> FrameAnswer
         return FrameAnswer::Refused(NOT_A_FRAME);
     };
     FrameAnswer::Frame(Description {
-        precision: p as u32,
+        minus: SIGN <= p,
+        precision: (p % SIGN) as u32,
         scale: signed_byte(k),
         lower: l,
         upper: u,

@@ -6,7 +6,7 @@ use Prim.Native.Nat.{ℕ}
 use native.Mathlib.Omega.{arith}
 use Rattle.marks.specs.declared.Mark.{Mark}
 use Rattle.marks.specs.declared.Judgement.{Judgement}
-use Rattle.marks.specs.Answers.{Refusal, number, none, judged, refusalOf, First, NoneHolds, Outcome, refused, accepted, unless, answer, Marked}
+use Rattle.marks.specs.Answers.{Refusal, number, none, judged, refusalOf, First, NoneHolds, Outcome, refused, accepted, unless, answer, each, Marked}
 
 -- ---- from the tests to the refusal
 -- a condition that does not hold is passed over
@@ -48,6 +48,15 @@ none-refuses (t ∷ l) a h = rw (h .0) (none-refuses l a (h .1))
 pub rest-answers : {A : Type 0} (k l : List (ℕ × Bool)) → NoneHolds k → (a : A) → answer (k ++ l) a ≡ answer l a
 unfolding answer
 rest-answers k l h a = ap (λ (v : Refusal). unless v a) (pass-all k l h)
+
+-- what a value is changed to is answered under the same conditions
+pub answer-each : {A B : Type 0} (g : A → B) (l : List (ℕ × Bool)) (a : A) → answer l (g a) ≡ each g (answer l a)
+unfolding answer
+answer-each g l a = go (judged l)
+  where
+    go : (r : Refusal) → unless r (g a) ≡ each g (unless r a)
+    go (number k) = refl
+    go none = refl
 
 -- ---- from the refusal to the tests
 -- where there is none, none of the first conditions holds, and none of the rest refuses

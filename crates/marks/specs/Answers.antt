@@ -52,6 +52,10 @@ abbrev pub andThen : {A B : Type 0} → Outcome A → (A → Outcome B) → Outc
 andThen (refused n) go = refused n
 andThen (accepted a) go = go a
 
+-- an answer with its value changed: a refusal stays
+abbrev pub each : {A B : Type 0} → (A → B) → Outcome A → Outcome B
+each g o = andThen o (λ a. accepted (g a))
+
 -- a value with its mark
 pub record Marked (A : Type 0) : Type 0 where
   pub mark : Mark

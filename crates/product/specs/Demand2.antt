@@ -1,20 +1,22 @@
 -- Demand 2 for every factor that set-up accepted or 31 lets through and every significand in range (`demand-2`): what the parts and the two steps are, and
--- what the mark tells of every fraction between the ends. Of readings it is said in `reading`.
+-- what the mark tells of every fraction between the ends, the factor's sign on it (request W5). Of readings it is said in `reading`.
 -- Assumes nothing.
 use mathlib.Core.Path.{_≡_, sym, ap, _∙_, subst}
-use mathlib.Core.Bool.{true, false, not}
+use mathlib.Core.Bool.{Bool, true, false, not}
 use Prim.Native.Nat.{ℕ, _-_, _*_, _^_, _≤_, _<_}
 use native.Mathlib.Nat.{mul-pos, le-trans, le-of-lt, eq-of-mul-eq-mul-right}
 use native.Mathlib.Omega.{arith}
 use lib.Pow.{pow-pos}
 use lib.IntN.{natAbs}
-use lib.Ieee.{up}
+use lib.Ieee.{up, unlike}
 use Rattle.marks.specs.declared.Mark.{Mark}
 use Rattle.marks.specs.Answers.{accepted}
 use Rattle.marks.specs.AnswerLaws.{of-answer, pass, end, accepts}
+use Rattle.marks.specs.SaysLaws.{says-alike}
 use Rattle.rounding.specs.Round.{rounded, HasBits}
 use Rattle.rounding.specs.Standard.{RoundsTo, rounds-to}
 use Rattle.rounding.specs.Fraction.{Fraction, times, less, RN, Same}
+use Rattle.rounding.specs.FractionLaws.{unlike-plus}
 use Rattle.factor.specs.declared.Parts.{Parts}
 use Rattle.factor.specs.declared.Description.{Description}
 use Rattle.factor.specs.declared.Factor.{Factor}
@@ -29,15 +31,17 @@ use Rattle.factor.specs.Ends.{End, Between}
 use Rattle.factor.specs.SetUp.{setUp, intact, Sound}
 use Rattle.factor.specs.SetUpLaws.{intact-sound, accepted-intact}
 use Rattle.product.specs.declared.Product.{Product}
+use Rattle.product.specs.declared.DirectedProduct.{DirectedProduct}
+use Rattle.product.specs.declared.SignedProduct.{SignedProduct}
 use Rattle.product.specs.declared.Device.{Device}
 use Rattle.product.specs.Product.{argument, high, low, first, fused, second, product, valueOf}
-use Rattle.product.specs.Marks.{markBy, SaysBy}
+use Rattle.product.specs.Marks.{Gives, markBy, SaysBy}
 use Rattle.product.specs.ProductLaws.{fused-some, product-is, product-value}
 use Rattle.product.specs.MarkLaws.{mark-says, mark-only}
-use Rattle.product.specs.Answer.{conditions, marked, multiplied, Tells}
+use Rattle.product.specs.Answer.{conditions, marked, answered, multiplied, GivesSigned, SaysSigned, Tells}
 use Rattle.product.specs.AnswerLaws.{significand-in, let-through}
 use Rattle.product.specs.SoundLaws.{sound-fine}
-use Rattle.product.specs.Devices.{productOn, directedOn, markOn}
+use Rattle.product.specs.Devices.{productOn, directedOn, signedProduct, markOn}
 use Rattle.product.specs.DeviceLaws.{formed}
 
 -- RN of x is x rounded to nearest in the sense of IEEE 754-2019, 4.3.1: it has n bits, no number of n bits is nearer, and half way between two the rule decides
@@ -137,24 +141,47 @@ module _ (f : Factor) (s : Sound f) (X : ℕ) (x : HasBits (f .precision .bits) 
   pub mark-alone : (m : Mark) → SaysBy f X v m → markBy f X v ≡ m
   mark-alone = mark-only (contextOf f) (sound-fine f s .some) (lowerOf f) (upperOf f) X v (s .lower-end .from) (s .ordered) (x .least) (le-of-lt (bits .most))
 
+-- ---- with the factor's sign on the value and on every fraction, it says the same (request W5)
+module _ (f : Factor) (s : Sound f) (X : ℕ) (x : HasBits (f .precision .bits) X) (w : DirectedProduct) (bits : HasBits (f .precision .bits) (w .product .significand)) where
+  abbrev v : SignedProduct
+  v = signedProduct (f .minus) w
+
+  abbrev Ends : Fraction → Type 0
+  Ends = Between (contextOf f) (lowerOf f) (upperOf f)
+
+  abbrev size : Fraction → Type 0
+  size = Gives (contextOf f) X (w .product)
+
+  to : (C : Fraction) → Ends C → size C → GivesSigned f X v C
+  to C k g = (unlike-plus (f .minus), g .1)
+
+  from : (C : Fraction) → Ends C → GivesSigned f X v C → size C
+  from C k g = (ap (λ (m : Bool). unlike m false) (k .sign), g .1)
+
+  pub signed-tells : SaysSigned f X v (markBy f X (w .product))
+  signed-tells = says-alike Ends size (GivesSigned f X v) to from (markBy f X (w .product)) (mark-tells f s X x (w .product) bits)
+
+  pub signed-alone : (m : Mark) → SaysSigned f X v m → markBy f X (w .product) ≡ m
+  signed-alone m t = mark-alone f s X x (w .product) bits m (says-alike Ends (GivesSigned f X v) size from to m t)
+
 -- so every answer to a multiplication tells the truth, whatever the device, the factor and the significand
 pub answer-tells : (d : Device) (f : Factor) (X : ℕ) → Tells f X (multiplied d f X)
 unfolding multiplied
 answer-tells d f X =
-    of-answer (Tells f X) (conditions f X) (marked f X (directedOn d f X)) (λ k. tt)
-    (λ h. let t = let-through f X h in mark-tells f (t .0) X (t .1) (productOn d f X) (formed d f (t .0) X (t .1) .bits))
+    let v = directedOn d f X in
+    of-answer (Tells f X) (conditions f X) (answered f (marked f X v)) (λ k. tt) (λ h. let t = let-through f X h in signed-tells f (t .0) X (t .1) v (formed d f (t .0) X (t .1) .bits))
 
 -- ---- demand 2, from the entry points
 pub record Demand2 (f : Factor) : Type 0 where
   -- the parts are those of every fraction between the ends
   pub parts : (C : Fraction) → Between (contextOf f) (lowerOf f) (upperOf f) C → PartsTell (contextOf f) (f .parts) C
-  -- every significand that 17 lets through is answered with its product on the device, a direction and a mark
-  pub answers : (d : Device) (X : ℕ) → significandOut (f .precision .bits) X ≡ false → multiplied d f X ≡ accepted (marked f X (directedOn d f X))
+  -- every significand that 17 lets through is answered with its product on the device, the factor's sign, a direction and a mark
+  pub answers : (d : Device) (X : ℕ) → significandOut (f .precision .bits) X ≡ false → multiplied d f X ≡ accepted (answered f (marked f X (directedOn d f X)))
   -- that of the two-step device is made by both steps
   pub steps : (X : ℕ) → significandOut (f .precision .bits) X ≡ false → TwoSteps (contextOf f) (f .parts) X
   -- the mark says what is true of every fraction between the ends, and no other mark does
-  pub marks : (d : Device) (X : ℕ) → significandOut (f .precision .bits) X ≡ false → SaysBy f X (productOn d f X) (markOn d f X)
-  pub alone : (d : Device) (X : ℕ) → significandOut (f .precision .bits) X ≡ false → (m : Mark) → SaysBy f X (productOn d f X) m → markOn d f X ≡ m
+  pub marks : (d : Device) (X : ℕ) → significandOut (f .precision .bits) X ≡ false → SaysSigned f X (signedProduct (f .minus) (directedOn d f X)) (markOn d f X)
+  pub alone : (d : Device) (X : ℕ) → significandOut (f .precision .bits) X ≡ false → (m : Mark) → SaysSigned f X (signedProduct (f .minus) (directedOn d f X)) m → markOn d f X ≡ m
 
 -- of every factor that 31 lets through
 pub demand-2 : (f : Factor) → intact f ≡ true → Demand2 f
@@ -162,10 +189,10 @@ demand-2 f i =
     let s = intact-sound f i in
     record {
       parts = parts-tell f s;
-      answers = λ d X h. unfold multiplied in sym (accepts (pass (ap not i) (pass h end)) (marked f X (directedOn d f X)));
+      answers = λ d X h. unfold multiplied in sym (accepts (pass (ap not i) (pass h end)) (answered f (marked f X (directedOn d f X))));
       steps = λ X h. two-steps f s X (significand-in (f .precision .bits) X h);
-      marks = λ d X h. let x = significand-in (f .precision .bits) X h in mark-tells f s X x (productOn d f X) (formed d f s X x .bits);
-      alone = λ d X h. let x = significand-in (f .precision .bits) X h in mark-alone f s X x (productOn d f X) (formed d f s X x .bits);
+      marks = λ d X h. let x = significand-in (f .precision .bits) X h in signed-tells f s X x (directedOn d f X) (formed d f s X x .bits);
+      alone = λ d X h. let x = significand-in (f .precision .bits) X h in signed-alone f s X x (directedOn d f X) (formed d f s X x .bits);
     }
 
 -- and so of every one that set-up accepted

@@ -1,5 +1,6 @@
--- Laws of products, whatever the device: significand and binade by the steps of binade 0; n bits, in binade 0 or 1. Assumes nothing.
-use mathlib.Core.Path.{_≡_, ap}
+-- Laws of products, whatever the device: significand and binade by the steps of binade 0; n bits, in binade 0 or 1; the size's, whatever the factor's sign. Assumes nothing.
+use mathlib.Core.Path.{_≡_, refl, ap}
+use mathlib.Core.Bool.{Bool}
 use Prim.Native.Nat.{ℕ, zero, suc, _*_, _/_, _^_, _≤_, _<_}
 use native.Mathlib.Nat.{mul-le-mul-left, pow-succ'}
 use native.Mathlib.Omega.{arith}
@@ -8,10 +9,11 @@ use Rattle.rounding.specs.Digits.{pow-half}
 use Rattle.rounding.specs.Round.{HasBits}
 use Rattle.factor.specs.declared.Factor.{Factor}
 use Rattle.factor.specs.SetUp.{Sound}
+use Rattle.factor.specs.Signs.{withSign}
 use Rattle.product.specs.declared.Device.{Device}
 use Rattle.product.specs.declared.Product.{Product}
 use Rattle.product.specs.Product.{stepsOf}
-use Rattle.product.specs.Devices.{productOn}
+use Rattle.product.specs.Devices.{productOn, directedOn}
 use Rattle.product.specs.SoundLaws.{sound-product}
 use Rattle.product.specs.OneStepLaws.{sound-one-step}
 
@@ -41,3 +43,8 @@ pub record Formed (n : ℕ) (v : Product) : Type 0 where
 pub formed : (d : Device) (f : Factor) → Sound f → (X : ℕ) → HasBits (f .precision .bits) X → Formed (f .precision .bits) (productOn d f X)
 formed Device.TwoStep f s X x = let is = sound-product f s X x in record { bits = is .bits; binade = is .binade }
 formed Device.OneStep f s X x = let is = sound-one-step f s X x in record { bits = is .bits; binade = is .binade }
+
+-- with whatever sign the factor has, it and its direction are the size's (request W5)
+pub sized : (s : Bool) (d : Device) (f : Factor) (X : ℕ) → directedOn d (withSign s f) X ≡ directedOn d f X
+sized s Device.TwoStep f X = refl
+sized s Device.OneStep f X = refl

@@ -1,33 +1,33 @@
--- What the direction of an answer tells (request W4), for every device, factor and number as X (`product-directs`): whether the product is below, equal to or above what the device rounded last, that it is
+-- What the direction of an answer tells (request W4), for every device, factor and number as X (`product-directs`): whether the product is below, equal to or above what the device rounded last, the factor's sign on both (request W5), that it is
 -- nothing else, and that equal means exact. Assumes nothing.
-use mathlib.Core.Path.{_≡_, refl, sym, subst}
+use mathlib.Core.Path.{_≡_, refl}
 use mathlib.Core.Bool.{false}
 use Prim.Native.Nat.{ℕ, _-_}
 use lib.Pow.{pow-pos}
 use Rattle.marks.specs.Answers.{Outcome, refused, accepted, Marked}
 use Rattle.marks.specs.AnswerLaws.{of-answer}
-use Rattle.rounding.specs.declared.Direction.{Direction}
 use Rattle.rounding.specs.Round.{HasBits}
 use Rattle.rounding.specs.Fraction.{RN, Same, Directs}
-use Rattle.rounding.specs.Directed.{directs, direction-to}
+use Rattle.rounding.specs.Directed.{directs-to, directs-signed}
 use Rattle.factor.specs.declared.Factor.{Factor}
 use Rattle.factor.specs.Context.{contextOf}
+use Rattle.factor.specs.Ends.{signedBy}
 use Rattle.factor.specs.SetUp.{Sound}
 use Rattle.product.specs.declared.Device.{Device}
-use Rattle.product.specs.declared.DirectedProduct.{DirectedProduct}
+use Rattle.product.specs.declared.SignedProduct.{SignedProduct}
 use Rattle.product.specs.Product.{valueOf}
-use Rattle.product.specs.Devices.{productOn, lastOn, directionOn, directedOn}
-use Rattle.product.specs.Answer.{conditions, marked, multiplied}
+use Rattle.product.specs.Devices.{productOn, lastOn, directionOn, directedOn, signedValue}
+use Rattle.product.specs.Answer.{conditions, marked, answered, multiplied}
 use Rattle.product.specs.AnswerLaws.{let-through}
 use Rattle.product.specs.StepLaws.{fused-counts}
 use Rattle.product.specs.SoundLaws.{sound-parts}
 use Rattle.product.specs.Demand2.{two-steps}
 use Rattle.product.specs.OneStepTells.{sound-value}
 
--- a direction tells how the product lies as seen from what its device rounded last; a refusal has none
-abbrev pub AnswerDirects : Device → Factor → ℕ → Outcome (Marked DirectedProduct) → Type 0
+-- a direction tells how the product lies as seen from what its device rounded last, both with the factor's sign; a refusal has none
+abbrev pub AnswerDirects : Device → Factor → ℕ → Outcome (Marked SignedProduct) → Type 0
 AnswerDirects d f X (refused k) = Unit {0}
-AnswerDirects d f X (accepted a) = Directs (a .value .direction) (lastOn d f X) (valueOf (f .precision .bits) (a .value .product))
+AnswerDirects d f X (accepted a) = Directs (a .value .direction) (signedBy f (lastOn d f X)) (signedValue (f .precision .bits) (a .value))
 
 -- ---- of a sound factor and a significand in range
 module _ (f : Factor) (s : Sound f) (X : ℕ) (x : HasBits (f .precision .bits) X) where
@@ -41,14 +41,13 @@ module _ (f : Factor) (s : Sound f) (X : ℕ) (x : HasBits (f .precision .bits) 
   last-plus Device.TwoStep = fused-counts (contextOf f) (f .parts) (sound-parts f s) X x .sign
   last-plus Device.OneStep = refl
 
+  -- of the size
   pub sound-directs : (d : Device) → Directs (directionOn d f X) (lastOn d f X) (valueOf (f .precision .bits) (productOn d f X))
-  sound-directs d =
-      let n = f .precision .bits in
-      let y = lastOn d f X in
-      let v = valueOf n (productOn d f X) in
-      subst (λ (e : Direction). Directs e y v) (sym (direction-to (contextOf f .rule) n y v (pow-pos (n - 1)) (last-value d))) (directs y v)
+  sound-directs d = let n = f .precision .bits in directs-to (contextOf f .rule) n (lastOn d f X) (valueOf n (productOn d f X)) (pow-pos (n - 1)) (last-value d)
 
 -- every answer's direction tells the truth, whatever the device, the factor and the number
 pub product-directs : (d : Device) (f : Factor) (X : ℕ) → AnswerDirects d f X (multiplied d f X)
 unfolding multiplied
-product-directs d f X = of-answer (AnswerDirects d f X) (conditions f X) (marked f X (directedOn d f X)) (λ k. tt) (λ h. let t = let-through f X h in sound-directs f (t .0) X (t .1) d)
+product-directs d f X =
+    of-answer (AnswerDirects d f X) (conditions f X) (answered f (marked f X (directedOn d f X))) (λ k. tt)
+    (λ h. let t = let-through f X h in directs-signed (directionOn d f X) (lastOn d f X) (valueOf (f .precision .bits) (productOn d f X)) (sound-directs f (t .0) X (t .1) d) (f .minus) (last-plus f (t .0) X (t .1) d) refl)

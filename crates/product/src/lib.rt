@@ -1,4 +1,4 @@
-// The product of a factor and a significand on either device, the two-step one of document 01 ("The product") and the one-step one of request W2, the direction of its last rounding (request W4), and the mark of a value.
+// The product of a factor and a significand on either device, the two-step one of document 01 ("The product") and the one-step one of request W2, the direction of its last rounding (request W4), the factor's sign on it (request W5), and the mark of a value.
 use factor::Factor;
 use factor::Parts;
 use factor::Precision;
@@ -21,10 +21,10 @@ ghost use Rattle.factor.specs.SetUp.{Sound};
 ghost use Rattle.product.specs.Product.{productBy, stepsOf};
 ghost use Rattle.product.specs.OneStep.{oneStepBy};
 ghost use Rattle.product.specs.declared.Device.{Device};
-ghost use Rattle.product.specs.Devices.{productOn, directionOn, directedOn};
+ghost use Rattle.product.specs.Devices.{productOn, directionOn, directedOn, signedProduct};
 ghost use Rattle.product.specs.Marks.{markBy};
 ghost use Rattle.product.specs.Units.{firstUnits, fusedUnits, directedUnits, markUnits, Within, PartsAtEnd};
-ghost use Rattle.product.specs.Answer.{conditions, marked as markedBy, multiplied, outcomeOf};
+ghost use Rattle.product.specs.Answer.{conditions, marked as markedBy, answered, multiplied, outcomeOf};
 
 // The handheld that makes a product.
 pub enum Device {
@@ -46,11 +46,18 @@ pub struct DirectedProduct {
     pub direction: Direction,
 }
 
-// The answer to a multiplication: the product with its direction in the case of its mark, or the refusal 31 or 17.
+// A product as it is answered: with the factor's sign (request W5), and the direction of the number that has it.
+pub struct SignedProduct {
+    pub minus: bool,
+    pub product: Product,
+    pub direction: Direction,
+}
+
+// The answer to a multiplication: the product with its sign and its direction in the case of its mark, or the refusal 31 or 17.
 pub enum ProductAnswer {
-    Right(DirectedProduct),
-    Open(DirectedProduct),
-    Wrong(DirectedProduct),
+    Right(SignedProduct),
+    Open(SignedProduct),
+    Wrong(SignedProduct),
     Refused(u32),
 }
 
@@ -245,15 +252,29 @@ pub fn range_out(p: Precision, first: u64, last: u64) -> bool
     last < first
 }
 
-// A value, whoever made it, in the case of its mark.
+// A product with a sign put on, which mirrors a negative one's direction.
+fn signed(minus: bool, v: DirectedProduct) -> SignedProduct
+    ensures { λ r. ⌜ r ≡ signedProduct minus v ⌝ }
+{
+    let product = v.product;
+    let direction = v.direction;
+    SignedProduct {
+        minus,
+        product,
+        direction: round::signed_direction(minus, direction),
+    }
+}
+
+// A value, whoever made it, in the case of its mark, with the factor's sign put on.
 pub fn marked(f: Factor, x: u64, v: DirectedProduct) -> ProductAnswer
     requires { ⌜ Sound f × HasBits (f .precision .bits) x × HasBits (f .precision .bits) (v .product .significand) × (v .product .binade ≤ 1) ⌝ }
-    ensures { λ r. ⌜ outcomeOf r ≡ accepted (markedBy f x v) ⌝ }
+    ensures { λ r. ⌜ outcomeOf r ≡ accepted (answered f (markedBy f x v)) ⌝ }
 {
+    let y = signed(f.minus, v);
     match mark_of(f, x, v.product) {
-        Mark::Right => ProductAnswer::Right(v),
-        Mark::Open => ProductAnswer::Open(v),
-        Mark::Wrong => ProductAnswer::Wrong(v),
+        Mark::Right => ProductAnswer::Right(y),
+        Mark::Open => ProductAnswer::Open(y),
+        Mark::Wrong => ProductAnswer::Wrong(y),
     }
 }
 
@@ -271,7 +292,7 @@ pub fn refusal_of(f: Factor, x: u64) -> Judgement
     Judgement::Passed
 }
 
-// Multiplies a significand on a device: the product with its mark, or refusal 31 for the factor, or 17 for the significand.
+// Multiplies a significand on a device: the product with its sign and its mark, or refusal 31 for the factor, or 17 for the significand.
 pub fn multiply(d: Device, f: Factor, x: u64) -> ProductAnswer
     ensures { λ r. ⌜ outcomeOf r ≡ multiplied d f x ⌝ }
 {

@@ -1,4 +1,4 @@
-// The quotient of a significand by a factor's high part, rounded once (request W1), with the direction of that rounding (request W4): what a tape that is graduated in diameter gives back as a girth.
+// The quotient of a significand by a factor's high part, rounded once (request W1), with the direction of that rounding (request W4) and the factor's sign (request W5): what a tape that is graduated in diameter gives back as a girth.
 use factor::Factor;
 use marks::Judgement;
 use rounding::Direction;
@@ -6,7 +6,7 @@ use rounding::TieRule;
 ghost use mathlib.Core.Path.{_≡_};
 ghost use Rattle.rounding.specs.Round.{HasBits};
 ghost use Rattle.factor.specs.SetUp.{Sound};
-ghost use Rattle.quotient.specs.Quotient.{directedBy, binadesBelow};
+ghost use Rattle.quotient.specs.Quotient.{directedBy, signedQuotient, binadesBelow};
 ghost use Rattle.quotient.specs.Answer.{divided, outcomeOf};
 
 // A quotient from 1/2 to below 2: a significand of n bits, and its binade, -1 for [1/2, 1) and 0 for [1, 2).
@@ -21,9 +21,16 @@ pub struct DirectedQuotient {
     pub direction: Direction,
 }
 
-// The answer to a division: the quotient with its direction, which has no mark, or the refusal 31 or 17.
+// A quotient as it is answered: with the factor's sign (request W5), and the direction of the number that has it.
+pub struct SignedQuotient {
+    pub minus: bool,
+    pub quotient: Quotient,
+    pub direction: Direction,
+}
+
+// The answer to a division: the quotient with its sign and its direction, which has no mark, or the refusal 31 or 17.
 pub enum QuotientAnswer {
-    Accepted(DirectedQuotient),
+    Accepted(SignedQuotient),
     Refused(u32),
 }
 
@@ -56,12 +63,25 @@ pub fn quotient_of(f: Factor, x: u64) -> DirectedQuotient
     }
 }
 
-// Divides a significand: the quotient, or refusal 31 for the factor, or 17 for the significand.
+// A quotient with a sign put on, which mirrors a negative one's direction.
+fn signed(minus: bool, v: DirectedQuotient) -> SignedQuotient
+    ensures { λ r. ⌜ r ≡ signedQuotient minus v ⌝ }
+{
+    let quotient = v.quotient;
+    let direction = v.direction;
+    SignedQuotient {
+        minus,
+        quotient,
+        direction: round::signed_direction(minus, direction),
+    }
+}
+
+// Divides a significand: the quotient with its sign, or refusal 31 for the factor, or 17 for the significand.
 pub fn divide(f: Factor, x: u64) -> QuotientAnswer
     ensures { λ r. ⌜ outcomeOf r ≡ divided f x ⌝ }
 {
     match product::refusal_of(f, x) {
         Judgement::Refused(number) => QuotientAnswer::Refused(number),
-        Judgement::Passed => QuotientAnswer::Accepted(quotient_of(f, x)),
+        Judgement::Passed => QuotientAnswer::Accepted(signed(f.minus, quotient_of(f, x))),
     }
 }

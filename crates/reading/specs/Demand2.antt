@@ -1,5 +1,5 @@
 -- Demand 2 of readings (`reading-answered`, `reading-tells`), for every device, factor and reading: the answer is the device's product with sign and exponent put on, exactly, and its
--- mark tells of every fraction C between the ends whether C * 2 ^ k times the reading rounds to it; its sign is that of the standard's product, which of a zero is the whole answer (`zero-multiplied`, request W3); its direction
+-- mark tells of every fraction C between the ends whether C * 2 ^ k, with the factor's sign (request W5), times the reading rounds to it; its sign is that of the standard's product, which of a zero is the whole answer (`zero-multiplied`, request W3); its direction
 -- tells how it lies as seen from what the device rounded last, sign and scale on (request W4). Assumes nothing.
 use mathlib.Core.Path.{_≡_, refl, sym, ap, _∙_, subst}
 use mathlib.Core.Bool.{Bool, true, false, cond}
@@ -62,7 +62,7 @@ use Rattle.reading.specs.SignLaws.{zero-sign, number-sign, zero-is-opera
 abbrev pub scaled : Factor → ℕ → ℤ
 scaled f b = exponentOf binary32 b +ℤ f .applied .scale
 
--- C * 2 ^ k times the reading
+-- the factor, with C for its size, times the reading: ± C * 2 ^ k times it
 abbrev pub exact : Factor → ℕ → Fraction → Fraction
 exact f b C = times (scaledBy f C) (readingAt b)
 
@@ -134,7 +134,7 @@ module _ (f : Factor) (b : ℕ) (v : Product) (y : Float) (is : HasValue y (sign
       (mul-pos (mul-pos some (down-pos k)) (number-some binary32 e)) z (times-scaled C (argument (prec binary32) (significandOf binary32 b)) e k)
 
   q-sign : signWith f b ≡ q .minus
-  q-sign = unlike-comm (signOf binary32 b) false ∙ sym (ap (λ (m : Bool). unlike (unlike m false) (signOf binary32 b)) sign)
+  q-sign = unlike-comm (signOf binary32 b) (f .minus)
 
   pub to-reading : Same r (valueOf (prec binary32) v) → GivesNumber f b y C
   to-reading e =
@@ -226,8 +226,8 @@ module _ (d : Device) (f : Factor) (b : ℕ) (h : NoneHolds (unreadable f b)) (n
 
   direct : Directs (signedDirection (signWith f b) (directionOn d f X)) (lastAt d f b) (answerAt d f b)
   direct =
-      directs-scaled (directionOn d f X) (lastOn d f X) (valueOf (prec binary32) v) (subst (λ (m : ℕ). Directs (directionOn d f X) (lastOn d f X) (valueOf m v)) n (sound-directs f sound X x-bits d)) (signWith f b) (scaled f b)
-      (last-plus f sound X x-bits d) refl
+      directs-scaled (directionOn d f X) (lastOn d f X) (valueOf (prec binary32) v) (subst (λ (m : ℕ). Directs (directionOn d f X) (lastOn d f X) (valueOf m v)) n (sound-directs f sound X x-bits d)) (signWith f b)
+      (last-plus f sound X x-bits d) refl (scaled f b)
 
   tells : Tells d f b (putOn f b (marked f X (directedAt d f b)))
   tells =

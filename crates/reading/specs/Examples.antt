@@ -23,7 +23,7 @@ use Rattle.reading.specs.Divided.{dividedReading}
 
 -- both ends at c / 2 ^ 62, and what is right or wrong
 abbrev at : (n : ℕ) → ℤ → (c : ℕ) → Description
-at n k c = record { precision = n; scale = k; lower = c; upper = c }
+at n k c = record { minus = false; precision = n; scale = k; lower = c; upper = c }
 
 abbrev right : Float → Direction → Outcome (Marked DirectedNumber)
 right y d = accepted (record { mark = Mark.Right; value = record { number = y; direction = d } })
@@ -42,7 +42,7 @@ threeHalves k = factorOf (at 24 k (3 * 2 ^ 61))
 -- 1/π, n = 24, scale -2
 byPi : Factor
 unfolding scaleOf tieRule partsAt appliedOf
-byPi = factorOf (record { precision = 24; scale = negsuc 1; lower = 0x517CC1B727220A94; upper = 0x517CC1B727220A95 })
+byPi = factorOf (record { minus = false; precision = 24; scale = negsuc 1; lower = 0x517CC1B727220A94; upper = 0x517CC1B727220A95 })
 
 -- ---- multiplied
 -- what a reading is answered with there, on a device: C = 3/2 has no low part, so that both answer alike
@@ -109,7 +109,7 @@ borderline = (refl, refl, refl, refl)
 -- π, n = 24, scale 1: the low part is negative. A minus zero stays one on both devices; the sum of the stored parts' products with it, which the two steps would make, is plus zero
 pi : Factor
 unfolding scaleOf tieRule partsAt appliedOf
-pi = factorOf (record { precision = 24; scale = pos 1; lower = 0x6487ED5110B4611A; upper = 0x6487ED5110B4611B })
+pi = factorOf (record { minus = false; precision = 24; scale = pos 1; lower = 0x6487ED5110B4611A; upper = 0x6487ED5110B4611B })
 
 sighted : (d : Device) → (applied d pi (fin true 0 (pos 0)) ≡ right (fin true 0 (pos 0)) Equal) × (applied d pi (fin false 0 (pos 0)) ≡ right (fin false 0 (pos 0)) Equal)
 unfolding pi applied answer judged directionOf sideOf Ieee.toBits

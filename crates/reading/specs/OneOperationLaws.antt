@@ -92,6 +92,13 @@ module _ (f : Factor) (sound : Sound f) (n : f .precision .bits ≡ prec binary3
   abbrev k : ℤ
   k = f .applied .scale
 
+  -- the size of a constant with the scale put on, and that of the high part
+  abbrev sized : Fraction → Fraction
+  sized C = times C (power k)
+
+  abbrev sizedHigh : Fraction
+  sizedHigh = sized (high (prec binary32) (f .parts))
+
   hid-some : 0 < hid binary32
   hid-some = pow-pos (prec binary32 - 1)
 
@@ -104,14 +111,14 @@ module _ (f : Factor) (sound : Sound f) (n : f .precision .bits ≡ prec binary3
   power-positive : Positive (power k)
   power-positive = record { sign = refl; above = up-pos k; some = down-pos k }
 
-  pub applied-positive : Positive (appliedHigh f)
+  pub applied-positive : Positive sizedHigh
   applied-positive = times-positive (high (prec binary32) (f .parts)) (power k) high-positive power-positive
 
-  -- it is a binary32 number
+  -- with the factor's sign it is a binary32 number
   pub applied-held : Is (floatIn binary32 (appliedHigh f)) (appliedHigh f)
   applied-held =
       let t = scale-from k (scale-size k (sound .scale)) in
-      round-itself binary32 false (f .parts .high * up k) (hid binary32 * down k) (f .parts .high) (t .0) (applied-positive .some) (high-bits .most) (in-smallest binary32 (f .parts .high) k (t .0) (t .1)) (lt-of-le-of-lt (mul-le-mul (high-bits .most) (pow-mono (t .2))) (lit< tt))
+      round-itself binary32 (f .minus) (f .parts .high * up k) (hid binary32 * down k) (f .parts .high) (t .0) (applied-positive .some) (high-bits .most) (in-smallest binary32 (f .parts .high) k (t .0) (t .1)) (lt-of-le-of-lt (mul-le-mul (high-bits .most) (pow-mono (t .2))) (lit< tt))
     where
       scale-from : (k : ℤ) → natAbs k ≤ 100 → (j : ℕ) × (k +ℤ pos 126 ≡ pos j) × (j ≤ 226)
       scale-from (pos m) l = (m + 126, refl, omega arith)
@@ -140,7 +147,7 @@ module _ (f : Factor) (sound : Sound f) (n : f .precision .bits ≡ prec binary3
     of-x = o .exactly x (high (prec binary32) (f .parts))
 
     abbrev of-r : Fraction
-    of-r = o .exactly r (appliedHigh f)
+    of-r = o .exactly r sizedHigh
 
     X-some : 0 < X
     X-some = le-trans hid-some (significand-bits binary32 b .least)
@@ -155,7 +162,7 @@ module _ (f : Factor) (sound : Sound f) (n : f .precision .bits ≡ prec binary3
     x-exact = lawful .positive x (high (prec binary32) (f .parts)) x-positive high-positive
 
     r-exact : Positive of-r
-    r-exact = lawful .positive r (appliedHigh f) r-positive applied-positive
+    r-exact = lawful .positive r sizedHigh r-positive applied-positive
 
     module _ (rounds : RoundsAt binary32 of-x S z) (at : c ≡ o .exponents e k +ℤ z) where
       -- the reading's rounds to S / hid * 2 ^ c
@@ -176,20 +183,20 @@ module _ (f : Factor) (sound : Sound f) (n : f .precision .bits ≡ prec binary3
 
         standard : (y g : Float) → Is y (readingAt b) → Is g (appliedHigh f) → o .inFormat y g ≡ numberOf binary32 s S c
         standard y g i j =
-            lawful .value y g (readingAt b) (appliedHigh f) (number-some binary32 e) (applied-positive .above) (applied-positive .some) i j ∙ ap (floatIn binary32) (lawful .signs (signOf binary32 b) false r (appliedHigh f))
+            lawful .value y g (readingAt b) (appliedHigh f) (number-some binary32 e) (applied-positive .above) (applied-positive .some) i j ∙ ap (floatIn binary32) (lawful .signs (signOf binary32 b) (f .minus) r sizedHigh)
             ∙ number-rounds binary32 s of-r (r-exact .above) (r-exact .some) S c bits c-in r-rounds
 
         -- ---- the error
-        q-positive : (C : Fraction) → Between (contextOf f) (lowerOf f) (upperOf f) C → Positive (o .exactly r (scaledBy f C))
-        q-positive C t = lawful .positive r (scaledBy f C) r-positive (times-positive C (power k) (sound-positive f sound C t) power-positive)
+        q-positive : (C : Fraction) → Between (contextOf f) (lowerOf f) (upperOf f) C → Positive (o .exactly r (sized C))
+        q-positive C t = lawful .positive r (sized C) r-positive (times-positive C (power k) (sound-positive f sound C t) power-positive)
 
-        -- of sizes, for a C that is written without a sign
-        size-near : (C : Fraction) → Between (contextOf f) (lowerOf f) (upperOf f) (signedAs false C) → WithinThreeHalves (prec binary32) (numberAt binary32 S c) (o .exactly r (scaledBy f (signedAs false C)))
+        -- of sizes
+        size-near : (C : Fraction) → Between (contextOf f) (lowerOf f) (upperOf f) (signedAs false C) → WithinThreeHalves (prec binary32) (numberAt binary32 S c) (o .exactly r (sized (signedAs false C)))
         size-near C t =
             let m = prec binary32 in
             let D = signedAs false C in
             let p = o .exactly r (power k) in
-            let q = o .exactly r (scaledBy f D) in
+            let q = o .exactly r (sized D) in
             let by-p = subst (λ (m : ℕ). WithinThreeHalves m (RN toEven m (o .exactly p (high m (f .parts)))) (o .exactly p D)) n (lawful .near f sound p (lawful .positive r (power k) r-positive power-positive) D t) in
             let by-r = subst (λ (a : Fraction). WithinThreeHalves m (RN toEven m a) (o .exactly p D)) (lawful .twice r (power k) (high m (f .parts))) by-p in
             distance-same (RN toEven m of-r) (numberAt binary32 S c) q (times (over 3 1) (ulp m q)) (RN-some toEven m of-r) (number-some binary32 c) (q-positive D t .some) (r-exact .sign, r-rounds)
@@ -200,12 +207,12 @@ module _ (f : Factor) (sound : Sound f) (n : f .precision .bits ≡ prec binary3
         near a A a-is C t =
             let m = prec binary32 in
             let D = signedAs false C in
-            let q = o .exactly r (scaledBy f D) in
+            let q = o .exactly r (sized D) in
             let u : Between (contextOf f) (lowerOf f) (upperOf f) D = record { some = t .some; sign = refl; least = t .least; most = t .most } in
             let w = q-positive D u in
             let signed = error-signed m s (numberAt binary32 S c) q (over 3 1) (sym (w .sign)) (size-near C u) in
             let told = distance-same (signedAs s (numberAt binary32 S c)) a (signedAs s q) (times (over 3 1) (ulp m (signedAs s q))) (number-some binary32 c) A (w .some) a-is signed in
-            subst (λ (l : Bool). WithinThreeHalves m a (o .exactly (readingAt b) (scaledBy f (signedAs l C)))) (sym (t .sign)) (subst (WithinThreeHalves m a) (sym (lawful .signs (signOf binary32 b) false r (scaledBy f D))) told)
+            subst (WithinThreeHalves m a) (sym (lawful .signs (signOf binary32 b) (f .minus) r (sized D))) told
 
         pub one-operation : (v a : Fraction) → Same (numberAt binary32 S z) v → 0 < a .den → Same (signedAs s (numberAt binary32 S c)) a → OneOperation o f b v a (numberOf binary32 s S c)
         one-operation v a v-is A a-is = record { significands = significands v v-is; held = applied-held; standard = standard; near = near a A a-is }

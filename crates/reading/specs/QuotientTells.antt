@@ -29,7 +29,7 @@ use Rattle.factor.specs.SetUp.{intact, Sound}
 use Rattle.factor.specs.SetUpLaws.{intact-sound}
 use Rattle.product.specs.Product.{high}
 use Rattle.quotient.specs.declared.Quotient.{Quotient}
-use Rattle.quotient.specs.Quotient.{byHigh, quotientBy, directionBy, directedBy, valueOf}
+use Rattle.quotient.specs.Quotient.{byHigh, quotientBy, directionBy, directedBy, signedQuotient, valueOf}
 use Rattle.quotient.specs.Tells.{Tells as TellsOf, sound-quotient}
 use Rattle.reading.specs.Reading.{unreadable, signWith, exponentOut, numberOf, DirectedNumber, directedNumber, conditions}
 use Rattle.reading.specs.Divided.{quotientExponent, quotientOf, dividedReading}
@@ -101,8 +101,9 @@ module _ (f : Factor) (b : ℕ) (h : NoneHolds (unreadable f b)) (nonzero : zero
   bits-are : f .precision .bits ≡ prec binary32
   bits-are = precision-is f b h
 
-  told : TellsOf f X (directedBy f X)
-  told = sound-quotient f sound X (subst (λ (m : ℕ). HasBits m X) (sym bits-are) (significand-bits binary32 b))
+  -- of its size
+  told : TellsOf f X (signedQuotient false (directedBy f X))
+  told = sound-quotient f sound X (subst (λ (m : ℕ). HasBits m X) (sym bits-are) (significand-bits binary32 b)) false
 
   u-bits : HasBits (prec binary32) (u .significand)
   u-bits = subst (λ (m : ℕ). HasBits m (u .significand)) bits-are (told .bits)
@@ -140,7 +141,7 @@ module _ (f : Factor) (b : ℕ) (h : NoneHolds (unreadable f b)) (nonzero : zero
       let x = byHigh (f .precision .bits) (f .parts) X in
       let s = signWith f b in
       directs-same (signedDirection s (directionBy f X)) (lastAt f b) (scaledAs s (e -ℤ k) w)
-      (directs-scaled (directionBy f X) x w (subst (λ (m : ℕ). Directs (directionBy f X) x (valueOf m u)) bits-are (told .directs)) s (e -ℤ k) refl refl)
+      (directs-scaled (directionBy f X) x w (subst (λ (m : ℕ). Directs (directionBy f X) x (valueOf m u)) bits-are (told .directs)) s refl refl (e -ℤ k))
       (answerAt f b) refl (mul-pos (mul-pos (down-pos (u .binade)) (pow-pos (prec binary32 - 1))) (down-pos (e -ℤ k))) (number-some binary32 c)
       (refl, subst (λ (c : ℤ). w .num * up (e -ℤ k) * (hid binary32 * down c) ≡ u .significand * up c * (w .den * down (e -ℤ k))) (sym turned) (omega (arith, ap (λ (t : ℕ). t * (u .significand * hid binary32)) (powers-add (e -ℤ k) (u .binade)))))
 

@@ -1,4 +1,4 @@
--- Readings: what refuses one, and a binary32 reading times a factor (document 01, "Binary32" and the refusals 31, 20, 21, 22, 23), with the sign of zeros by request W3 and directions by request W4. Definitions only. Assumes nothing.
+-- Readings: what refuses one, and a binary32 reading times a factor (document 01, "Binary32" and the refusals 31, 20, 21, 22, 23), with the sign of zeros by request W3, directions by request W4 and the factor's sign by request W5. Definitions only. Assumes nothing.
 use mathlib.Core.Bool.{Bool, not, _&&_, _||_, cond}
 use mathlib.Core.List.{List, [], _∷_, _++_}
 use Prim.Native.Nat.{ℕ, _-_, _*_}
@@ -14,7 +14,6 @@ use Rattle.rounding.specs.declared.Direction.the-variants.{Equal}
 use Rattle.rounding.specs.Direction.{signedDirection}
 use Rattle.floats.specs.Fields.{signOf, zeroOf, infiniteOrNaN, zeroBits, subnormal, significandOf, exponentOf}
 use Rattle.factor.specs.declared.Factor.{Factor}
-use Rattle.factor.specs.Context.{minusOf}
 use Rattle.factor.specs.SetUp.{intact}
 use Rattle.product.specs.declared.Device.{Device}
 use Rattle.product.specs.declared.Product.{Product}
@@ -43,7 +42,7 @@ kindOf b = cond (zeroBits binary32 b) (zero b) (normal b)
 
 -- the sign of its product or quotient by a factor, of a zero too: minus where one of the two has it and the other has not (IEEE 754-2019, 6.3; request W3)
 abbrev pub signWith : Factor → ℕ → Bool
-signWith f b = unlike (signOf binary32 b) (minusOf f)
+signWith f b = unlike (signOf binary32 b) (f .minus)
 
 -- ---- a significand at an exponent, as a number of the format
 -- 23: an exponent outside those of the format's normal numbers, 1 - emax to emax

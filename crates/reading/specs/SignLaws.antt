@@ -1,21 +1,21 @@
 -- Laws: the sign of an answer is the one that the standard's operation gives the reading and any number with the factor's sign, and a zero is answered with what it gives (request W3). Assumes zeroNumber.
 use mathlib.Core.Path.{_≡_, refl, sym, ap, ap₂, _∙_, subst}
-use mathlib.Core.Bool.{Bool, true, false, not, true≢false}
+use mathlib.Core.Bool.{Bool, true, false, not, cond, true≢false}
 use Prim.Native.Nat.{ℕ, _*_, _^_, _<_}
 use lib.Dec.{T}
 use lib.IntN.{ℤ}
 use lib.Pow.{pow-pos}
-use lib.Ieee.{Float, binary32, prec, low, hid, unlike, up, down, toBits, fits}
+use lib.Ieee.{Float, binary32, prec, low, hid, unlike, up, down, neg, toBits, fits}
 use lib.Ieee.Exact.{HasValue}
 use borrow.Author.Tests.{eq-eqb}
 use Rattle.marks.specs.Answers.{NoneHolds, accepted}
-use Rattle.rounding.specs.Fraction.{Fraction}
+use Rattle.rounding.specs.Fraction.{Fraction, signedAs}
 use Rattle.floats.specs.Fields.{zeroOf, isSignMinus, signOf, zeroBits, exponentOf}
-use Rattle.floats.specs.Signs.{round-keeps, round-zero}
+use Rattle.floats.specs.Signs.{round-keeps, round-zero, neg-value}
 use Rattle.floats.specs.Classes.{zero-value}
 use Rattle.floats.specs.NormalLaws.{number-some}
 use Rattle.factor.specs.declared.Factor.{Factor}
-use Rattle.factor.specs.Context.{minusOf}
+use Rattle.factor.specs.Ends.{signedBy}
 use Rattle.factor.specs.SetUp.{floatIn, intact, Sound}
 use Rattle.factor.specs.SetUpLaws.{intact-sound}
 use Rattle.factor.specs.StoredLaws.{high-number}
@@ -50,7 +50,7 @@ module _ (o : Operation) (lawful : Lawful o) (f : Factor) (b : ℕ) (h : NoneHol
       go false z = record { p = readingAt b; is = reading-is f b h z x fit e; sign = refl; some = number-some binary32 (exponentOf binary32 b) }
 
   -- the sign of the exact value, before it is rounded
-  exact-sign : (p c : Fraction) → p .minus ≡ signOf binary32 b → c .minus ≡ minusOf f → o .exactly p c .minus ≡ signWith f b
+  exact-sign : (p c : Fraction) → p .minus ≡ signOf binary32 b → c .minus ≡ f .minus → o .exactly p c .minus ≡ signWith f b
   exact-sign p c s t = ap (λ (q : Fraction). q .minus) (lawful .signs (p .minus) (c .minus) p c) ∙ ap₂ unlike s t
 
   operation-sign : (x g : Float) → T (fits binary32 x) → toBits binary32 x ≡ b → LikeFactor f g → isSignMinus (o .inFormat x g) ≡ signWith f b
@@ -70,14 +70,22 @@ module _ (o : Operation) (lawful : Lawful o) (f : Factor) (b : ℕ) (h : NoneHol
   sound : Sound f
   sound = intact-sound f (is-intact f b h)
 
+  -- the stored high part, with a sign put on it
+  with-sign : (m : Bool) (g : Float) (c : Fraction) → Is g (signedAs false c) → Is (cond m (neg g) g) (signedAs m c)
+  with-sign true g c i = neg-value g false (c .num) (c .den) i
+  with-sign false g c i = i
+
   stored : T (fits binary32 (f .applied .high)) → LikeFactor f (signedHigh f)
-  stored i = let C = sound-high-positive f sound in record { value = high (f .precision .bits) (f .parts); is = high-number f sound i; sign = refl; above = C .above; some = C .some }
+  stored i =
+      let C = sound-high-positive f sound in
+      let c = high (f .precision .bits) (f .parts) in
+      record { value = signedBy f c; is = with-sign (f .minus) (f .applied .high) c (high-number f sound i); sign = refl; above = C .above; some = C .some }
 
   scaled : LikeFactor f (floatIn binary32 (appliedHigh f))
   scaled =
       let n = precision-is f b h in
       let C = applied-positive f sound n in
-      record { value = appliedHigh f; is = applied-held f sound n; sign = C .sign; above = C .above; some = C .some }
+      record { value = appliedHigh f; is = applied-held f sound n; sign = refl; above = C .above; some = C .some }
 
   standard-sign : (y : Float) → isSignMinus y ≡ signWith f b → (zeroBits binary32 b ≡ true → y ≡ zeroOf (signWith f b)) → StandardSign o f b y
   standard-sign y s z = record { sign = λ x g fit e l. s ∙ sym (operation-sign x g fit e l); zero = λ t x g fit e l. z t ∙ sym (operation-zero t x g fit e l); stored = stored; scaled = scaled }

@@ -1,4 +1,4 @@
-// A binary32 reading times a factor (document 01, "Binary32"), on the two-step device or the one-step device of request W2: the product with its mark, or a refusal; and divided by it (request W1): the quotient, or a refusal. Zeros keep the sign that the standard gives (request W3), and every number that is answered has the direction of its last rounding (request W4).
+// A binary32 reading times a factor (document 01, "Binary32"), on the two-step device or the one-step device of request W2: the product with its mark, or a refusal; and divided by it (request W1): the quotient, or a refusal. Every answer, a zero too, has the sign that the standard gives the product or quotient of reading and factor (requests W3 and W5), and the direction of its last rounding (request W4).
 use factor::Factor;
 use marks::Mark;
 use product::Device;
@@ -72,7 +72,7 @@ fn answer(m: Mark, y: f32, d: Direction) -> ReadingAnswer
 fn sign_with(f: Factor, bits: u32) -> bool
     ensures { λ r. ⌜ r ≡ signWith f bits ⌝ }
 {
-    floats::is_minus(bits) != f.is_minus()
+    floats::is_minus(bits) != f.minus
 }
 
 // A rounded significand at a reading's exponent, raised, with a sign put on last, which mirrors a negative number's direction; 23 where no normal number has that exponent.

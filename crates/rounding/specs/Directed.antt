@@ -6,7 +6,7 @@ use native.Mathlib.Nat.{zero-lt-suc, le-refl, mul-one, mul-pos}
 use native.Mathlib.Omega.{arith}
 use lib.IntN.{ℤ, pos, negsuc, natAbs}
 use lib.Pow.{pow-pos}
-use lib.Ieee.{size, up, down}
+use lib.Ieee.{size, up, down, unlike}
 use lib.Ieee.Fits.{up-pos, down-pos}
 use Rattle.rounding.specs.declared.Direction.{Direction}
 use Rattle.rounding.specs.declared.Direction.the-variants.{Below, Equal, Above}
@@ -39,6 +39,12 @@ turned-again true Below = refl
 turned-again true Equal = refl
 turned-again true Above = refl
 
+pub signed-again : (s t : Bool) (d : Direction) → signedDirection (unlike s t) d ≡ signedDirection s (signedDirection t d)
+signed-again false false d = refl
+signed-again false true d = refl
+signed-again true false d = refl
+signed-again true true d = turned-again true d
+
 -- ---- exactly one of the three holds, whatever the two fractions are, and equal means exact
 pub directs : (x y : Fraction) → Directs (direction x y) x y
 directs x y =
@@ -63,14 +69,18 @@ module _ (x y : Fraction) (alike : x .minus ≡ y .minus) where
       ∙ ap (signedDirection (x .minus)) (side-alike (x .num * y .den) (y .num * x .den) (z .den) (x .num * z .den) (z .num * x .den) (y .den) Z Y (omega arith) (omega (arith, ap (λ (k : ℕ). k * x .den) (s .1))))
       ∙ sym (direction-sizes x z (alike ∙ s .0))
 
--- a sign put on both mirrors it if it is minus, and a scale changes nothing
-direction-scaled : (s : Bool) (z : ℤ) (x y : Fraction) → x .minus ≡ false → y .minus ≡ false → direction (scaledAs s z x) (scaledAs s z y) ≡ signedDirection s (direction x y)
-direction-scaled s z x y p q =
+-- a sign put on both mirrors it if it is minus
+direction-turned : (s : Bool) (x y : Fraction) → x .minus ≡ false → y .minus ≡ false → direction (signedAs s x) (signedAs s y) ≡ signedDirection s (direction x y)
+direction-turned s x y p q =
+    signed-side s (x .num * y .den) (y .num * x .den) ∙ ap (signedDirection s) (ap₂ (λ (m k : Bool). sideOf (signedOf m (x .num * y .den)) (signedOf k (y .num * x .den))) (sym p) (sym q))
+
+-- and a scale changes nothing
+direction-scaled : (s : Bool) (z : ℤ) (x y : Fraction) → direction (scaledAs s z x) (scaledAs s z y) ≡ direction (signedAs s x) (signedAs s y)
+direction-scaled s z x y =
     let b = up z * down z in
     signed-side s (x .num * up z * (y .den * down z)) (y .num * up z * (x .den * down z))
-    ∙ ap (signedDirection s)
-    (side-alike (x .num * up z * (y .den * down z)) (y .num * up z * (x .den * down z)) 1 (x .num * y .den) (y .num * x .den) b (omega arith) (mul-pos (up-pos z) (down-pos z)) (omega arith) (omega arith)
-    ∙ ap₂ (λ (m k : Bool). sideOf (signedOf m (x .num * y .den)) (signedOf k (y .num * x .den))) (sym p) (sym q))
+    ∙ ap (signedDirection s) (side-alike (x .num * up z * (y .den * down z)) (y .num * up z * (x .den * down z)) 1 (x .num * y .den) (y .num * x .den) b (omega arith) (mul-pos (up-pos z) (down-pos z)) (omega arith) (omega arith))
+    ∙ sym (signed-side s (x .num * y .den) (y .num * x .den))
 
 -- ---- whatever tells how y lies as seen from x
 module _ (d : Direction) (x y : Fraction) (tells : Directs d x y) where
@@ -81,9 +91,14 @@ module _ (d : Direction) (x y : Fraction) (tells : Directs d x y) where
   pub directs-same : (z : Fraction) → x .minus ≡ y .minus → 0 < y .den → 0 < z .den → Same y z → Directs d x z
   directs-same z alike Y Z s = subst (λ (e : Direction). Directs e x z) (sym (direction-same x y alike z Y Z s) ∙ told) (directs x z)
 
-  -- and, mirrored where the sign is minus, with sign and scale put on both
-  pub directs-scaled : (s : Bool) (z : ℤ) → x .minus ≡ false → y .minus ≡ false → Directs (signedDirection s d) (scaledAs s z x) (scaledAs s z y)
-  directs-scaled s z p q = subst (λ (e : Direction). Directs e (scaledAs s z x) (scaledAs s z y)) (direction-scaled s z x y p q ∙ ap (signedDirection s) told) (directs (scaledAs s z x) (scaledAs s z y))
+  -- and, mirrored where the sign is minus, with a sign put on both, and with a scale too
+  module _ (s : Bool) (p : x .minus ≡ false) (q : y .minus ≡ false) where
+    pub directs-signed : Directs (signedDirection s d) (signedAs s x) (signedAs s y)
+    directs-signed = subst (λ (e : Direction). Directs e (signedAs s x) (signedAs s y)) (direction-turned s x y p q ∙ ap (signedDirection s) told) (directs (signedAs s x) (signedAs s y))
+
+    pub directs-scaled : (z : ℤ) → Directs (signedDirection s d) (scaledAs s z x) (scaledAs s z y)
+    directs-scaled z =
+        subst (λ (e : Direction). Directs e (scaledAs s z x) (scaledAs s z y)) (direction-scaled s z x y ∙ direction-turned s x y p q ∙ ap (signedDirection s) told) (directs (scaledAs s z x) (scaledAs s z y))
 
 -- ---- of a rounding
 module _ (rule : Rule) (n : ℕ) where
@@ -91,10 +106,9 @@ module _ (rule : Rule) (n : ℕ) where
   unfolding directionOf
   rounding-directs x = directs x (RN rule n x)
 
-  -- it is the direction to whatever is the same number as RN(x)
-  pub direction-to : (x y : Fraction) → 0 < y .den → Same (RN rule n x) y → directionOf rule n x ≡ direction x y
-  unfolding directionOf
-  direction-to x y Y s = direction-same x (RN rule n x) refl y (RN-some rule n x) Y s
+  -- it tells how whatever is the same number as RN(x) lies
+  pub directs-to : (x y : Fraction) → 0 < y .den → Same (RN rule n x) y → Directs (directionOf rule n x) x y
+  directs-to x y Y s = directs-same (directionOf rule n x) x (RN rule n x) (rounding-directs x) y refl (RN-some rule n x) Y s
 
   -- by that of the size
   direction-signed : (x : Fraction) → directionOf rule n x ≡ signedDirection (x .minus) (directionOf rule n (signedAs false x))

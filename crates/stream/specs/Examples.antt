@@ -51,6 +51,11 @@ refused : output (bytes "03 00 6000000000000000 6000000000000000\n03 00 60000000
 unfolding bytes
 refused = refl
 
+-- 84 is a good byte, 83 is refused with 11, FF too (request W5)
+below-zero : output (bytes "84 00 6000000000000000 6000000000000000\n83 00 6000000000000000 6000000000000000\nFF 00 6000000000000000 6000000000000000\n") ≡ bytes "0001 00 00000002 00000000 00000000\n0002 FF 11\n0003 FF 11\n"
+unfolding bytes
+below-zero = refl
+
 -- ---- the program's loop
 
 -- with room for one step that writes, and a line that two chunks share: it is refused only when a read gives nothing

@@ -1,5 +1,6 @@
 -- The program as a function, with its examples and its laws.
 pub mod Output
+pub mod SignLaws
 pub mod Keep
 pub mod PieceLaws
 pub mod SweepLaws

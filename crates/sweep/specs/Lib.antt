@@ -1,6 +1,7 @@
 -- Sweeps of a factor. Definitions: Engine (what a sweep asks of a factor), Answers (what the code's states and answers say) and Steps. Laws: the others.
 pub mod Engine
 pub mod EngineLaws
+pub mod SignLaws
 pub mod Answers
 pub mod Steps
 pub mod StepLaws

@@ -1,19 +1,22 @@
--- Laws of the tally: its counts add up to the length of the span, and those of adjoining spans to the whole's, for any list of adjoining calls. Assumes nothing.
+-- Laws of the tally: its counts add up to the length of the span, and those of adjoining spans to the whole's, for any list of adjoining calls; and a factor's sign does not matter to it. Assumes nothing.
 use mathlib.Core.Path.{_≡_, refl, sym, ap, ap₂, _∙_}
-use mathlib.Core.Bool.{true, false, not}
+use mathlib.Core.Bool.{Bool, true, false, not}
+use mathlib.Core.List.{[], _∷_}
 use Prim.Native.Nat.{ℕ, zero, suc, _+_, _-_, _≤_, _<_}
 use native.Mathlib.Nat.{add-zero, add-assoc, lt-of-not-le}
 use native.Mathlib.Decide.{decLe}
 use native.Mathlib.Omega.{arith}
+use lib.Dec.{ltb}
 use borrow.Author.Tests.{ltb-false, not-false, le-ltb}
 use Rattle.marks.specs.declared.Mark.{Mark}
 use Rattle.marks.specs.declared.Mark.the-variants.{Right, Open, Wrong}
-use Rattle.marks.specs.Answers.{NoneHolds, accepted}
+use Rattle.marks.specs.Answers.{NoneHolds, accepted, answer}
 use Rattle.marks.specs.AnswerLaws.{pass, end, accepts, only-accepted}
 use Rattle.factor.specs.declared.Factor.{Factor}
 use Rattle.factor.specs.Precision.{rangeOut}
 use Rattle.factor.specs.SetUp.{intact, Sound}
 use Rattle.factor.specs.SetUpLaws.{intact-sound}
+use Rattle.factor.specs.Signs.{withSign, intact-signed}
 use Rattle.product.specs.AnswerLaws.{InRange, in-range, range-in}
 use Rattle.tally.specs.declared.Counts.{Counts}
 use Rattle.tally.specs.Tally.{one, howMany, countsOf, nothing, together, markOnce, mostTallied, spanLength, conditions, tallied}
@@ -119,3 +122,8 @@ module _ (f : Factor) (good : intact f ≡ true) (last : ℕ) where
   -- where one call may take the whole, it answers the same
   pub tallies-whole : (first : ℕ) (t : Counts) → Adjoining f first (suc last) t → rangeOut (f .precision .bits) first last ≡ false → spanLength first last ≤ mostTallied → tallied f first last ≡ accepted t
   tallies-whole first t calls e short = one-call first last (in-range (f .precision .bits) first last e) short ∙ ap accepted (sym (tallies-add f first (suc last) t calls .1))
+
+-- a factor with another sign is tallied alike (request W5)
+pub tally-signed : (s : Bool) (f : Factor) (first last : ℕ) → tallied (withSign s f) first last ≡ tallied f first last
+unfolding tallied
+tally-signed s f first last = ap (λ (i : Bool). answer ((31, not i) ∷ (17, rangeOut (f .precision .bits) first last) ∷ (41, ltb mostTallied (spanLength first last)) ∷ []) (countsOf (markOnce f) first (spanLength first last))) (intact-signed s f)

@@ -16,7 +16,7 @@ scale-is c = search needs
 returns : tie.Need-returns
 unfolding factorFrom
 returns c =
-    let scale = c .before .before in
+    let scale = c .before .before .before in
     let low-float = scale .before .before .before in
     let high-float = low-float .before .before .before in
     let places = high-float .before .before .before in
@@ -39,5 +39,5 @@ returns c =
 pub factor-from-spec : {M : Type 1} → statement M
 factor-from-spec =
     tie.close (tie.spec (λ c. search needs) (λ c κs. search needs) (λ c. search needs) (λ c. search needs) (λ c κs. search needs) (λ c. search needs) (λ c κs. search needs) (λ c. search needs) (λ c κs. search needs)
-    (λ c κs. search needs) (λ c. search needs) (λ c κs. search needs) (λ c κs. search needs) (λ c. search needs) (λ c κs. search needs) (λ c κs. search needs) (λ c. search needs) (λ c. search needs)
+    (λ c κs. search needs) (λ c. search needs) (λ c κs. search needs) (λ c κs. search needs) (λ c. search needs) (λ c κs. search needs) (λ c κs. search needs) (λ c. search needs) (λ c. search needs) (λ c. search needs)
     returns)

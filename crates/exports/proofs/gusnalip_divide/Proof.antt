@@ -22,7 +22,7 @@ answer s =
     answered (plainAnswer quotientWords) (λ f. divided f (a .x)) (told .before .before .take-factor .ensures) (told .f .given .1) (s .divide .ensures)
 
 -- there is room for the quotient
-roomy : (s : tie.After-divide) → 3 ≤ length (s .before .before .before .before .before .before .before .args .out .now)
+roomy : (s : tie.After-divide) → 4 ≤ length (s .before .before .before .before .before .before .before .args .out .now)
 roomy s = let told = s .before .before in enough (told .before .before .take-factor .ensures) (told .f .given .1) .roomy
 
 -- the words were not taken

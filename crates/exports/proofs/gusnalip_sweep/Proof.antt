@@ -39,7 +39,7 @@ answer c =
     ∙ ap replyWords (sym (c .sweep-call .ensures ∙ ap (λ (s : State Factor). sweepCall engine s (callOf (a .cap) (a .list .now) (a .free))) (of .state-of .ensures)))
 
 -- the lists are long enough
-lists : (c : tie.After-f) → let a = c .before .before .before .before .before .before .before .args in Enough (a .state .now) 13 (length (a .counts .now)) 3
+lists : (c : tie.After-f) → let a = c .before .before .before .before .before .before .before .args in Enough (a .state .now) 14 (length (a .counts .now)) 3
 lists c = enough (c .before .before .take-factor .ensures) (c .f .given .1)
 
 -- where a call has put its state

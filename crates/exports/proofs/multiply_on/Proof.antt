@@ -22,7 +22,7 @@ answer s =
     answered (markedAnswer productWords) (λ f. multiplied (a .d) f (a .x)) (told .before .before .take-factor .ensures) (told .f .given .1) (s .multiply .ensures)
 
 -- there is room for the product
-roomy : (s : tie.After-multiply) → 3 ≤ length (s .before .before .before .before .before .before .before .args .out .now)
+roomy : (s : tie.After-multiply) → 4 ≤ length (s .before .before .before .before .before .before .before .args .out .now)
 roomy s = let told = s .before .before in enough (told .before .before .take-factor .ensures) (told .f .given .1) .roomy
 
 -- the words were not taken

@@ -1,23 +1,17 @@
 -- `exports::put_state` meets its contract: the factor's words, then four more. Assumes nothing.
-use mathlib.Core.Path.{_≡_, refl}
-use mathlib.Core.Bool.{Bool, true, false, cond}
 use native.Mathlib.Omega.{arith}
-use mir.Val.{boolByte}
 use lib.ListN.{length-set}
 use Rattle.exports.specs.Words.{factorWords, stateWords}
 use borrow.Author.Needs.{needs}
+use Rattle.exports.proofs.Laws.{flag-is}
 use Rattle.exports.proofs.put_state.Statement.{statement}
 use Rattle.exports.proofs.put_state.Tie as tie
-
-mark-is : (b : Bool) → boolByte b ≡ cond b 1 0
-mark-is true = refl
-mark-is false = refl
 
 returns : tie.Need-returns
 unfolding stateWords factorWords
 returns c =
     let put = c .before .before .before in
-    rw (put .put-factor .ensures, mark-is (put .before .before .before .before .args .s .finished))
+    rw (put .put-factor .ensures, flag-is (put .before .before .before .before .args .s .finished))
 
 pub put-state-spec : {M : Type 1} → statement M
 put-state-spec =

@@ -13,7 +13,7 @@ set-up-is : (c : tie.After-set-up) → let f = c .before .before .args .f in out
 set-up-is c =
     let f = c .before .before .args .f in
     let same : toZ w32 (ofZ w32 (f .applied .scale)) ≡ f .applied .scale = search needs in
-    c .set-up .ensures ∙ ap (λ (k : ℤ). setUp (record { precision = f .precision .bits; scale = k; lower = f .lower; upper = f .upper })) same
+    c .set-up .ensures ∙ ap (λ (k : ℤ). setUp (record { minus = f .minus; precision = f .precision .bits; scale = k; lower = f .lower; upper = f .upper })) same
 
 returns : tie.Need-returns
 unfolding intact

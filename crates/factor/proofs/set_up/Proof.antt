@@ -172,7 +172,7 @@ returns-7 c =
     ∙ ap (λ (n : ℕ). appliedFrom n (toZ w32 (ofZ w32 (e w .scale))) (w .before .parts-at .result)) (bits-are (first s))
     ∙ ap₂ (appliedFrom (e w .precision)) (scale-read s) (lower-parts w)
     ∙ sym (applied-from (e w) (kept (first s)) (lower-in s)) in
-    ap accepted (λ i. record { precision = record { bits = bits-are (first s) i }; lower = e w .lower; upper = e w .upper; parts = lower-parts w i; applied = stored i })
+    ap accepted (λ i. record { minus = e w .minus; precision = record { bits = bits-are (first s) i }; lower = e w .lower; upper = e w .upper; parts = lower-parts w i; applied = stored i })
     ∙ accepts (pass (precision-in (first s)) (pass (ends-in s) (pass (in-order w) (pass (scale-in w) (pass (high-same (l .before)) (pass (sym (low-is l) ∙ o .if5 .left) end)))))) (factorOf (e w))
 
 pub set-up-spec : {M : Type 1} → statement M

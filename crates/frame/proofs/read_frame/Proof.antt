@@ -14,7 +14,7 @@ use Rattle.frame.specs.declared.Field.the-variants.{Value}
 use Rattle.frame.specs.Digits.{malformed}
 use Rattle.frame.specs.FieldLaws.{field-held}
 use Rattle.frame.specs.FrameLaws.{frame-is}
-use Rattle.frame.specs.Frame.{endDigits, spaced, precisionField, scaleField, lowerField, upperField, frameOf}
+use Rattle.frame.specs.Frame.{endDigits, minusIn, precisionIn, spaced, precisionField, scaleField, lowerField, upperField, frameOf}
 use Rattle.frame.proofs.read_frame.Statement.{statement}
 use Rattle.frame.proofs.read_frame.Tie as tie
 
@@ -87,8 +87,8 @@ fourth c = c .before .before .before .before
 upper-is : (c : tie.After-known-told4) → upperField (line (first (second (third (fourth c))))) ≡ Value (c .before .upper .given .0 .0)
 upper-is c = sym (c .before .before .before .read-field4 .ensures) ∙ c .before .upper .given .1
 
-cast-t13 : tie.Need-cast-t13
-cast-t13 c = omega (arith, field-held _ 0 2 _ (precision-is (second (third (fourth c)))) .small)
+cast-precision : tie.Need-cast-t14
+cast-precision c = omega arith
 
 signed-byte-requires : tie.Need-signed-byte-requires
 signed-byte-requires c κs = field-held _ 3 2 _ (scale-is (third (fourth c))) .small
@@ -100,10 +100,10 @@ returns-6 c =
     let k = third l in
     let p = second k in
     let scale : toZ w32 (ofZ w32 (c .signed-byte .result)) ≡ c .signed-byte .result = search needs in
-    ap (λ (x : ℤ). accepted (record { precision = p .before .precision .given .0 .0; scale = x; lower = l .before .lower .given .0 .0; upper = u .before .upper .given .0 .0 })) (scale ∙ c .signed-byte .ensures)
+    ap (λ (x : ℤ). accepted (record { minus = minusIn (p .before .precision .given .0 .0); precision = precisionIn (p .before .precision .given .0 .0); scale = x; lower = l .before .lower .given .0 .0; upper = u .before .upper .given .0 .0 })) (scale ∙ c .signed-byte .ensures)
     ∙ frame-is (line (first p)) (spaced-out (first p)) (precision-is p) (scale-is k) (lower-is l) (upper-is u)
 
 pub read-frame-spec : {M : Type 1} → statement M
 read-frame-spec =
     tie.close (tie.spec (λ c κs. search needs) returns (λ c κs. search needs) (λ c. search needs) (λ c. search needs) returns-2 (λ c κs. search needs) (λ c. search needs) (λ c. search needs) returns-3
-    (λ c κs. search needs) (λ c. search needs) (λ c. search needs) returns-4 (λ c. search needs) (λ c κs. search needs) (λ c. search needs) (λ c. search needs) returns-5 cast-t13 signed-byte-requires returns-6)
+    (λ c κs. search needs) (λ c. search needs) (λ c. search needs) returns-4 (λ c. search needs) (λ c κs. search needs) (λ c. search needs) (λ c. search needs) returns-5 cast-precision signed-byte-requires returns-6)

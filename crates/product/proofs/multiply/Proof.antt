@@ -10,7 +10,7 @@ use Rattle.factor.specs.SetUp.{Sound}
 use Rattle.product.specs.declared.Device.{Device}
 use Rattle.product.specs.declared.DirectedProduct.{DirectedProduct}
 use Rattle.product.specs.DeviceLaws.{formed}
-use Rattle.product.specs.Answer.{conditions, marked, multiplied}
+use Rattle.product.specs.Answer.{conditions, marked, answered, multiplied}
 use Rattle.product.specs.AnswerLaws.{let-through}
 use Rattle.product.proofs.multiply.Statement.{statement}
 use Rattle.product.proofs.multiply.Tie as tie
@@ -51,7 +51,7 @@ unfolding multiplied
 returns-2 c =
     let k = c .before .before in
     c .marked .ensures
-    ∙ ap (λ (v : DirectedProduct). accepted (marked (f k) (x k) v)) (c .before .product-of .ensures)
+    ∙ ap (λ (v : DirectedProduct). accepted (answered (f k) (marked (f k) (x k) v))) (c .before .product-of .ensures)
     ∙ sym (none-refuses (conditions (f k) (x k)) _ (none k))
 
 pub multiply-spec : {M : Type 1} → statement M

@@ -5,6 +5,7 @@ use Rattle.marks.specs.Answers.{NoneHolds, accepted}
 use Rattle.marks.specs.AnswerLaws.{judged-passed, judged-refused, none-refuses}
 use Rattle.product.specs.Answer.{conditions}
 use Rattle.product.specs.AnswerLaws.{let-through}
+use Rattle.quotient.specs.Quotient.{signedQuotient}
 use Rattle.quotient.specs.Answer.{divided}
 use Rattle.quotient.proofs.divide.Statement.{statement}
 use Rattle.quotient.proofs.divide.Tie as tie
@@ -23,9 +24,9 @@ returns c = judged-refused (c .before .before .before .refusal-of .ensures) (c .
 returns-2 : tie.Need-returns-2
 unfolding divided
 returns-2 c =
-    let k = c .before in
+    let k = c .before .before in
     let a = k .before .before .before .args in
-    ap accepted (c .quotient-of .ensures) ∙ sym (none-refuses (conditions (a .f) (a .x)) _ (none k))
+    ap accepted (c .signed .ensures ∙ ap (signedQuotient (a .f .minus)) (c .before .quotient-of .ensures)) ∙ sym (none-refuses (conditions (a .f) (a .x)) _ (none k))
 
 pub divide-spec : {M : Type 1} → statement M
-divide-spec = tie.close (tie.spec (λ c κs. search needs) (λ c. search needs) (λ c. search needs) quotient-of-requires returns returns-2)
+divide-spec = tie.close (tie.spec (λ c κs. search needs) (λ c. search needs) (λ c. search needs) quotient-of-requires (λ c κs. search needs) returns returns-2)

@@ -1,6 +1,6 @@
 -- `reading::divide` meets its contract: refused, a zero, or the quotient and the binade less k put on. Assumes nothing.
 use mathlib.Core.Path.{_≡_, sym, ap, ap₂, _∙_, subst}
-use mathlib.Core.Bool.{Bool}
+use mathlib.Core.Bool.{Bool, false}
 use Prim.Native.Nat.{ℕ, _≤_, _<_}
 use native.Mathlib.Omega.{arith}
 use lib.IntN.{ℤ, natAbs, negℤ, _+ℤ_, _-ℤ_}
@@ -66,7 +66,7 @@ module _ (c : tie.After-quotient-of) where
   v-is = ap (λ (z : DirectedQuotient). z .quotient) w-is
 
   v-bits : HasBits (prec binary32) (v .significand)
-  v-bits = rw v-is (subst (λ (n : ℕ). HasBits n (quotientBy (f k) X .significand)) (is-ready k .precision) (sound-quotient (f k) (is-ready k .sound) X (is-ready k .bits) .bits))
+  v-bits = rw v-is (subst (λ (n : ℕ). HasBits n (quotientBy (f k) X .significand)) (is-ready k .precision) (sound-quotient (f k) (is-ready k .sound) X (is-ready k .bits) false .bits))
 
   few : natAbs (v .binade -ℤ scale) < 102
   few =
