@@ -1,4 +1,4 @@
--- Figures: document 01's two readings at scale 100, one reading of every kind, one that is rounded up to the least normal number, and one on which a fused step in binary64 would fail, on both devices; a girth on which the one-step device fails (request W2); zeros of both signs where the low part is negative (request W3); request W1's girth, quotients of every kind of reading, and both limits of 23 in both binades; each with its direction, and request W4's on readings of both signs. All by computation. Assumes nothing.
+-- Figures: document 01's two readings at scale 100, one reading of every kind, one that is rounded up to the least normal number, and one on which a fused step in binary64 would fail, on both devices; a girth on which the one-step device fails (request W2); zeros of both signs where the low part is negative (request W3); request W1's girth, quotients of every kind of reading, and both limits of 23 in both binades; each with its direction, and request W4's on readings of both signs; factors below zero (request W5), with readings and zeros of both signs, multiplied and divided. All by computation. Assumes nothing.
 use mathlib.Core.Path.{_≡_, refl}
 use mathlib.Core.Bool.{true, false}
 use Prim.Native.Nat.{ℕ, _+_, _*_, _^_}
@@ -16,6 +16,7 @@ use Rattle.factor.specs.Precision.{scaleOf}
 use Rattle.factor.specs.Context.{tieRule}
 use Rattle.factor.specs.Parts.{partsAt}
 use Rattle.factor.specs.SetUp.{appliedOf, factorOf}
+use Rattle.factor.specs.Signs.{withSign}
 use Rattle.factor.specs.declared.Description.{Description}
 use Rattle.product.specs.declared.Device.{Device}
 use Rattle.reading.specs.Reading.{DirectedNumber, applied}
@@ -120,11 +121,37 @@ lost-by-two-steps : let x = fin true 0 (pos 0) in Ieee.add binary32 (Ieee.mul bi
 unfolding pi Ieee.add Ieee.mul
 lost-by-two-steps = refl
 
+-- - 1/π: the same girth of either sign. The size was rounded down to 0.499746531, so that - 0.499746531 is above what was rounded; two minuses give a plus. Zeros have the sign of the product, and what is refused is refused alike
+below-zero :
+    (applied Device.TwoStep (withSign true byPi) (fin false 13170115 (negsuc 22)) ≡ right (fin true 16768711 (negsuc 24)) Above)
+    × (applied Device.TwoStep (withSign true byPi) (fin true 13170115 (negsuc 22)) ≡ right (fin false 16768711 (negsuc 24)) Below)
+    × (applied Device.OneStep (withSign true byPi) (fin false 13170115 (negsuc 22)) ≡ right (fin true 16768711 (negsuc 24)) Below)
+    × (applied Device.OneStep (withSign true byPi) (fin true 13170115 (negsuc 22)) ≡ right (fin false 16768711 (negsuc 24)) Above)
+    × (applied Device.OneStep (withSign true byPi) (fin false 7906077 (negsuc 22)) ≡ wrong (fin true 10066329 (negsuc 24)) Above)
+    × (applied Device.TwoStep (withSign true byPi) (inf true) ≡ refused 21)
+unfolding byPi applied answer judged directionOf sideOf Ieee.toBits
+below-zero = (refl, refl, refl, refl, refl, refl)
+
+sighted-below-zero :
+    (d : Device) → (applied d (withSign true pi) (fin true 0 (pos 0)) ≡ right (fin false 0 (pos 0)) Equal) × (applied d (withSign true pi) (fin false 0 (pos 0)) ≡ right (fin true 0 (pos 0)) Equal)
+unfolding pi applied answer judged directionOf sideOf Ieee.toBits
+sighted-below-zero Device.TwoStep = (refl, refl)
+sighted-below-zero Device.OneStep = (refl, refl)
+
 -- ---- divided
 -- 1/π: a diameter of 1/2 gives the girth 1.5707964, whose bits are 3FC90FDB
 girth : dividedReading byPi (fin false 1 (negsuc 0)) ≡ quotient (fin false 13176795 (negsuc 22)) Below
 unfolding byPi dividedReading answer judged directionOf sideOf Ieee.toBits
 girth = refl
+
+-- - 1/π: the same, and zeros of both signs
+girth-below-zero :
+    (dividedReading (withSign true byPi) (fin false 1 (negsuc 0)) ≡ quotient (fin true 13176795 (negsuc 22)) Above)
+    × (dividedReading (withSign true byPi) (fin true 1 (negsuc 0)) ≡ quotient (fin false 13176795 (negsuc 22)) Below)
+    × (dividedReading (withSign true byPi) (fin true 0 (pos 0)) ≡ quotient (fin false 0 (pos 0)) Equal)
+    × (dividedReading (withSign true byPi) (fin false 0 (pos 0)) ≡ quotient (fin true 0 (pos 0)) Equal)
+unfolding byPi dividedReading answer judged directionOf sideOf Ieee.toBits
+girth-below-zero = (refl, refl, refl, refl)
 
 -- C = 3/2: a zero of either sign, which it keeps, an infinity, a NaN, a subnormal, and a negative reading; n = 23, and a factor that no set-up gives
 kinds-divided :
