@@ -5,7 +5,7 @@ use Rattle.marks.specs.Answers.{Outcome, refused, accepted, each}
 use Rattle.marks.specs.AnswerLaws.{answer-each}
 use Rattle.factor.specs.declared.Description.{Description}
 use Rattle.factor.specs.declared.Factor.{Factor}
-use Rattle.factor.specs.SetUp.{appliedOf, factorOf, conditions, setUp, given, described, intact}
+use Rattle.factor.specs.SetUp.{factorOf, conditions, setUp, given, described, intact}
 
 -- a factor, and a description, with the sign s; with a plus it is the size
 abbrev pub withSign : Bool → Factor → Factor

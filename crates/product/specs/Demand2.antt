@@ -41,7 +41,7 @@ use Rattle.product.specs.MarkLaws.{mark-says, mark-only}
 use Rattle.product.specs.Answer.{conditions, marked, answered, multiplied, GivesSigned, SaysSigned, Tells}
 use Rattle.product.specs.AnswerLaws.{significand-in, let-through}
 use Rattle.product.specs.SoundLaws.{sound-fine}
-use Rattle.product.specs.Devices.{productOn, directedOn, signedProduct, markOn}
+use Rattle.product.specs.Devices.{directedOn, signedProduct, markOn}
 use Rattle.product.specs.DeviceLaws.{formed}
 
 -- RN of x is x rounded to nearest in the sense of IEEE 754-2019, 4.3.1: it has n bits, no number of n bits is nearer, and half way between two the rule decides

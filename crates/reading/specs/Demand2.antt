@@ -1,7 +1,7 @@
 -- Demand 2 of readings (`reading-answered`, `reading-tells`), for every device, factor and reading: the answer is the device's product with sign and exponent put on, exactly, and its
 -- mark tells of every fraction C between the ends whether C * 2 ^ k, with the factor's sign (request W5), times the reading rounds to it; its sign is that of the standard's product, which of a zero is the whole answer (`zero-multiplied`, request W3); its direction
 -- tells how it lies as seen from what the device rounded last, sign and scale on (request W4). Assumes nothing.
-use mathlib.Core.Path.{_≡_, refl, sym, ap, _∙_, subst}
+use mathlib.Core.Path.{_≡_, refl, sym, ap, subst}
 use mathlib.Core.Bool.{Bool, true, false, cond}
 use mathlib.Core.Logic.{_⊎_, inl, inr}
 use Prim.Native.Nat.{ℕ, _+_, _-_, _*_, _^_, _<_}

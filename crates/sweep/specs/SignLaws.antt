@@ -4,7 +4,7 @@ use mathlib.Core.Bool.{Bool, not}
 use mathlib.Core.List.{[], _∷_}
 use Prim.Native.Nat.{ℕ, zero, suc, _-_}
 use lib.ListN.{length}
-use Rattle.marks.specs.Answers.{Refusal, number, none, judged, Outcome, answer, each}
+use Rattle.marks.specs.Answers.{Refusal, number, none, judged, answer, each}
 use Rattle.marks.specs.AnswerLaws.{answer-each}
 use Rattle.search.specs.declared.Place.{Place}
 use Rattle.search.specs.declared.Place.the-variants.{At, Nowhere}
