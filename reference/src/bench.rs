@@ -57,12 +57,13 @@ pub fn bench(output: &mut dyn Write) -> io::Result<()> {
 
 fn known(index: usize) -> (&'static str, Factor) {
     let (name, scale, lower, upper) = KNOWN[index];
-    (name, set_up(24, scale, lower, upper).expect("an accepted factor"))
+    (name, set_up(false, 24, scale, lower, upper).expect("an accepted factor"))
 }
 
 /// Trying every significand with the machine's own operations, which is the quicker way of the two.
 fn every_significand(factor: &Factor) -> u64 {
-    (0..1u32 << 23).filter(|&fraction| reading::product(factor, fraction).0 != Mark::Right).count() as u64
+    let fails = |fraction: u32| reading::product(factor, f32::from_bits(0x3F80_0000 | fraction)).0 != Mark::Right;
+    (0..1 << 23).filter(|&fraction| fails(fraction)).count() as u64
 }
 
 fn engine_sweep(factor: &Factor, list: &mut [u32]) -> u64 {
@@ -101,32 +102,29 @@ fn single(output: &mut dyn Write) -> io::Result<()> {
     let mut bits = [0; engine::READING_WORDS];
     let ours = seconds(5, || {
         for g in &all {
-            black_box(engine::set_up_to(g.bits, g.scale, g.lower, g.upper, &mut out));
+            black_box(engine::set_up_to(*g, &mut out));
         }
     });
     let theirs = seconds(5, || {
         for g in &all {
-            black_box(set_up(g.bits, g.scale, g.lower, g.upper).is_ok());
+            black_box(g.set_up().is_ok());
         }
     });
     line(output, "set-up, factors of many kinds", ours / count as f64, theirs / count as f64)?;
     for g in &all {
-        assert_eq!(
-            lean::set_up(g.bits, g.scale, g.lower, g.upper),
-            set_up(g.bits, g.scale, g.lower, g.upper),
-            "lean set-up is the reference's"
-        );
+        let lean = lean::set_up(g.minus != 0, g.bits, g.scale, g.lower, g.upper);
+        assert_eq!(lean, g.set_up(), "lean set-up is the reference's");
     }
     let lean = seconds(5, || {
         for g in &all {
-            black_box(lean::set_up(g.bits, g.scale, g.lower, g.upper).is_ok());
+            black_box(lean::set_up(g.minus != 0, g.bits, g.scale, g.lower, g.upper).is_ok());
         }
     });
     line(output, "the same, against lean 128-bit arithmetic", ours / count as f64, lean / count as f64)?;
 
     let accepted: Vec<(Factor, u64)> = all
         .iter()
-        .filter_map(|g| set_up(g.bits, g.scale, g.lower, g.upper).ok())
+        .filter_map(|g| g.set_up().ok())
         .map(|factor| (factor, random.from_to(least(factor.bits), greatest(factor.bits))))
         .collect();
     let as_words: Vec<_> = accepted.iter().map(|(factor, x)| (words(factor), *x)).collect();
@@ -203,7 +201,8 @@ fn single(output: &mut dyn Write) -> io::Result<()> {
     }
 
     let readings: Vec<(Factor, u32)> = (0..count as usize)
-        .map(|i| known(i % 6).1)
+        .map(|i| (i / 6, known(i % 6).1))
+        .map(|(i, factor)| if i % 4 == 0 { factor.opposite() } else { factor })
         .map(|factor| (factor, (random.word() as u32 & 0x7FFF_FFFF) % 0x7F00_0000))
         .collect();
     let as_words: Vec<_> = readings.iter().map(|(factor, bits)| (words(factor), *bits)).collect();
@@ -250,7 +249,7 @@ fn tally_of_all(tally: impl Fn(u64, u64) -> Tally) -> Tally {
 }
 
 fn tallies(output: &mut dyn Write) -> io::Result<()> {
-    let short = set_up(24, 0, 3 << 61, 3 << 61).expect("an accepted factor");
+    let short = set_up(false, 24, 0, 3 << 61, 3 << 61).expect("an accepted factor");
     for (name, factor) in [known(0), known(1), known(4), ("3/2", short)] {
         let words = words(&factor);
         let ours = |first, last| engine::tally(black_box(&words), first, last).expect("a tally");
@@ -281,7 +280,7 @@ fn tallies(output: &mut dyn Write) -> io::Result<()> {
 }
 
 fn per_suspect(output: &mut dyn Write) -> io::Result<()> {
-    let short = set_up(24, 0, 3 << 61, 3 << 61).expect("an accepted factor");
+    let short = set_up(false, 24, 0, 3 << 61, 3 << 61).expect("an accepted factor");
     for (name, factor) in [known(4), ("3/2", short)] {
         let mut list = vec![0; 70_000];
         let mut trials = 0;

@@ -1,6 +1,6 @@
 //! The program `cases`: lines of calls, each answered behind the line itself.
 
-use crate::factor::{set_up, Refusal};
+use crate::factor::{set_up, Factor, Refusal};
 use crate::frame::{fields, for_lines};
 use crate::onestep::{multiply_once, read_once, tally};
 use crate::product::{multiply, Mark, Product};
@@ -29,7 +29,7 @@ impl Cases {
     /// The result of a line, or none for a line that is none of the table's.
     fn answer(&mut self, line: &[u8]) -> Option<String> {
         let widths: &[usize] = match line.get(..2)? {
-            b"01" => &[2, 8, 8, 16, 16],
+            b"01" => &[2, 8, 8, 8, 16, 16],
             b"02" => &[2, 2, 16],
             b"03" => &[2, 16],
             b"04" => &[2, 8],
@@ -46,8 +46,9 @@ impl Cases {
         let refused = |refusal: u32| format!("{refusal:02}");
         let marked_product = |answer: Result<Product, Refusal>| match answer {
             Err(refusal) => refused(refusal),
-            Ok(Product { mark, significand, binade, direction }) => {
-                format!("{:02} {significand:016X} {binade:02X} {:02X}", mark.number(), direction.number())
+            Ok(Product { mark, significand, binade, direction, minus }) => {
+                let (mark, direction) = (mark.number(), direction.number());
+                format!("{mark:02} {significand:016X} {binade:02X} {direction:02X} {:02X}", minus as u32)
             }
         };
         let number = |Number { bits, direction }| format!("{bits:08X} {:02X}", direction.number());
@@ -56,13 +57,14 @@ impl Cases {
             Ok((mark, product)) => format!("{:02} {}", mark.number(), number(product)),
         };
         let answer = match f[0] {
-            1 => match set_up(f[1] as u32, f[2] as u32 as i32, f[3], f[4]) {
+            1 => match set_up(f[1] != 0, f[2] as u32, f[3] as u32 as i32, f[4], f[5]) {
                 Err(refusal) => refused(refusal),
                 Ok(factor) => {
+                    let Factor { minus, high, low, places, high_float, low_float, .. } = factor;
                     self.state[..FACTOR_WORDS].copy_from_slice(&words(&factor));
                     format!(
-                        "00 {:016X} {:016X} {:08X} {:08X} {:08X}",
-                        factor.high, factor.low as u64, factor.places, factor.high_float, factor.low_float
+                        "00 {:02X} {high:016X} {low:016X} {places:08X} {high_float:08X} {low_float:08X}",
+                        minus as u32
                     )
                 }
             },
@@ -111,7 +113,7 @@ impl Cases {
                         format!("00 {:016X} {:016X} {:016X}", counts.trials, counts.rounds, counts.place)
                     }
                 };
-                let [first, last, next, finished] = [9, 10, 11, 12].map(|word| self.state[word]);
+                let [first, last, next, finished] = [10, 11, 12, 13].map(|word| self.state[word]);
                 answer += &format!(" {:016X} {:016X} {:016X} {:02X}", first, last, next, (finished != 0) as u32);
                 for word in list {
                     answer += &format!(" {word:08X}");
@@ -124,8 +126,8 @@ impl Cases {
             }
             9 => match from_words(&self.state).and_then(|factor| divide(&factor, f[1])) {
                 Err(refusal) => refused(refusal),
-                Ok(Quotient { significand, binade, direction }) => {
-                    format!("00 {significand:016X} {:016X} {:02X}", binade as u64, direction.number())
+                Ok(Quotient { significand, binade, direction, minus }) => {
+                    format!("00 {significand:016X} {binade:016X} {:02X} {:02X}", direction.number(), minus as u32)
                 }
             },
             10 => match from_words(&self.state).and_then(|factor| divide_reading(&factor, f[1] as u32)) {

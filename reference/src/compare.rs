@@ -1,17 +1,17 @@
 //! The engine against the reference: every answer, word, state, list and count must be the same.
 
-use crate::directions::{of_one_step, of_product, of_quotient, places, PLACES};
+use crate::directions::{all_places, of_one_step, of_product, of_quotient, places, Place};
 use crate::engine::{
     self, words, COUNT_WORDS, FACTOR_WORDS, PRODUCT_WORDS, QUOTIENT_WORDS, READING_WORDS, STATE_WORDS, TALLY_WORDS,
     TOO_SHORT, UNTOUCHED,
 };
 use crate::factor::{greatest, least, of_high, set_up, Factor};
-use crate::figures::{pi, TABLE_1, TALLIES};
+use crate::figures::{pi, HEIGHT_LOSS, TABLE_1, TALLIES};
 use crate::onestep::{count, multiply_once, near_ties, product_once, read_once, tally, Tally, LONGEST};
 use crate::product::{multiply, product, Mark, Product};
 use crate::quotient::{divide, divide_reading, machine, near_midpoints, quotient, Quotient};
 use crate::random::{given, Given, Random, KINDS, KNOWN};
-use crate::reading::{read, Number};
+use crate::reading::{number, read, Number};
 use crate::rounding::Direction;
 use crate::sweep::{call, new_state, word, Plain, State};
 use crate::{onestep, reading, search, suspects};
@@ -73,9 +73,12 @@ fn parts() -> Vec<Part> {
     // The longest part comes first, so that the cores end about together.
     let mut parts = vec![part("lists of sweep calls from a new state, against the plain sweep too", lists_of_calls)];
     for (name, scale, lower, upper) in KNOWN {
-        parts.push(part(format!("every significand of {name} at 24 bits"), move |random| {
-            every_significand(random, &set_up(24, scale, lower, upper).expect("an accepted factor"))
-        }));
+        parts.push(part(
+            format!("every significand of {name} at 24 bits, and of the same below zero"),
+            move |random| {
+                every_significand(random, &set_up(false, 24, scale, lower, upper).expect("an accepted factor"))
+            },
+        ));
     }
     for bits in 4..=8 {
         parts.push(part(format!("all significands of many factors of {bits} bits"), move |random| small(random, bits)));
@@ -95,6 +98,9 @@ fn parts() -> Vec<Part> {
     parts.push(part("set-up, with every refusal", set_ups));
     parts.push(part("damaged factors", damaged));
     parts.push(part("upper halves that are not as written, through every function", upper_halves));
+    parts.push(part("signs of every kind, told to set-up and in words, through every function", sign_words));
+    parts.push(part("words as they were before factors had a sign", words_without_a_sign));
+    parts.push(part("factors below zero against their sizes, through every function", below_zero));
     parts.push(part("lists that are too short", short_lists));
     parts.push(part("readings, random and extreme, with every refusal", readings));
     parts.push(part("zeros of both signs, through every function that takes a reading", zeros));
@@ -104,8 +110,10 @@ fn parts() -> Vec<Part> {
     ));
     parts.push(part("quotients and one-step products of readings at every exponent, past both limits", every_exponent));
     for (name, scale, lower, upper) in KNOWN.into_iter().chain([("3/2", 0, 3 << 61, 3 << 61)]) {
-        parts.push(part(format!("the whole sweep of {name} at 24 bits, in one call and in many"), move |random| {
-            whole_sweep(random, &set_up(24, scale, lower, upper).expect("an accepted factor"))
+        let name = format!("the whole sweep of {name} at 24 bits and of the same below zero, in one call and in many");
+        parts.push(part(name, move |random| {
+            let factor = set_up(false, 24, scale, lower, upper).expect("an accepted factor");
+            whole_sweep(random, &factor) + whole_sweep(random, &factor.opposite())
         }));
     }
     parts.push(part("calls on states that nobody reached, and damaged ones", any_states));
@@ -116,9 +124,8 @@ fn parts() -> Vec<Part> {
 
 /// Set-up by both; the factor if it was accepted.
 fn both_set_up(given: Given) -> Option<Factor> {
-    let Given { bits, scale, lower, upper } = given;
-    let answer = set_up(bits, scale, lower, upper);
-    agree!(engine::set_up(bits, scale, lower, upper), answer, "set-up of {given:X?}");
+    let answer = given.set_up();
+    agree!(engine::set_up(given), answer, "set-up of {given:X?}");
     answer.ok()
 }
 
@@ -163,58 +170,76 @@ fn any_length(random: &mut Random) -> u64 {
 }
 
 fn every_significand(random: &mut Random, factor: &Factor) -> u64 {
-    let words = words(factor);
+    let opposite = factor.opposite();
+    let (words, below) = (words(factor), words(&opposite));
     let mut marks = Tally::default();
+    let mut answers = 0;
     for x in least(24)..=greatest(24) {
-        let answer = engine::multiply(&words, x);
-        agree!(answer, Ok(product(factor, x)), "{factor:X?} times {x:X}");
-        // The machine's own operations: a third account of the same product.
-        let by_machine = reading::product(factor, (x - least(24)) as u32);
-        let whole = answer.expect("a product");
-        let value = whole.significand as f32 * 2f32.powi(whole.binade as i32 - 23);
-        agree!((whole.mark, value, whole.direction), by_machine, "{factor:X?} times {x:X}, by the machine");
         // As a reading, with any sign and exponent.
         let bits = random.word() as u32 & 0xFF80_0000 | (x - least(24)) as u32;
-        both_read(&words, bits);
-        // The quotient: by whole numbers, by the machine and as a reading.
-        let answer = engine::divide(&words, x);
-        agree!(answer, Ok(quotient(factor, x)), "{x:X} divided by {factor:X?}");
-        let whole = answer.expect("a quotient");
-        let value = whole.significand as f32 * 2f32.powi(whole.binade as i32 - 23);
-        let by_machine = machine(factor, (x - least(24)) as u32);
-        agree!((value, whole.direction), by_machine, "{x:X} divided by {factor:X?}, by the machine");
-        both_divide_reading(&words, bits);
-        // The one-step product: by whole numbers, by the machine, and now and then as a reading.
-        let answer = engine::multiply_once(&words, x);
-        agree!(answer, Ok(product_once(factor, x)), "{factor:X?} times {x:X} in one step");
-        let whole = answer.expect("a product");
-        let value = whole.significand as f32 * 2f32.powi(whole.binade as i32 - 23);
-        let by_machine = onestep::machine(factor, (x - least(24)) as u32);
-        agree!((whole.mark, value, whole.direction), by_machine, "{factor:X?} times {x:X}, by the machine");
-        if x % 4 == 0 {
-            both_read_once(&words, bits);
+        let (product, quotient, once) = by_every_account(factor, &words, x, bits);
+        marks = marks + Tally::one(once.mark);
+        // Below zero, by the law, and now and then by every account.
+        agree!(engine::multiply(&below, x), Ok(product.mirrored()), "{opposite:X?} times {x:X}");
+        agree!(engine::divide(&below, x), Ok(quotient.mirrored()), "{x:X} divided by {opposite:X?}");
+        agree!(engine::multiply_once(&below, x), Ok(once.mirrored()), "{opposite:X?} times {x:X} in one step");
+        answers += 11 + (x % 4 == 0) as u64;
+        if x % 16 == 0 {
+            by_every_account(&opposite, &below, x, bits);
+            answers += 9;
         }
-        marks = marks + Tally::one(whole.mark);
     }
     // The tally is the count of these marks, by long calls and by calls of any length.
-    let (long, long_calls) = adjoining(&words, least(24), greatest(24), || LONGEST);
-    let (short, short_calls) = adjoining(&words, least(24), greatest(24), || any_length(random));
-    agree!((long, short), (marks, marks), "tallies of all significands of {factor:X?}");
-    (8 << 23) + (1 << 21) + long_calls + short_calls
+    for words in [words, below] {
+        let (long, long_calls) = adjoining(&words, least(24), greatest(24), || LONGEST);
+        let (short, short_calls) = adjoining(&words, least(24), greatest(24), || any_length(random));
+        agree!((long, short), (marks, marks), "tallies of all significands of {words:X?}");
+        answers += long_calls + short_calls;
+    }
+    answers
+}
+
+/// A significand and a reading with the same digits, by every account of products and quotients: the significand's answers.
+fn by_every_account(factor: &Factor, words: &[u64], x: u64, bits: u32) -> (Product, Quotient, Product) {
+    let fraction = number(false, x, 0);
+    let whole = product(factor, x);
+    agree!(engine::multiply(words, x), Ok(whole), "{factor:X?} times {x:X}");
+    // The machine's own operations: a third account of the same product.
+    let by_machine = reading::product(factor, fraction);
+    agree!((whole.mark, whole.number(), whole.direction), by_machine, "{factor:X?} times {x:X}, by the machine");
+    both_read(words, bits);
+    // The quotient: by whole numbers, by the machine and as a reading.
+    let divided = quotient(factor, x);
+    agree!(engine::divide(words, x), Ok(divided), "{x:X} divided by {factor:X?}");
+    let by_machine = machine(factor, fraction);
+    agree!((divided.number(), divided.direction), by_machine, "{x:X} divided by {factor:X?}, by the machine");
+    both_divide_reading(words, bits);
+    // The one-step product: by whole numbers, by the machine, and now and then as a reading.
+    let once = product_once(factor, x);
+    agree!(engine::multiply_once(words, x), Ok(once), "{factor:X?} times {x:X} in one step");
+    let by_machine = onestep::machine(factor, fraction);
+    agree!((once.mark, once.number(), once.direction), by_machine, "{factor:X?} times {x:X}, by the machine");
+    if x % 4 == 0 {
+        both_read_once(words, bits);
+    }
+    (whole, divided, once)
 }
 
 fn small(random: &mut Random, bits: u32) -> u64 {
     let mut answers = 0;
-    let factors = 48_000_000 >> bits;
+    let factors = 64_000_000 >> bits;
     for i in 0..factors {
         answers += 1;
         // Any words at all may have set up a larger precision.
         if let Some(factor) = both_set_up(given(random, bits, i % KINDS)).filter(|factor| factor.bits == bits) {
             let words = words(&factor);
-            for x in least(factor.bits) - 1..=greatest(factor.bits) + 1 {
-                both_multiply(&words, x);
-                answers += 1;
+            let (first, last) = (least(bits), greatest(bits));
+            both_multiply(&words, first - 1);
+            both_multiply(&words, last + 1);
+            for x in first..=last {
+                agree!(engine::multiply(&words, x), Ok(product(&factor, x)), "{factor:X?} times {x:X}");
             }
+            answers += last - first + 3;
             // Quotients depend on the high part alone and have a part of their own: every third factor is enough here.
             if i % 3 == 0 {
                 answers += every_quotient_of(&factor);
@@ -239,24 +264,26 @@ fn every_quotient_of(factor: &Factor) -> u64 {
     last - first + 3
 }
 
-/// A quotient depends on the precision, the high part and the significand: all there are, as long as they are not too many.
+/// A quotient depends on the sign, the precision, the high part and the significand: all there are, as long as they are not too many.
 fn every_quotient(_: &mut Random) -> u64 {
-    let of_bits = |bits: u32| (least(bits)..=1 << bits).map(move |high| every_quotient_of(&of_high(bits, high)));
+    let of_both_signs = |factor: Factor| every_quotient_of(&factor) + every_quotient_of(&factor.opposite());
+    let of_bits = |bits: u32| (least(bits)..=1 << bits).map(move |high| of_both_signs(of_high(bits, high)));
     (4..=12).flat_map(of_bits).sum()
 }
 
-/// Dividing by 2 or by 1 leaves the significand as it is, at every precision, and rounds nothing.
+/// Dividing by 2 or by 1 of either sign leaves the significand as it is, at every precision, and rounds nothing.
 fn high_two_and_one(_: &mut Random) -> u64 {
     let mut answers = 0;
     for bits in 4..=24 {
         for (high, binade) in [(1 << bits, -1), (least(bits), 0)] {
-            let factor = of_high(bits, high);
-            let words = words(&factor);
-            for x in least(bits)..=greatest(bits) {
-                let expected = Ok(Quotient { significand: x, binade, direction: Direction::Equal });
-                agree!(engine::divide(&words, x), expected, "{x:X} divided by {factor:X?}");
+            for factor in [of_high(bits, high), of_high(bits, high).opposite()] {
+                let (words, minus) = (words(&factor), factor.minus);
+                for x in least(bits)..=greatest(bits) {
+                    let expected = Ok(Quotient { significand: x, binade, direction: Direction::Equal, minus });
+                    agree!(engine::divide(&words, x), expected, "{x:X} divided by {factor:X?}");
+                }
+                answers += least(bits);
             }
-            answers += least(bits);
         }
     }
     answers
@@ -285,25 +312,25 @@ fn near_high(random: &mut Random, bits: u32, high: u64) -> Factor {
     let exact = high << (63 - bits);
     let end = if random.below(2) == 0 { exact.saturating_sub(off) } else { exact + off };
     let end = end.clamp(1 << 62, (1 << 63) - 1);
-    let wider = set_up(bits, 0, end, (end + random.any_size() % 1000).min((1 << 63) - 1));
-    let factor = wider.or(set_up(bits, 0, end, end)).expect("an accepted factor");
+    let wider = set_up(false, bits, 0, end, (end + random.any_size() % 1000).min((1 << 63) - 1));
+    let factor = wider.or(set_up(false, bits, 0, end, end)).expect("an accepted factor");
     assert_eq!(factor.high, high);
     factor
 }
 
-/// The value of a one-step product depends on the precision, the high part and the significand: all there are, as long as they are not
-/// too many.
+/// The value of a one-step product depends on the sign, the precision, the high part and the significand: all there are, as long as they
+/// are not too many.
 fn every_one_step(random: &mut Random) -> u64 {
-    let mut of_bits = |bits: u32| {
-        (least(bits)..=1 << bits).map(|high| every_one_step_of(&near_high(random, bits, high))).sum::<u64>()
-    };
+    let of_both_signs = |factor: Factor| every_one_step_of(&factor) + every_one_step_of(&factor.opposite());
+    let mut of_bits =
+        |bits: u32| (least(bits)..=1 << bits).map(|high| of_both_signs(near_high(random, bits, high))).sum::<u64>();
     (4..=12).map(&mut of_bits).sum()
 }
 
 /// Every first and last significand from one below the least to one above the greatest.
 fn every_range(random: &mut Random) -> u64 {
     let mut answers = 0;
-    for (bits, factors) in [(4, 20_000), (5, 8000), (6, 2000)] {
+    for (bits, factors) in [(4, 28_000), (5, 11_000), (6, 2700)] {
         for _ in 0..factors {
             let factor = accepted_at(random, bits);
             let words = words(&factor);
@@ -332,8 +359,8 @@ fn every_range(random: &mut Random) -> u64 {
 /// what is no range at all.
 fn longest_tallies(random: &mut Random) -> u64 {
     let (mut answers, mut met) = (0, BTreeSet::new());
-    for bits in (17..=24).chain(17..=24) {
-        let factor = accepted_at(random, bits);
+    for (bits, minus) in [false, false, true].into_iter().flat_map(|minus| (17..=24).map(move |bits| (bits, minus))) {
+        let factor = Factor { minus, ..accepted_at(random, bits) };
         let (words, least, greatest) = (words(&factor), least(bits), greatest(bits));
         for length in [LONGEST - 1, LONGEST, LONGEST + 1] {
             let latest = greatest - (length - 1);
@@ -360,7 +387,7 @@ fn longest_tallies(random: &mut Random) -> u64 {
 fn adjoining_tallies(random: &mut Random) -> u64 {
     let mut answers = 0;
     for bits in 4..=21 {
-        for _ in 0..if bits < 17 { 100 } else { 6 } {
+        for _ in 0..if bits < 17 { 140 } else { 8 } {
             let factor = accepted_at(random, bits);
             let (least, greatest) = (least(bits), greatest(bits));
             let (a, b) = (random.from_to(least, greatest), random.from_to(least, greatest));
@@ -375,7 +402,7 @@ fn adjoining_tallies(random: &mut Random) -> u64 {
 
 /// Ranges short and long, at the borders, outside, backwards and of any words, of good factors and of damaged ones.
 fn tallies(random: &mut Random) -> u64 {
-    let count = 200_000;
+    let count = 270_000;
     for i in 0..count {
         let factor = accepted(random, 4 + (i % 21) as u32);
         let mut words = words(&factor);
@@ -402,7 +429,7 @@ fn tallies(random: &mut Random) -> u64 {
 
 fn large(random: &mut Random) -> u64 {
     let mut answers = 0;
-    for i in 0..2_000_000 {
+    for i in 0..2_700_000 {
         let bits = 4 + (i / KINDS % 21) as u32;
         answers += 1;
         let Some(factor) = both_set_up(given(random, bits, i % KINDS)) else { continue };
@@ -439,53 +466,87 @@ fn large(random: &mut Random) -> u64 {
     answers
 }
 
-/// Significands whose products round in every way: ties and what lies next to them, the last ones below 2, and others.
+/// Significands whose products round in every way: ties and what lies next to them, suspects of both halves, the last ones below 2, and
+/// others.
 fn rounded_in_every_way(random: &mut Random, factor: &Factor) -> Vec<u64> {
     let (first, last) = (least(factor.bits), greatest(factor.bits));
     let mut significands = near_ties(factor);
+    for (low, start) in [(true, first), (false, factor.first_high())] {
+        significands.extend(search::next(factor, low, start).place.map(|place| place as u64).filter(|&x| x <= last));
+    }
     let below_two = (1 << (2 * factor.bits - 1)) / factor.high;
     significands.extend([below_two - 1, below_two, below_two + 1].map(|x: u64| x.clamp(first, last)));
-    significands.extend([first, last, factor.high.min(last), random.from_to(first, last)]);
+    significands.extend([first, last, 3 * first / 2, factor.high.min(last), random.from_to(first, last)]);
     significands
 }
 
+/// A factor that takes 3/2 to a midpoint below 2, which lies between its ends, and whose high part takes 3/2 to the number next to that: in
+/// one step this product is open, and was rounded from itself.
+fn open_and_exact(random: &mut Random, bits: u32) -> Factor {
+    let high = least(bits) + 2 * random.from_to(1, least(bits) / 6);
+    let thirds = (3 * high as i128 + random.one_of(&[1, -1])) << (63 - bits);
+    let (minus, scale, lower) = (random.below(2) == 0, random.below(201) as i32 - 100, (thirds / 3) as u64);
+    set_up(minus, bits, scale, lower, lower + 1).expect("an accepted factor")
+}
+
+/// Every mark and direction that one product of a device can have, 0 being the two-step device and 1 the other. What the two steps round
+/// last is so near to C × x that one which is exact is right.
+fn marked_directions() -> impl Iterator<Item = (usize, Mark, Direction)> {
+    let marks = [Mark::Right, Mark::Open, Mark::Wrong];
+    let all = [0, 1].into_iter().flat_map(move |device| marks.map(|mark| (device, mark)));
+    all.flat_map(|(device, mark)| Direction::ALL.map(|direction| (device, mark, direction)))
+        .filter(|&(device, mark, direction)| device == 1 || mark == Mark::Right || direction != Direction::Equal)
+}
+
 /// The engine's directions of products by the digits that the last rounding drops, and of quotients by the remainder, which is never half.
-/// Every way of rounding is met on both devices, and every direction of a quotient in both binades.
+/// With both signs of the factor every way of rounding is met on both devices, every direction with every mark that it can have and with no
+/// other, and every direction of a quotient in both binades.
 fn directions(random: &mut Random) -> u64 {
-    let (mut count, mut met, mut divided) = (0, BTreeMap::new(), BTreeMap::new());
-    for i in 0..400_000 {
-        let factor = accepted_at(random, 4 + (i % 21) as u32);
-        let words = words(&factor);
+    let (mut count, mut met, mut marked, mut divided) = (0, BTreeMap::new(), BTreeMap::new(), BTreeMap::new());
+    for i in 0..530_000 {
+        let factor = match i % 200 {
+            0 => open_and_exact(random, 4 + (i / 200 % 21) as u32),
+            _ => accepted_at(random, 4 + (i % 21) as u32),
+        };
+        let (words, minus) = (words(&factor), factor.minus);
         for x in rounded_in_every_way(random, &factor) {
             let answers = [engine::multiply(&words, x), engine::multiply_once(&words, x)];
             for (device, place) in places(&factor, x).into_iter().enumerate() {
-                let direction = answers[device].map(|product| product.direction);
-                agree!(direction, Ok(place.direction), "{factor:X?} times {x:X}, device {device}");
-                *met.entry((device, place)).or_insert(0) += 1;
+                let answer = answers[device].expect("a product");
+                let due = (place.direction, minus);
+                agree!((answer.direction, answer.minus), due, "{factor:X?} times {x:X}, device {device}");
+                *met.entry((device, minus, place)).or_insert(0) += 1;
+                *marked.entry((device, minus, answer.mark.number(), answer.direction)).or_insert(0) += 1;
             }
-            let Quotient { binade, direction, .. } = engine::divide(&words, x).expect("a quotient");
-            let rest = (x << (factor.bits as i64 - 1 - binade)) % factor.high;
-            let due = match rest {
+            let answer = engine::divide(&words, x).expect("a quotient");
+            let rest = (x << (factor.bits as i64 - 1 - answer.binade)) % factor.high;
+            let direction = match rest {
                 0 => Direction::Equal,
-                _ if 2 * rest < factor.high => Direction::Below,
-                _ => Direction::Above,
+                _ if (2 * rest < factor.high) == minus => Direction::Above,
+                _ => Direction::Below,
             };
-            agree!(direction, due, "{x:X} divided by {factor:X?}");
-            *divided.entry((binade, direction)).or_insert(0) += 1;
+            agree!((answer.direction, answer.minus), (direction, minus), "{x:X} divided by {factor:X?}");
+            *divided.entry((answer.binade, minus, direction)).or_insert(0) += 1;
             count += 3;
         }
     }
-    for due in [0, 1].into_iter().flat_map(|device| PLACES.map(|place| (device, place))) {
-        assert!(met.get(&due).is_some_and(|&count| count > 1000), "{due:?} of {met:?}");
+    for minus in [false, true] {
+        for due in [0, 1].into_iter().flat_map(|device| all_places(minus).map(|place| (device, minus, place))) {
+            assert!(met.get(&due).is_some_and(|&count| count > 1000), "{due:?} of {met:?}");
+        }
+        for due in marked_directions().map(|(device, mark, direction)| (device, minus, mark.number(), direction)) {
+            assert!(marked.get(&due).is_some_and(|&count| count > 1000), "{due:?} of {marked:?}");
+        }
+        for due in [-1, 0].into_iter().flat_map(|binade| Direction::ALL.map(|direction| (binade, minus, direction))) {
+            assert!(divided.get(&due).is_some_and(|&count| count > 1000), "{due:?} of {divided:?}");
+        }
     }
-    for due in [-1, 0].into_iter().flat_map(|binade| Direction::ALL.map(|direction| (binade, direction))) {
-        assert!(divided.get(&due).is_some_and(|&count| count > 1000), "{due:?} of {divided:?}");
-    }
+    assert_eq!(marked.len(), 2 * marked_directions().count(), "{marked:?}");
     count
 }
 
 fn set_ups(random: &mut Random) -> u64 {
-    let count = 10_000_000;
+    let count = 13_000_000;
     for i in 0..count {
         let bits = 4 + (i / KINDS % 21) as u32;
         both_set_up(given(random, bits, i % KINDS));
@@ -508,12 +569,12 @@ pub fn damage(random: &mut Random, words: &mut [u64; FACTOR_WORDS]) {
 }
 
 /// The words of a factor whose fields have 32 bits.
-const NARROW: [usize; 5] = [0, 5, 6, 7, 8];
+const NARROW: [usize; 5] = [1, 6, 7, 8, 9];
 
 /// Upper halves that are not as written, one word at a time, through every function, whatever else is asked: 31, and nothing written. Marks of a finished sweep other than 1 are such marks all the same.
 fn upper_halves(random: &mut Random) -> u64 {
     let mut answers = 0;
-    for i in 0..100_000 {
+    for i in 0..130_000 {
         let factor = accepted(random, if i % 2 == 0 { 24 } else { 4 + (i / 2 % 21) as u32 });
         let good = words(&factor);
         let (first, last) = range_of(random, &factor);
@@ -536,17 +597,163 @@ fn upper_halves(random: &mut Random) -> u64 {
             agree!(engine::new_sweep(&words, first, last), Err(31), "a new sweep of {words:X?}");
             let mut state = engine::state_words(&begun);
             state[..FACTOR_WORDS].copy_from_slice(&words);
-            state[12] = random.one_of(&[0, 1, u64::MAX]);
+            state[13] = random.one_of(&[0, 1, u64::MAX]);
             let (cap, length, free) = call_of(random);
             let mut list = words_before(random, length);
             agree!(both_call(&mut state, cap, &mut list, free), Err(31), "a call on {state:X?}");
             answers += 9;
         }
         let mut state = engine::state_words(&begun);
-        state[12] = random.one_of(&[1, 2, 1 << 31, 1 << 32, 1 << 63, u64::MAX]);
+        state[13] = random.one_of(&[1, 2, 1 << 31, 1 << 32, 1 << 63, u64::MAX]);
         let refusal = if factor.range_ok(first, last) { 33 } else { 32 };
         agree!(both_call(&mut state, 1, &mut [7], 0), Err(refusal), "a call on {state:X?}");
         answers += 1;
+    }
+    answers
+}
+
+/// What set-up is told of a factor below zero, and what may stand for its sign in words.
+const MINUS: [u32; 5] = [1, 2, 1 << 31, 0xFF, u32::MAX];
+const MINUS_WORDS: [u64; 6] = [1, 2, 1 << 31, 1 << 32, 1 << 63, u64::MAX];
+
+/// Set-up with every sign: written as 0 or 1, with the words of the size. Signs of every kind through every function: one that is not 0 is a
+/// minus, and no damage, whatever else is. States are written with 0 or 1: a new one, and one that an accepted call hands back; a refused
+/// call leaves it as it was.
+fn sign_words(random: &mut Random) -> u64 {
+    let (mut answers, mut met) = (0, BTreeSet::new());
+    for i in 0..60_000 {
+        let given = given(random, if i % 2 == 0 { 24 } else { 4 + (i / 2 % 21) as u32 }, i / 42 % KINDS);
+        let plus = both_set_up(Given { minus: 0, ..given });
+        for minus in MINUS {
+            let there = both_set_up(Given { minus, ..given });
+            agree!(there, plus.map(|factor| Factor { minus: true, ..factor }), "set-up of {given:X?} with {minus:X}");
+        }
+        answers += 6;
+        let Some(factor) = plus else { continue };
+        let (first, last) = range_of(random, &factor);
+        let begun = engine::state_words(&State { factor, first, last, next: first, finished: false });
+        let mut words = words(&factor);
+        if i % 4 == 3 {
+            damage(random, &mut words);
+        }
+        let x = random.one_of(&[first, last, least(factor.bits), greatest(factor.bits), u64::MAX]);
+        let bits = reading_bits(random, factor.scale);
+        let (cap, length, free) = call_of(random);
+        let finished = random.one_of(&[0, 0, 0, 1]);
+        for sign in [0].into_iter().chain(MINUS_WORDS) {
+            words[0] = sign;
+            both_multiply(&words, x);
+            both_multiply_once(&words, x);
+            both_divide(&words, x);
+            both_read(&words, bits);
+            both_read_once(&words, bits);
+            both_divide_reading(&words, bits);
+            let _ = both_tally(&words, first, last.min(first.saturating_add(50)));
+            let begun_here = engine::new_sweep(&words, first, last);
+            let due = engine::from_words(&words).and_then(|factor| new_state(&factor, first, last));
+            agree!(begun_here, due.map(|state| engine::state_words(&state)), "a new sweep of {words:X?}");
+            let mut state = begun;
+            state[..FACTOR_WORDS].copy_from_slice(&words);
+            state[13] = finished;
+            let mut list = words_before(random, length);
+            let answer = both_call(&mut state, cap.min(2000), &mut list, free);
+            let due = if answer.is_ok() { (sign != 0) as u64 } else { sign };
+            agree!(state[0], due, "the sign after a call on {words:X?}");
+            met.insert((sign, answer));
+            answers += 9;
+        }
+    }
+    for sign in [0].into_iter().chain(MINUS_WORDS) {
+        for answer in [Ok(()), Err(31), Err(32), Err(33), Err(18), Err(19)] {
+            assert!(met.contains(&(sign, answer)), "{sign:X} {answer:?}");
+        }
+    }
+    answers
+}
+
+/// Words as they were before a factor had a sign, with any behind them: their lower end stands in the place of the precision.
+fn words_without_a_sign(random: &mut Random) -> u64 {
+    let count = 20_000;
+    for i in 0..count {
+        let factor = accepted(random, 4 + (i % 21) as u32);
+        let (first, last) = (least(factor.bits), greatest(factor.bits));
+        let mut words = words(&factor)[1..].to_vec();
+        words.extend([first, last, first, 0, random.word()]);
+        let bits = reading_bits(random, factor.scale);
+        let none = [engine::multiply, engine::multiply_once].map(|multiply| multiply(&words, first));
+        agree!(none, [Err(31); 2], "{words:X?} times {first:X}");
+        agree!(engine::divide(&words, first), Err(31), "{first:X} divided by {words:X?}");
+        let none = [engine::read, engine::read_once].map(|read| read(&words, bits));
+        agree!(none, [Err(31); 2], "{words:X?} applied to the reading {bits:X}");
+        agree!(engine::divide_reading(&words, bits), Err(31), "the reading {bits:X} divided by {words:X?}");
+        agree!(engine::tally(&words, first, first), Err(31), "the tally of {words:X?}");
+        agree!(engine::new_sweep(&words, first, last), Err(31), "a new sweep of {words:X?}");
+        let mut state: [u64; STATE_WORDS] = words.try_into().expect("as many words");
+        agree!(both_call(&mut state, 1, &mut [7], 0), Err(31), "a call on {state:X?}");
+    }
+    9 * count
+}
+
+/// A factor below zero and its size, good ones and damaged, through every function: signs and directions are mirrored, and all else is the
+/// same, set-up and sweeps to their finish included.
+fn below_zero(random: &mut Random) -> u64 {
+    let mut answers = 0;
+    for i in 0..40_000 {
+        let given = given(random, if i % 2 == 0 { 24 } else { 4 + (i / 2 % 21) as u32 }, i / 42 % KINDS);
+        let [plus, minus] = [0, random.one_of(&MINUS)].map(|minus| engine::set_up(Given { minus, ..given }));
+        agree!(minus, plus.map(|factor| factor.opposite()), "set-up of {given:X?}");
+        answers += 1;
+        let Ok(factor) = plus else { continue };
+        let mut plus = words(&factor);
+        if i % 16 == 15 {
+            damage(random, &mut plus);
+        }
+        let mut minus = plus;
+        (plus[0], minus[0]) = (0, 1);
+        let (least, greatest) = (least(factor.bits), greatest(factor.bits));
+        for x in rounded_in_every_way(random, &factor).into_iter().chain([least - 1, greatest + 1]) {
+            for multiply in [engine::multiply, engine::multiply_once] {
+                agree!(multiply(&minus, x), multiply(&plus, x).map(Product::mirrored), "{minus:X?} times {x:X}");
+            }
+            agree!(engine::divide(&minus, x), engine::divide(&plus, x).map(Quotient::mirrored), "{x:X} by {minus:X?}");
+            // As a reading, where its answer's exponent is within the limits most often, and of any class.
+            for bits in [reading_bits(random, 0) & 0x8000_0000 | 0x3F80_0000, reading_bits(random, factor.scale)] {
+                let bits = bits & 0xFF80_0000 | x as u32 & 0x7F_FFFF;
+                for read in [engine::read, engine::read_once] {
+                    let due = read(&plus, bits).map(|(mark, number)| (mark, number.mirrored()));
+                    agree!(read(&minus, bits), due, "{minus:X?} applied to the reading {bits:X}");
+                }
+                let due = engine::divide_reading(&plus, bits).map(Number::mirrored);
+                agree!(engine::divide_reading(&minus, bits), due, "the reading {bits:X} divided by {minus:X?}");
+            }
+            answers += 9;
+        }
+        let (first, last) = range_of(random, &factor);
+        let tallies = [plus, minus].map(|words| engine::tally(&words, first, last));
+        agree!(tallies[1], tallies[0], "the tally of {minus:X?} from {first:X} to {last:X}");
+        let [begun, begun_below] = [plus, minus].map(|words| engine::new_sweep(&words, first, last));
+        let below = |state: [u64; STATE_WORDS]| {
+            let mut state = state;
+            state[0] = 1;
+            state
+        };
+        agree!(begun_below, begun.map(below), "a new sweep of {minus:X?} from {first:X} to {last:X}");
+        answers += 2;
+        let (Ok(mut state), Ok(mut state_below)) = (begun, begun_below) else { continue };
+        for _ in 0..10 {
+            let (cap, length, free) = call_of(random);
+            let mut list = words_before(random, length);
+            let mut list_below = list.clone();
+            // Short factors have many suspects: a call is not to take long.
+            let cap = cap.min(20_000);
+            let answer = engine::sweep(&mut state, cap, &mut list, free as usize);
+            let answer_below = engine::sweep(&mut state_below, cap, &mut list_below, free as usize);
+            agree!((answer_below, state_below, list_below), (answer, below(state), list), "a call on {state_below:X?}");
+            answers += 1;
+            if answer == Err(33) {
+                break;
+            }
+        }
     }
     answers
 }
@@ -555,8 +762,7 @@ fn upper_halves(random: &mut Random) -> u64 {
 pub fn accepted(random: &mut Random, bits: u32) -> Factor {
     loop {
         let kind = random.below(KINDS);
-        let Given { bits, scale, lower, upper } = given(random, bits, kind);
-        if let Ok(factor) = set_up(bits, scale, lower, upper) {
+        if let Ok(factor) = given(random, bits, kind).set_up() {
             return factor;
         }
     }
@@ -573,7 +779,7 @@ fn accepted_at(random: &mut Random, bits: u32) -> Factor {
 }
 
 fn damaged(random: &mut Random) -> u64 {
-    let count = 2_000_000;
+    let count = 2_700_000;
     for i in 0..count {
         let factor = accepted(random, 4 + (i % 21) as u32);
         let mut words = words(&factor);
@@ -609,13 +815,15 @@ const READINGS: [(ReadingTo, ReadingBy); 3] = [
 
 fn short_lists(random: &mut Random) -> u64 {
     let mut answers = 0;
-    for _ in 0..1000 {
+    for _ in 0..1300 {
         let bits = random.from_to(4, 24) as u32;
         let factor = accepted(random, bits);
         let words = words(&factor);
         for length in 0..FACTOR_WORDS + 2 {
             let mut out = vec![UNTOUCHED; length];
-            let answer = engine::set_up_to(factor.bits, factor.scale, factor.lower, factor.upper, &mut out);
+            let Factor { minus, bits, scale, lower, upper, .. } = factor;
+            let minus = if minus { random.one_of(&MINUS) } else { 0 };
+            let answer = engine::set_up_to(Given { minus, bits, scale, lower, upper }, &mut out);
             let mut expected = vec![UNTOUCHED; length];
             let number = if length < FACTOR_WORDS {
                 TOO_SHORT
@@ -636,10 +844,11 @@ fn short_lists(random: &mut Random) -> u64 {
                     let number = if factor_length < FACTOR_WORDS || length < PRODUCT_WORDS {
                         TOO_SHORT
                     } else {
-                        let Product { mark, significand, binade, direction } = by(&factor, x).expect("a product");
-                        let written = [significand, binade as u64, direction.number() as u64];
+                        let product = by(&factor, x).expect("a product");
+                        let Product { significand, binade, direction, minus, .. } = product;
+                        let written = [significand, binade as u64, direction.number() as u64, minus as u64];
                         expected[..PRODUCT_WORDS].copy_from_slice(&written);
-                        mark.number()
+                        product.mark.number()
                     };
                     agree!((answer, out), (number, expected), "a product of {factor_length} words into {length}");
                     answers += 1;
@@ -672,8 +881,8 @@ fn short_lists(random: &mut Random) -> u64 {
                 let number = if factor_length < FACTOR_WORDS || length < QUOTIENT_WORDS {
                     TOO_SHORT
                 } else {
-                    let Quotient { significand, binade, direction } = divide(&factor, x).expect("a quotient");
-                    let written = [significand, binade as u64, direction.number() as u64];
+                    let Quotient { significand, binade, direction, minus } = divide(&factor, x).expect("a quotient");
+                    let written = [significand, binade as u64, direction.number() as u64, minus as u64];
                     expected[..QUOTIENT_WORDS].copy_from_slice(&written);
                     0
                 };
@@ -783,14 +992,14 @@ fn reading_bits(random: &mut Random, scale: i32) -> u32 {
 
 fn readings(random: &mut Random) -> u64 {
     let mut answers = 0;
-    for i in 0..1_500_000 {
+    for i in 0..2_000_000 {
         let bits = if i % 16 == 0 { random.from_to(4, 24) as u32 } else { 24 };
         let factor = accepted(random, bits);
         let mut words = words(&factor);
         if i % 32 == 1 {
             damage(random, &mut words);
         }
-        let scale = words[8] as i32;
+        let scale = words[9] as i32;
         for _ in 0..8 {
             both_read(&words, reading_bits(random, scale));
             both_divide_reading(&words, reading_bits(random, scale.saturating_neg() - 1));
@@ -837,12 +1046,11 @@ const OF_READINGS: [(ReadingTo, u32, Operation); 3] = [
 ];
 
 /// A zero through these functions, from and into lists of every length. With a good factor its answer is the machine's own operation on
-/// the zero and Ch × 2^k, and equal; a refusal writes nothing.
+/// the zero and Ch × 2^k, sign included, and equal; a refusal writes nothing.
 fn zero_to_lists(words: &[u64], factor: Result<Factor, u32>, zero: f32) -> u64 {
     let mut answers = 0;
     for (to, number, operation) in OF_READINGS {
-        let applied = |factor: Factor| f32::from_bits(factor.high_float) * 2f32.powi(factor.scale);
-        let due = factor.map(|factor| operation(zero, applied(factor)).to_bits());
+        let due = factor.map(|factor| operation(zero, factor.applied()).to_bits());
         for factor_length in 0..=words.len() {
             for length in 0..=READING_WORDS + 1 {
                 let expected = match due {
@@ -860,8 +1068,8 @@ fn zero_to_lists(words: &[u64], factor: Result<Factor, u32>, zero: f32) -> u64 {
     answers
 }
 
-/// Zeros of both signs with factors of every kind, with low parts of every sign, of other precisions and damaged: by the machine's own
-/// operations, and by the reference.
+/// Zeros of both signs with factors of every kind and of both signs, with low parts of every sign, of other precisions and damaged: by the
+/// machine's own operations, and by the reference.
 fn zeros(random: &mut Random) -> u64 {
     let (mut answers, mut met) = (0, BTreeMap::new());
     for i in 0..20_000 {
@@ -870,26 +1078,30 @@ fn zeros(random: &mut Random) -> u64 {
         if i % 8 < 2 {
             damage(random, &mut words);
         }
-        let factor = engine::from_words(&words).and_then(|factor| match factor.bits {
-            _ if !factor.intact() => Err(31),
-            24 => Ok(factor),
-            _ => Err(20),
-        });
-        // Words past the factor's are not looked at.
-        let mut longer = words.to_vec();
-        longer.push(random.word());
-        for zero in [0.0f32, -0.0] {
-            answers += zero_to_lists(&longer, factor, zero);
-            both_read(&words, zero.to_bits());
-            both_read_once(&words, zero.to_bits());
-            both_divide_reading(&words, zero.to_bits());
-            answers += 3;
-            *met.entry((zero.is_sign_negative(), factor.map(|factor| factor.low.signum()))).or_insert(0) += 1;
+        for sign in [0, random.one_of(&MINUS_WORDS)] {
+            words[0] = sign;
+            let factor = engine::from_words(&words).and_then(|factor| match factor.bits {
+                _ if !factor.intact() => Err(31),
+                24 => Ok(factor),
+                _ => Err(20),
+            });
+            // Words past the factor's are not looked at.
+            let mut longer = words.to_vec();
+            longer.push(random.word());
+            for zero in [0.0f32, -0.0] {
+                answers += zero_to_lists(&longer, factor, zero);
+                both_read(&words, zero.to_bits());
+                both_read_once(&words, zero.to_bits());
+                both_divide_reading(&words, zero.to_bits());
+                answers += 3;
+                let kind = factor.map(|factor| factor.low.signum());
+                *met.entry((sign != 0, zero.is_sign_negative(), kind)).or_insert(0) += 1;
+            }
         }
     }
-    for minus in [false, true] {
+    for signs in [(false, false), (false, true), (true, false), (true, true)] {
         for kind in [Ok(1), Ok(0), Ok(-1), Err(20), Err(31)] {
-            assert!(met.get(&(minus, kind)).is_some_and(|&zeros| zeros > 500), "{met:?}");
+            assert!(met.get(&(signs.0, signs.1, kind)).is_some_and(|&zeros| zeros > 500), "{met:?}");
         }
     }
     // Random readings have them too.
@@ -913,13 +1125,20 @@ const DIRECTIONS_OF_READINGS: [(NumberBy, DirectionBy); 3] = [
 /// 2^25 - 1 is 31 × 601 × 1801.
 const HALF_BELOW_TWO: [u64; 6] = [31 << 19, 601 << 14, 1801 << 13, 18_631 << 9, 55_831 << 8, 1_082_401 << 3];
 
-/// Readings of both signs: the direction is that of exact numbers of the machine with the sign on them, and the other sign's mirrored. Every
-/// way of rounding is met with both signs on both devices, every direction of a quotient too, and refusals.
+/// Readings of both signs and factors of both: the direction is that of exact numbers of the machine with the signs on them, and that of the
+/// other reading mirrored; one-step product and quotient are the machine's own of reading and Ch × 2^k. Every way of rounding is met with
+/// all signs on both devices, every direction with every mark that it can have and with no other, every direction of a quotient too, and
+/// refusals.
 fn directions_of_readings(random: &mut Random) -> u64 {
     let (mut answers, mut met, mut directions) = (0, BTreeMap::new(), BTreeMap::new());
-    for i in 0..150_000 {
+    for i in 0..200_000 {
         let factor = match i % 100 {
-            0 => Factor { scale: random.below(201) as i32 - 100, ..of_high(24, random.one_of(&HALF_BELOW_TWO)) },
+            0 => Factor {
+                minus: random.below(2) == 0,
+                scale: random.below(201) as i32 - 100,
+                ..of_high(24, random.one_of(&HALF_BELOW_TWO))
+            },
+            1 => open_and_exact(random, 24),
             _ => accepted_at(random, 24),
         };
         let words = words(&factor);
@@ -931,48 +1150,61 @@ fn directions_of_readings(random: &mut Random) -> u64 {
                 let field = (random.below(257) as i32 - raised).clamp(1, 254) as u32;
                 let plus = field << 23 | x as u32 & 0x7F_FFFF;
                 let there = number_by(&words, plus);
-                let mirrored = there.map(|(number, Number { bits, direction })| {
-                    (number, Number { bits: bits ^ 0x8000_0000, direction: direction.mirrored() })
-                });
+                let mirrored = there.map(|(mark, number)| (mark, number.mirrored()));
                 agree!(number_by(&words, plus ^ 0x8000_0000), mirrored, "{words:X?} and minus the reading {plus:X}");
                 answers += 2;
-                for (reading, answer) in [(plus, there), (plus ^ 0x8000_0000, mirrored)] {
-                    let minus = reading != plus;
-                    *directions.entry((function, minus, answer.map(|(_, number)| number.direction))).or_insert(0) += 1;
-                    let Ok((_, Number { bits, direction })) = answer else { continue };
-                    let due = direction_by(&factor, f32::from_bits(reading), f32::from_bits(bits));
-                    agree!(direction, due, "{words:X?} and the reading {reading:X}, by the machine");
+                for (bits, answer) in [(plus, there), (plus ^ 0x8000_0000, mirrored)] {
+                    let signs = (factor.minus, bits != plus);
+                    let told = answer.map(|(mark, number)| (mark, number.direction));
+                    *directions.entry((function, signs, told)).or_insert(0) += 1;
+                    let Ok((_, number)) = answer else { continue };
+                    let (reading, value) = (f32::from_bits(bits), f32::from_bits(number.bits));
+                    let due = direction_by(&factor, reading, value);
+                    agree!(number.direction, due, "{words:X?} and the reading {bits:X}, by the machine");
+                    let due = match function {
+                        0 => value,
+                        1 => reading * factor.applied(),
+                        _ => reading / factor.applied(),
+                    };
+                    agree!(number.bits, due.to_bits(), "{words:X?} and the reading {bits:X}, by the machine");
                     if let Some(place) = places.get(function) {
-                        *met.entry((function, minus, *place)).or_insert(0) += 1;
+                        // The number that was rounded has the reading's sign too.
+                        let direction = if signs.1 { place.direction.mirrored() } else { place.direction };
+                        agree!(number.direction, direction, "{words:X?} and the reading {bits:X}, by digits");
+                        *met.entry((function, signs, Place { direction, ..*place })).or_insert(0) += 1;
                     }
                 }
             }
         }
     }
-    for minus in [false, true] {
-        for due in [0, 1].into_iter().flat_map(|device| PLACES.map(|place| (device, minus, place))) {
-            assert!(met.get(&due).is_some_and(|&count| count > 100), "{due:?} of {met:?}");
+    for signs in [(false, false), (false, true), (true, false), (true, true)] {
+        let places = all_places(signs.0 != signs.1);
+        for due in [0, 1].into_iter().flat_map(|device| places.map(|place| (device, signs, place))) {
+            assert!(met.get(&due).is_some_and(|&count| count > 500), "{due:?} of {met:?}");
         }
-        for function in 0..3 {
-            for due in Direction::ALL.map(Ok).into_iter().chain([Err(23)]) {
-                let count = directions.get(&(function, minus, due));
-                assert!(count.is_some_and(|&count| count > 1000), "{function} {minus} {due:?} of {directions:?}");
-            }
+        let marked = marked_directions().map(|(device, mark, direction)| (device, Ok((mark.number(), direction))));
+        let divided = Direction::ALL.map(|direction| (2, Ok((0, direction))));
+        let refused = [0, 1, 2].map(|function| (function, Err(23)));
+        for (function, due) in marked.chain(divided).chain(refused) {
+            let count = directions.get(&(function, signs, due));
+            assert!(count.is_some_and(|&count| count > 1000), "{function} {signs:?} {due:?} of {directions:?}");
         }
     }
+    assert_eq!(directions.len(), 4 * (marked_directions().count() + 6), "{directions:?}");
     answers
 }
 
-/// Every sign and exponent, zeros, subnormal numbers, infinities and NaN included, for scales of every size, significands next to
-/// the high part and high parts next to 1 and 2. Both binades of the quotient and of the one-step product meet both limits, and are
-/// refused past them.
+/// Every sign and exponent, zeros, subnormal numbers, infinities and NaN included, for factors of both signs, scales of every size,
+/// significands next to the high part and high parts next to 1 and 2. Both binades of the quotient and of the one-step product meet both
+/// limits, and are refused past them.
 fn every_exponent(_: &mut Random) -> u64 {
     let (mut answers, mut met) = (0, BTreeSet::new());
     let one = least(24);
-    for high in [one, one + 1, 0xA2_F983, 0xC0_0000, 2 * one - 1, 2 * one] {
+    let highs = [one, one + 1, 0xA2_F983, 0xC0_0000, 2 * one - 1, 2 * one];
+    for (minus, high) in [false, true].into_iter().flat_map(|minus| highs.map(|high| (minus, high))) {
         for scale in [-100, -99, -28, -1, 0, 1, 26, 99, 100] {
             let factor = of_high(24, high);
-            let factor = set_up(24, scale, factor.lower, factor.upper).expect("an accepted factor");
+            let factor = set_up(minus, 24, scale, factor.lower, factor.upper).expect("an accepted factor");
             let words = words(&factor);
             for x in [one, one + 1, high - 1, high, high + 1, 2 * one - 1] {
                 let x = x.clamp(one, 2 * one - 1);
@@ -983,18 +1215,21 @@ fn every_exponent(_: &mut Random) -> u64 {
                     answers += 2;
                     let large = upper & 0xFF > 127;
                     let quotient = divide_reading(&factor, bits);
-                    met.insert((false, x < high, large, quotient.map(|number| number.bits >> 23 & 0xFF)));
+                    met.insert((minus, false, x < high, large, quotient.map(|number| number.bits >> 23 & 0xFF)));
                     let product = read_once(&factor, bits);
                     let binade = product_once(&factor, x).binade;
-                    met.insert((true, binade == 1, large, product.map(|(_, number)| number.bits >> 23 & 0xFF)));
+                    let field = product.map(|(_, number)| number.bits >> 23 & 0xFF);
+                    met.insert((minus, true, binade == 1, large, field));
                 }
             }
         }
     }
-    for (multiplied, binade) in [(false, false), (false, true), (true, false), (true, true)] {
-        for (large, field) in [(false, 1), (true, 254)] {
-            assert!(met.contains(&(multiplied, binade, large, Ok(field))));
-            assert!(met.contains(&(multiplied, binade, large, Err(23))));
+    for minus in [false, true] {
+        for (multiplied, binade) in [(false, false), (false, true), (true, false), (true, true)] {
+            for (large, field) in [(false, 1), (true, 254)] {
+                assert!(met.contains(&(minus, multiplied, binade, large, Ok(field))));
+                assert!(met.contains(&(minus, multiplied, binade, large, Err(23))));
+            }
         }
     }
     answers
@@ -1092,7 +1327,7 @@ fn range_of(random: &mut Random, factor: &Factor) -> (u64, u64) {
 
 fn lists_of_calls(random: &mut Random) -> u64 {
     let mut answers = 0;
-    for i in 0..300_000 {
+    for i in 0..400_000 {
         let factor = accepted(random, 4 + (i % 21) as u32);
         let (first, last) = range_of(random, &factor);
         let begun = engine::new_sweep(&words(&factor), first, last);
@@ -1133,7 +1368,7 @@ fn lists_of_calls(random: &mut Random) -> u64 {
 }
 
 fn any_states(random: &mut Random) -> u64 {
-    let count = 3_000_000;
+    let count = 4_000_000;
     for i in 0..count {
         let factor = accepted(random, 4 + (i % 21) as u32);
         let (first, last) = range_of(random, &factor);
@@ -1147,7 +1382,10 @@ fn any_states(random: &mut Random) -> u64 {
         let finished = random.below(8) == 0;
         let mut state = engine::state_words(&State { factor, first, last, next, finished });
         if finished {
-            state[12] = random.one_of(&[1, 2, 1 << 32, u64::MAX]);
+            state[13] = random.one_of(&[1, 2, 1 << 32, u64::MAX]);
+        }
+        if factor.minus {
+            state[0] = random.one_of(&MINUS_WORDS);
         }
         if random.below(8) == 0 {
             let mut factor = words(&factor);
@@ -1163,53 +1401,89 @@ fn any_states(random: &mut Random) -> u64 {
     count
 }
 
-/// Scale 100 with 3/2, and the square root of 2, of which nothing fails; the quotients and directions that were worked out by hand.
+/// A factor by the engine; `minus` is 0 for one above zero.
+fn by_engine(minus: u32, bits: u32, scale: i32, lower: u64, upper: u64) -> Factor {
+    engine::set_up(Given { minus, bits, scale, lower, upper }).expect("an accepted factor")
+}
+
+/// Scale 100 with 3/2, and the square root of 2, of which nothing fails; the quotients and directions that were worked out by hand, and P1
+/// to P5 below zero.
 fn figures(_: &mut Random) -> u64 {
-    let factor = engine::set_up(24, 100, 3 << 61, 3 << 61).expect("an accepted factor");
+    let factor = by_engine(0, 24, 100, 3 << 61, 3 << 61);
     let bits = |exponent: u32| (127 + exponent) << 23;
     let due = Ok((Mark::Right, Number::equal(0x7F40_0000)));
     agree!(engine::read(&words(&factor), bits(27)), due, "the reading 2^27 at scale 100");
     agree!(engine::read(&words(&factor), bits(28)), Err(23), "the reading 2^28 at scale 100");
-    let root = engine::set_up(24, 0, 0x5A827999FCEF3242, 0x5A827999FCEF3243).expect("an accepted factor");
-    let mut state = engine::new_sweep(&words(&root), least(24), greatest(24)).expect("a good range");
-    let counts = engine::sweep(&mut state, u64::MAX, &mut [7], 0).expect("an accepted call");
-    agree!((counts.place, state[12]), (0, 1), "the sweep of the square root of 2");
-    let factor = engine::set_up(4, 0, 3 << 61, 3 << 61).expect("an accepted factor");
+    for minus in [0, 1] {
+        let root = by_engine(minus, 24, 0, 0x5A827999FCEF3242, 0x5A827999FCEF3243);
+        let mut state = engine::new_sweep(&words(&root), least(24), greatest(24)).expect("a good range");
+        let counts = engine::sweep(&mut state, u64::MAX, &mut [7], 0).expect("an accepted call");
+        agree!((counts.place, state[0], state[13]), (0, minus as u64, 1), "the sweep of the square root of 2");
+    }
+    let factor = by_engine(0, 4, 0, 3 << 61, 3 << 61);
     let quotients = [(8, 11, -1, Direction::Above), (12, 8, 0, Direction::Equal), (14, 9, 0, Direction::Below)];
     for (x, significand, binade, direction) in quotients {
-        let expected = Ok(Quotient { significand, binade, direction });
+        let expected = Ok(Quotient { significand, binade, direction, minus: false });
         agree!(engine::divide(&words(&factor), x), expected, "{x} divided by 3/2");
     }
     let (_, scale, lower, upper) = KNOWN[0];
-    let factor = engine::set_up(24, scale, lower, upper).expect("an accepted factor");
+    let factor = by_engine(0, 24, scale, lower, upper);
     let due = Ok(Number::below(0x3FC9_0FDB));
     agree!(engine::divide_reading(&words(&factor), 0x3F00_0000), due, "1/2 divided by 1/pi");
     for (reading, due) in [(0x3FC8_F5C3, Number::below(0x3EFF_DEC7)), (0xBFC8_F5C3, Number::above(0xBEFF_DEC7))] {
         agree!(engine::read(&words(&factor), reading), Ok((Mark::Right, due)), "1/pi applied to {reading:X}");
     }
-    let factor = engine::set_up(4, 0, 0x5555555555555555, 0x5555555555555556).expect("an accepted factor");
+    let factor = by_engine(0, 4, 0, 0x5555555555555555, 0x5555555555555556);
     let directions = (8..16).map(|x| engine::multiply(&words(&factor), x).expect("a product").direction.number());
     agree!(directions.collect::<Vec<_>>(), [3, 2, 1, 3, 2, 3, 1, 2], "directions of 4/3");
-    18
+    20 + figures_below_zero()
+}
+
+fn figures_below_zero() -> u64 {
+    let due = |mark, significand, binade, direction| Ok(Product { mark, significand, binade, direction, minus: true });
+    let (p1, p2, p3) = (3 << 61, 0x4BFFFC0000000000, 0x51C71C71C71C71C7);
+    let products = [
+        (p1, p1, 9, due(Mark::Right, 14, 0, Direction::Below)),
+        (p1, p1, 14, due(Mark::Right, 10, 1, Direction::Above)),
+        (p2, p2, 8, due(Mark::Wrong, 10, 0, Direction::Below)),
+        (p3, p3 + 1, 9, due(Mark::Open, 12, 0, Direction::Below)),
+        ((1 << 63) - 1, (1 << 63) - 1, 15, due(Mark::Right, 15, 1, Direction::Below)),
+    ];
+    for (lower, upper, x, due) in products {
+        let factor = by_engine(1, 4, 0, lower, upper);
+        agree!(engine::multiply(&words(&factor), x), due, "{factor:X?} times {x}");
+    }
+    let factor = by_engine(2, 4, 0, 0x5555555555555555, 0x5555555555555556);
+    agree!((factor.high, factor.low, factor.places), (11, -11, 8), "the parts of -4/3");
+    let directions = (8..16).map(|x| engine::multiply(&words(&factor), x).expect("a product").direction.number());
+    agree!(directions.collect::<Vec<_>>(), [1, 2, 3, 1, 2, 1, 3, 2], "directions of -4/3");
+    let (scale, lower, upper) = HEIGHT_LOSS;
+    let words = words(&by_engine(u32::MAX, 24, scale, lower, upper));
+    let due = Ok((Mark::Right, Number::below((-0.3f32).to_bits())));
+    agree!(engine::read(&words, 25f32.to_bits()), due, "the height loss of 25 m");
+    let back = engine::divide_reading(&words, (-0.3f32).to_bits()).map(|number| number.bits);
+    agree!(back, Ok(25f32.to_bits()), "the height of which 0.3 m are lost");
+    23
 }
 
 /// The tallies that are due, each by one call and by adjoining ones; and the table's, which are those of all significands, by
-/// adjoining calls.
+/// adjoining calls. Those below zero are the same.
 fn figures_of_tallies(random: &mut Random) -> u64 {
     let mut answers = 0;
-    for figure in TALLIES {
+    for (minus, figure) in [0, 1].into_iter().flat_map(|minus| TALLIES.map(|figure| (minus, figure))) {
         let ((lower, upper), (first, last)) = (figure.ends, figure.range);
-        let factor = engine::set_up(figure.bits, figure.scale, lower, upper).expect("an accepted factor");
-        let words = words(&factor);
+        let words = words(&by_engine(minus, figure.bits, figure.scale, lower, upper));
         agree!(engine::tally(&words, first, last), Ok(figure.tally), "the tally of {}", figure.name);
         let (sum, calls) = adjoining(&words, first, last, || any_length(random));
         agree!(sum, figure.tally, "adjoining tallies of {}", figure.name);
         answers += 1 + calls;
     }
     for (bits, share, right) in TABLE_1 {
-        let (sum, calls) = adjoining(&words(&pi(bits)), least(bits), greatest(bits), || LONGEST);
-        agree!((sum.right, sum.length()), (right, least(bits)), "pi at {bits} bits, of which {share} are right");
-        answers += calls;
+        for factor in [pi(bits), pi(bits).opposite()] {
+            let (sum, calls) = adjoining(&words(&factor), least(bits), greatest(bits), || LONGEST);
+            agree!((sum.right, sum.length()), (right, least(bits)), "pi at {bits} bits, of which {share} are right");
+            answers += calls;
+        }
     }
     answers
 }

@@ -4,13 +4,14 @@ use crate::factor::{Factor, Refusal};
 use crate::onestep::Tally;
 use crate::product::{Mark, Product};
 use crate::quotient::Quotient;
+use crate::random::Given;
 use crate::reading::Number;
 use crate::rounding::Direction;
 use crate::sweep::Counts;
 pub use crate::words::{from_words, state_from, state_words, words, FACTOR_WORDS, STATE_WORDS};
 
-pub const PRODUCT_WORDS: usize = 3;
-pub const QUOTIENT_WORDS: usize = 3;
+pub const PRODUCT_WORDS: usize = 4;
+pub const QUOTIENT_WORDS: usize = 4;
 pub const READING_WORDS: usize = 2;
 pub const TALLY_WORDS: usize = 3;
 pub const COUNT_WORDS: usize = 3;
@@ -18,7 +19,15 @@ pub const TOO_SHORT: u32 = 255;
 
 #[link(name = "exports", kind = "static")]
 extern "C" {
-    fn gusnalip_set_up(precision: u32, scale: i32, lower: u64, upper: u64, out: *mut u64, length: usize) -> u32;
+    fn gusnalip_set_up(
+        minus: u32,
+        precision: u32,
+        scale: i32,
+        lower: u64,
+        upper: u64,
+        out: *mut u64,
+        length: usize,
+    ) -> u32;
     fn gusnalip_multiply(factor: *const u64, factor_length: usize, x: u64, out: *mut u64, length: usize) -> u32;
     fn gusnalip_read(factor: *const u64, factor_length: usize, reading: u32, out: *mut u32, length: usize) -> u32;
     fn gusnalip_divide(factor: *const u64, factor_length: usize, x: u64, out: *mut u64, length: usize) -> u32;
@@ -59,9 +68,10 @@ extern "C" {
     ) -> u32;
 }
 
-pub fn set_up_to(precision: u32, scale: i32, lower: u64, upper: u64, out: &mut [u64]) -> u32 {
+pub fn set_up_to(given: Given, out: &mut [u64]) -> u32 {
+    let Given { minus, bits, scale, lower, upper } = given;
     // The function reads and writes `out` only, within its length.
-    unsafe { gusnalip_set_up(precision, scale, lower, upper, out.as_mut_ptr(), out.len()) }
+    unsafe { gusnalip_set_up(minus, bits, scale, lower, upper, out.as_mut_ptr(), out.len()) }
 }
 
 pub fn multiply_to(factor: &[u64], x: u64, out: &mut [u64]) -> u32 {
@@ -123,11 +133,12 @@ pub fn sweep_to(state: &mut [u64], cap: u64, list: &mut [u32], free: usize, coun
 /// A word that nothing writes: a list still has it where a call left it alone.
 pub const UNTOUCHED: u64 = 0xA5A5_5A5A_A5A5_5A5A;
 
-pub fn set_up(precision: u32, scale: i32, lower: u64, upper: u64) -> Result<Factor, Refusal> {
+pub fn set_up(given: Given) -> Result<Factor, Refusal> {
     let mut out = [UNTOUCHED; FACTOR_WORDS + 1];
-    match set_up_to(precision, scale, lower, upper, &mut out) {
+    match set_up_to(given, &mut out) {
         0 => {
             assert_eq!(out[FACTOR_WORDS], UNTOUCHED);
+            sign(out[0]);
             from_words(&out)
         }
         refusal => {
@@ -145,6 +156,12 @@ fn direction(word: u64) -> Direction {
     Direction::ALL.into_iter().find(|direction| direction.number() as u64 == word).expect("a direction")
 }
 
+/// A sign that the engine wrote: whether it is a minus.
+fn sign(word: u64) -> bool {
+    assert!(word < 2, "a sign is written as 0 or 1, and not as {word:X}");
+    word == 1
+}
+
 pub fn multiply(factor: &[u64], x: u64) -> Result<Product, Refusal> {
     product_by(multiply_to, factor, x)
 }
@@ -153,7 +170,7 @@ pub fn multiply_once(factor: &[u64], x: u64) -> Result<Product, Refusal> {
     product_by(multiply_once_to, factor, x)
 }
 
-/// The product that a device's function writes: mark, significand, binade and direction, and nothing past them.
+/// The product that a device's function writes: significand, binade, direction and sign, and nothing past them.
 fn product_by(device: impl Fn(&[u64], u64, &mut [u64]) -> u32, factor: &[u64], x: u64) -> Result<Product, Refusal> {
     let mut out = [UNTOUCHED; PRODUCT_WORDS + 1];
     let number = device(factor, x, &mut out);
@@ -161,7 +178,7 @@ fn product_by(device: impl Fn(&[u64], u64, &mut [u64]) -> u32, factor: &[u64], x
     match mark(number) {
         Some(mark) => {
             let binade = u32::try_from(out[1]).expect("a binade");
-            Ok(Product { mark, significand: out[0], binade, direction: direction(out[2]) })
+            Ok(Product { mark, significand: out[0], binade, direction: direction(out[2]), minus: sign(out[3]) })
         }
         None => {
             assert_eq!(out, [UNTOUCHED; PRODUCT_WORDS + 1]);
@@ -203,7 +220,10 @@ pub fn divide(factor: &[u64], x: u64) -> Result<Quotient, Refusal> {
     let number = divide_to(factor, x, &mut out);
     assert_eq!(out[QUOTIENT_WORDS], UNTOUCHED);
     match number {
-        0 => Ok(Quotient { significand: out[0], binade: out[1] as i64, direction: direction(out[2]) }),
+        0 => {
+            let binade = out[1] as i64;
+            Ok(Quotient { significand: out[0], binade, direction: direction(out[2]), minus: sign(out[3]) })
+        }
         refusal => {
             assert_eq!(out, [UNTOUCHED; QUOTIENT_WORDS + 1]);
             Err(refusal)

@@ -1,11 +1,14 @@
-//! A factor: its ends, its high and low part, and set-up with the refusals 11 to 16.
+//! A factor: its sign, its ends, its high and low part, and set-up with the refusals 11 to 16.
 
 use crate::rounding::{nearest, Dyadic};
+use std::ops::Neg;
 
 pub type Refusal = u32;
 
 #[derive(Clone, Copy, Debug, PartialEq, Eq)]
 pub struct Factor {
+    /// Below zero: then -C × 2^scale is applied (document 02, W5). All else is that of the size.
+    pub minus: bool,
     pub bits: u32,
     pub lower: u64,
     pub upper: u64,
@@ -30,14 +33,14 @@ pub fn greatest(bits: u32) -> u64 {
 }
 
 /// Ch and Cl of the fraction end / 2^62.
-pub fn parts(bits: u32, end: u64) -> (Dyadic, Dyadic) {
-    let fraction = Dyadic::new(end as i128, 62);
+pub fn parts(bits: u32, end: i128) -> (Dyadic, Dyadic) {
+    let fraction = Dyadic::new(end, 62);
     let high = nearest(bits, fraction);
     let rest = fraction.plus(Dyadic::new(-high.whole, high.places));
     (high, nearest(bits, rest))
 }
 
-pub fn set_up(bits: u32, scale: i32, lower: u64, upper: u64) -> Result<Factor, Refusal> {
+pub fn set_up(minus: bool, bits: u32, scale: i32, lower: u64, upper: u64) -> Result<Factor, Refusal> {
     if !(4..=24).contains(&bits) {
         return Err(11);
     }
@@ -51,8 +54,8 @@ pub fn set_up(bits: u32, scale: i32, lower: u64, upper: u64) -> Result<Factor, R
     if !(-100..=100).contains(&scale) {
         return Err(14);
     }
-    let (high, low) = parts(bits, lower);
-    let (high_above, low_above) = parts(bits, upper);
+    let (high, low) = parts(bits, lower as i128);
+    let (high_above, low_above) = parts(bits, upper as i128);
     if !high.equals(high_above) {
         return Err(15);
     }
@@ -63,6 +66,7 @@ pub fn set_up(bits: u32, scale: i32, lower: u64, upper: u64) -> Result<Factor, R
     let one = bits as i32 - 1;
     let high_whole = high.whole << (one - high.places);
     Ok(Factor {
+        minus,
         bits,
         lower,
         upper,
@@ -78,26 +82,43 @@ pub fn set_up(bits: u32, scale: i32, lower: u64, upper: u64) -> Result<Factor, R
 /// A factor with this high part, which is the fraction itself; for 2, which is none, the last fraction.
 pub fn of_high(bits: u32, high: u64) -> Factor {
     let end = (high << (63 - bits)).min((1 << 63) - 1);
-    set_up(bits, 0, end, end).expect("an accepted factor")
+    set_up(false, bits, 0, end, end).expect("an accepted factor")
 }
 
-/// The number as binary32, by an exact conversion and a division by powers of two.
+/// The number as binary32, by an exact conversion and a division by a power of two.
 fn float(number: Dyadic) -> u32 {
     if number.whole == 0 {
         return 0;
     }
-    let mut value = number.whole as f32;
-    assert!(value as i128 == number.whole, "a part has at most 24 bits");
-    for _ in 0..number.places {
-        value /= 2.0;
-    }
-    value.to_bits()
+    let value = number.whole as i64 as f32;
+    assert!(value as i64 as i128 == number.whole, "a part has at most 24 bits");
+    (value / 2f32.powi(number.places)).to_bits()
 }
 
 impl Factor {
-    /// 31's opposite: the factor is what its own precision, scale and ends set up.
+    /// 31's opposite: the factor is what its own precision, scale and ends set up; in its sign there is nothing to compare.
     pub fn intact(&self) -> bool {
-        set_up(self.bits, self.scale, self.lower, self.upper) == Ok(*self)
+        set_up(self.minus, self.bits, self.scale, self.lower, self.upper) == Ok(*self)
+    }
+
+    /// The factor of the other sign.
+    pub fn opposite(&self) -> Factor {
+        Factor { minus: !self.minus, ..*self }
+    }
+
+    /// A size with the factor's sign.
+    pub fn signed<T: Neg<Output = T>>(&self, size: T) -> T {
+        if self.minus {
+            -size
+        } else {
+            size
+        }
+    }
+
+    /// Both ends with the sign, the lesser one first: below zero that is the upper.
+    pub fn ends(&self) -> [i128; 2] {
+        let [lower, upper] = [self.lower, self.upper].map(|end| self.signed(end as i128));
+        [lower.min(upper), lower.max(upper)]
     }
 
     pub fn range_ok(&self, first: u64, last: u64) -> bool {
@@ -115,11 +136,29 @@ impl Factor {
         Ok(())
     }
 
-    /// Ch, and the fraction of a significand.
+    /// Ch and Cl with the sign, as fractions and as numbers of the machine.
     pub fn high_part(&self) -> Dyadic {
-        Dyadic::new(self.high as i128, self.bits as i32 - 1)
+        Dyadic::new(self.signed(self.high as i128), self.bits as i32 - 1)
     }
 
+    pub fn low_part(&self) -> Dyadic {
+        Dyadic::new(self.signed(self.low as i128), self.places as i32)
+    }
+
+    pub fn high_number(&self) -> f32 {
+        self.signed(f32::from_bits(self.high_float))
+    }
+
+    pub fn low_number(&self) -> f32 {
+        self.signed(f32::from_bits(self.low_float))
+    }
+
+    /// Ch × 2^k with the sign, which is a normal binary32 number.
+    pub fn applied(&self) -> f32 {
+        self.high_number() * 2f32.powi(self.scale)
+    }
+
+    /// The fraction of a significand.
     pub fn fraction(&self, x: u64) -> Dyadic {
         Dyadic::new(x as i128, self.bits as i32 - 1)
     }
@@ -158,7 +197,7 @@ mod tests {
             if round % 3 == 0 {
                 end = end >> (state % 50) << (state % 50) | (1u64 << 62);
             }
-            let factor = match set_up(24, 0, end, end) {
+            let factor = match set_up(false, 24, 0, end, end) {
                 Ok(factor) => factor,
                 Err(refusal) => panic!("{end:X} {refusal}"),
             };

@@ -1,16 +1,17 @@
-//! Document 01's example and figures, those of quotients, of the one-step device, of zeros and of directions, and the reference's methods
-//! held against each other.
+//! Document 01's example and figures, those of quotients, of the one-step device, of zeros, of directions and of factors below zero, and the
+//! reference's methods held against each other.
 
-use crate::directions::{of_one_step, of_product, of_quotient, places, PLACES};
-use crate::factor::{greatest, least, set_up, Factor};
+use crate::directions::{all_places, of_one_step, of_product, of_quotient, places};
+use crate::factor::{greatest, least, parts, set_up, Factor};
 use crate::onestep::{self, count, count_by_values, multiply_once, near_ties, product_once, read_once, tally, Tally};
 use crate::product::{multiply, product, Mark, Product};
 use crate::quotient::{divide, divide_reading, is_nearest, machine, near_midpoints, quotient, Quotient};
-use crate::random::{given, Random, KINDS, KNOWN};
-use crate::reading::{self, read, Number};
+use crate::random::{given, Given, Random, KINDS, KNOWN};
+use crate::reading::{self, number, read, Number};
 use crate::rounding::Direction;
-use crate::sweep::{call, new_state, Plain};
+use crate::sweep::{call, new_state, Plain, State};
 use crate::{frame, search, suspects};
+use std::collections::BTreeMap;
 use std::io::{self, Write};
 
 pub const EXAMPLE: &str = "04 00 6000000000000000 6000000000000000
@@ -69,10 +70,13 @@ pub const TABLE_1: [(u32, &str, u64); 8] = [
     (24, "0.66805", 5_604_034),
 ];
 
+/// Scale and ends of a height-loss factor's size: a leaning stem loses 0.012 m of measured height for each metre, and 0.012 × 2^7 = 1.536.
+pub const HEIGHT_LOSS: (i32, u64, u64) = (-7, 0x624DD2F1A9FBE76C, 0x624DD2F1A9FBE76D);
+
 /// The factor of Table 1, pi at so many bits.
 pub fn pi(bits: u32) -> Factor {
     let (_, scale, lower, upper) = KNOWN[1];
-    set_up(bits, scale, lower, upper).expect("an accepted factor")
+    set_up(false, bits, scale, lower, upper).expect("an accepted factor")
 }
 
 pub fn selftest(output: &mut dyn Write) -> io::Result<()> {
@@ -95,15 +99,19 @@ pub fn selftest(output: &mut dyn Write) -> io::Result<()> {
     directions();
     directions_of_readings();
     directions_of_every_precision();
+    below_zero();
+    readings_below_zero();
+    frames_below_zero();
+    signs_of_every_precision();
     methods();
     writeln!(
         output,
-        "selftest: document 01's example and figures stand, those of quotients, of the one-step device, of zeros and of directions too, and the methods agree"
+        "selftest: document 01's example and figures stand, those of quotients, of the one-step device, of zeros, of directions and of factors below zero too, and the methods agree"
     )
 }
 
 fn accepted(bits: u32, lower: u64, upper: u64) -> Factor {
-    set_up(bits, 0, lower, upper).expect("an accepted factor")
+    set_up(false, bits, 0, lower, upper).expect("an accepted factor")
 }
 
 fn all_suspects(factor: &Factor) -> Vec<u64> {
@@ -147,16 +155,16 @@ fn table() {
     let product = multiply(&f, 15).expect("a product");
     assert_eq!((product.significand, product.binade), (15, 1));
     // P6 to P9
-    assert_eq!(set_up(4, 0, (17 << 58) - 1, (17 << 58) + 1), Err(15));
-    assert_eq!(set_up(4, 0, 3 << 61, (3 << 61) + 1), Err(16));
-    assert!(set_up(4, 0, 1 << 62, 1 << 62).is_ok());
-    assert_eq!(set_up(4, 0, 1 << 62, 1 << 63), Err(12));
-    assert_eq!(set_up(3, 0, 1 << 62, 1 << 62), Err(11));
-    assert_eq!(set_up(25, 0, 1 << 62, 1 << 62), Err(11));
+    assert_eq!(set_up(false, 4, 0, (17 << 58) - 1, (17 << 58) + 1), Err(15));
+    assert_eq!(set_up(false, 4, 0, 3 << 61, (3 << 61) + 1), Err(16));
+    assert!(set_up(false, 4, 0, 1 << 62, 1 << 62).is_ok());
+    assert_eq!(set_up(false, 4, 0, 1 << 62, 1 << 63), Err(12));
+    assert_eq!(set_up(false, 3, 0, 1 << 62, 1 << 62), Err(11));
+    assert_eq!(set_up(false, 25, 0, 1 << 62, 1 << 62), Err(11));
 }
 
 fn scale_100() {
-    let factor = set_up(24, 100, 3 << 61, 3 << 61).expect("an accepted factor");
+    let factor = set_up(false, 24, 100, 3 << 61, 3 << 61).expect("an accepted factor");
     assert_eq!(read(&factor, (127 + 27) << 23), Ok((Mark::Right, Number::equal(1.5f32.to_bits() + (127 << 23)))));
     assert_eq!(read(&factor, (127 + 28) << 23), Err(23));
 }
@@ -189,7 +197,7 @@ fn quotients() {
 
 fn quotients_of_readings() {
     // A diameter of 1/2 by 1/pi: a girth of pi/2.
-    let f = set_up(24, -2, 0x517CC1B727220A94, 0x517CC1B727220A95).expect("an accepted factor");
+    let f = set_up(false, 24, -2, 0x517CC1B727220A94, 0x517CC1B727220A95).expect("an accepted factor");
     assert_eq!(divide_reading(&f, 0x3F000000), Ok(Number::below(0x3FC90FDB)));
     assert_eq!(divide_reading(&f, 0xBF000000), Ok(Number::above(0xBFC90FDB)));
     assert_eq!(divide_reading(&f, 0x80000000), Ok(Number::equal(0x80000000)));
@@ -199,12 +207,12 @@ fn quotients_of_readings() {
     assert_eq!(divide_reading(&accepted(23, 3 << 61, 3 << 61), 0x7F800000), Err(20));
     // 3/2: 1 is divided into the lower binade, 3/2 is not; so the exponents' limits are met one apart.
     let reading = |x: f32, exponent: i32| x.to_bits().wrapping_add_signed(exponent << 23);
-    let f = set_up(24, 100, 3 << 61, 3 << 61).expect("an accepted factor");
+    let f = set_up(false, 24, 100, 3 << 61, 3 << 61).expect("an accepted factor");
     assert_eq!(divide_reading(&f, reading(1.0, -25)), Ok(Number::above(0x00AAAAAB)));
     assert_eq!(divide_reading(&f, reading(1.0, -26)), Err(23));
     assert_eq!(divide_reading(&f, reading(1.5, -26)), Ok(Number::equal(0x00800000)));
     assert_eq!(divide_reading(&f, reading(1.5, -27)), Err(23));
-    let f = set_up(24, -100, 3 << 61, 3 << 61).expect("an accepted factor");
+    let f = set_up(false, 24, -100, 3 << 61, 3 << 61).expect("an accepted factor");
     assert_eq!(divide_reading(&f, reading(1.0, 28)), Ok(Number::above(0x7F2AAAAB)));
     assert_eq!(divide_reading(&f, reading(1.0, 29)), Err(23));
     assert_eq!(divide_reading(&f, reading(1.5, 27)), Ok(Number::equal(0x7F000000)));
@@ -216,19 +224,26 @@ fn quotients_of_readings() {
     assert_eq!(divide_reading(&f, 0x01000000), Ok(Number::equal(0x00800000)));
 }
 
-/// Twice the distance from x / C to the quotient, C = end / 2^62, and the unit in the last place of x / C, both over the same.
-fn quotient_off(factor: &Factor, end: u64, x: u64) -> (u128, u128) {
-    let quotient = quotient(factor, x);
-    let ours = (quotient.significand as u128 * end as u128) << (quotient.binade + 1);
-    let below_one = (x as u128) << 62 < (end as u128) << (factor.bits - 1);
-    (2 * ours.abs_diff((x as u128) << 63), (end as u128) << (1 - below_one as u32))
+/// A significand with a sign.
+fn with_sign(minus: bool, significand: u64) -> i128 {
+    significand as i128 * if minus { -1 } else { 1 }
 }
 
-/// Twice the distance from C × x to the one-step product, C = end / 2^62, and the unit in the last place of C × x, both over 2^(61 + n).
+/// Twice the distance from x / C to the quotient, C = end / 2^62 with the factor's sign, and the unit in the last place of x / C, both over
+/// the same.
+fn quotient_off(factor: &Factor, end: u64, x: u64) -> (u128, u128) {
+    let Quotient { significand, binade, minus, .. } = quotient(factor, x);
+    let ours = (with_sign(minus, significand) * end as i128) << (binade + 1);
+    let below_one = (x as u128) << 62 < (end as u128) << (factor.bits - 1);
+    (2 * ours.abs_diff(factor.signed(x as i128) << 63), (end as u128) << (1 - below_one as u32))
+}
+
+/// Twice the distance from C × x to the one-step product, C = end / 2^62 with the factor's sign, and the unit in the last place of C × x,
+/// both over 2^(61 + n).
 fn one_step_off(factor: &Factor, end: u64, x: u64) -> (u128, u128) {
-    let product = product_once(factor, x);
-    let (ours, exact) = ((product.significand as u128) << (62 + product.binade), end as u128 * x as u128);
-    let below_two = exact < 1 << (62 + factor.bits);
+    let Product { significand, binade, minus, .. } = product_once(factor, x);
+    let (ours, exact) = (with_sign(minus, significand) << (62 + binade), factor.signed(end as i128 * x as i128));
+    let below_two = exact.unsigned_abs() < 1 << (62 + factor.bits);
     (2 * ours.abs_diff(exact), 1 << if below_two { 62 } else { 63 })
 }
 
@@ -247,7 +262,8 @@ fn farthest_quotients() {
         let end = (1 << 62) + (1 << (61 - half)) - (1 << (62 - bits));
         let (x, binade) = if bits % 2 == 0 { ((1 << bits) - (1 << (half - 1)), 0) } else { (least(bits), -1) };
         let factor = accepted(bits, end, end);
-        let due = Quotient { significand: (1 << bits) - (1 << half), binade, direction: Direction::Below };
+        let significand = (1 << bits) - (1 << half);
+        let due = Quotient { significand, binade, direction: Direction::Below, minus: false };
         assert_eq!(quotient(&factor, x), due);
         assert!(near_enough(&factor, x, quotient_off));
         let (twice_off, unit) = quotient_off(&factor, end, x);
@@ -259,18 +275,18 @@ fn farthest_quotients() {
 /// machine's binary32 quotients too.
 fn quotients_of_every_precision() {
     let mut random = Random::new(5);
-    for i in 0..200_000 {
+    for i in 0..270_000 {
         let given = given(&mut random, 4 + (i / KINDS % 21) as u32, i % KINDS);
-        let Ok(factor) = set_up(given.bits, given.scale, given.lower, given.upper) else { continue };
+        let Ok(factor) = given.set_up() else { continue };
         let (first, last) = (least(factor.bits), greatest(factor.bits));
         let mut significands = near_midpoints(&factor);
         significands.extend([first, last, random.from_to(first, last), factor.high.min(last)]);
         for x in significands {
             assert!(is_nearest(&factor, x) && near_enough(&factor, x, quotient_off), "{factor:X?} {x:X}");
             if factor.bits == 24 {
-                let Quotient { significand, binade, direction } = quotient(&factor, x);
-                let value = significand as f32 * 2f32.powi(binade as i32 - 23);
-                assert_eq!(machine(&factor, x as u32 & 0x7F_FFFF), (value, direction), "{factor:X?} {x:X}");
+                let whole = quotient(&factor, x);
+                let due = (whole.number(), whole.direction);
+                assert_eq!(machine(&factor, number(false, x, 0)), due, "{factor:X?} {x:X}");
             }
         }
     }
@@ -293,7 +309,7 @@ fn one_step() {
     let f = accepted(4, 0x4BFFFC0000000000, 0x4BFFFC0000000000);
     assert_eq!(answer(&f, 8), Ok((9, 0, Mark::Right)));
     assert_eq!(answer(&f, 15), Ok((8, 1, Mark::Wrong)));
-    let due = Product { significand: 9, binade: 1, mark: Mark::Right, direction: Direction::Above };
+    let due = Product { significand: 9, binade: 1, mark: Mark::Right, direction: Direction::Above, minus: false };
     assert_eq!(product(&f, 15), due);
     // P3's factor: its high part is 10/8, and 9 × 10/8 lies between what the ends are rounded to.
     let f = accepted(4, 0x51C71C71C71C71C7, 0x51C71C71C71C71C8);
@@ -309,7 +325,7 @@ fn one_step() {
 
 fn one_step_readings() {
     // 1/pi, as one binary32 number.
-    let f = set_up(24, -2, 0x517CC1B727220A94, 0x517CC1B727220A95).expect("an accepted factor");
+    let f = set_up(false, 24, -2, 0x517CC1B727220A94, 0x517CC1B727220A95).expect("an accepted factor");
     let applied = f32::from_bits(f.high_float) / 4.0;
     for girth in [1.57f32, -1.57, 1.0, 3.0e38, 4.0e-38] {
         assert_eq!(read_once(&f, girth.to_bits()).map(|answer| answer.1.bits), Ok((girth * applied).to_bits()));
@@ -320,25 +336,26 @@ fn one_step_readings() {
     assert_eq!(read_once(&f, 0x00800000), Err(23));
     assert_eq!(read_once(&Factor { scale: 101, ..f }, 0x7F800000), Err(31));
     assert_eq!(read_once(&accepted(23, 3 << 61, 3 << 61), 0x7F800000), Err(20));
-    let f = set_up(24, 100, 3 << 61, 3 << 61).expect("an accepted factor");
+    let f = set_up(false, 24, 100, 3 << 61, 3 << 61).expect("an accepted factor");
     assert_eq!(read_once(&f, (127 + 27) << 23), Ok((Mark::Right, Number::equal(1.5f32.to_bits() + (127 << 23)))));
     assert_eq!(read_once(&f, (127 + 28) << 23), Err(23));
     // Just below 2^-126: one multiplication of the whole reading would round it up to that, by a tie of subnormal numbers.
-    let f = set_up(24, -1, 1 << 62, 1 << 62).expect("an accepted factor");
+    let f = set_up(false, 24, -1, 1 << 62, 1 << 62).expect("an accepted factor");
     assert_eq!((f32::from_bits(0x00FFFFFF) * 0.5).to_bits(), 0x00800000);
     assert_eq!(read_once(&f, 0x00FFFFFF), Err(23));
     assert_eq!(read_once(&f, 0x01000000), Ok((Mark::Right, Number::equal(0x00800000))));
-    // One binary32 multiplication of the whole reading by Ch × 2^k, where the product is not refused; and 23 where it lies outside.
+    // One binary32 multiplication of the whole reading by Ch × 2^k, sign included, where the product is not refused; and 23 where it lies
+    // outside.
     let mut random = Random::new(8);
     let mut refused = [0, 0];
-    for i in 0..400_000 {
+    for i in 0..540_000 {
         let g = given(&mut random, 24, i % (KINDS - 1));
-        let Ok(factor) = set_up(24, g.scale, g.lower, g.upper) else { continue };
+        let Ok(factor) = g.set_up() else { continue };
         let reading = f32::from_bits(random.word() as u32);
         if !reading.is_normal() {
             continue;
         }
-        let applied = f32::from_bits(factor.high_float) * 2f32.powi(factor.scale);
+        let applied = factor.applied();
         // With its sign, in binary64.
         let exact = reading as f64 * applied as f64;
         match read_once(&factor, reading.to_bits()) {
@@ -367,7 +384,7 @@ fn farthest_one_step() {
         let x = (1 << bits) - (1 << half);
         let (significand, binade) = if bits % 2 == 0 { (x + (1 << (half - 1)), 0) } else { (least(bits), 1) };
         let factor = accepted(bits, end, end);
-        let due = Product { mark: Mark::Wrong, significand, binade, direction: Direction::Above };
+        let due = Product { mark: Mark::Wrong, significand, binade, direction: Direction::Above, minus: false };
         assert_eq!(product_once(&factor, x), due);
         assert!(near_enough(&factor, x, one_step_off));
         let (twice_off, unit) = one_step_off(&factor, end, x);
@@ -379,9 +396,11 @@ fn farthest_one_step() {
 fn tallies() {
     for due in TALLIES {
         let (lower, upper) = due.ends;
-        let factor = set_up(due.bits, due.scale, lower, upper).expect("an accepted factor");
         let (first, last) = due.range;
-        assert_eq!(tally(&factor, first, last), Ok(due.tally), "{}", due.name);
+        for minus in [false, true] {
+            let factor = set_up(minus, due.bits, due.scale, lower, upper).expect("an accepted factor");
+            assert_eq!(tally(&factor, first, last), Ok(due.tally), "{}", due.name);
+        }
     }
     // 17 bits have 65,536 significands, which are taken; 18 have more.
     let (first, last) = (least(18), greatest(18));
@@ -407,8 +426,11 @@ fn table_1() {
         assert_eq!((tally.right, tally.length()), (right, least(bits)), "pi at {bits} bits");
         assert!(bits > 17 || count_by_values(&factor, least(bits), greatest(bits)) == tally);
         if bits == 24 {
-            let machine = |fraction| onestep::machine(&factor, fraction).0;
-            assert_eq!((0..1 << 23).filter(|&fraction| machine(fraction) == Mark::Right).count() as u64, right);
+            for factor in [factor, factor.opposite()] {
+                let machine = |x| onestep::machine(&factor, number(false, x, 0)).0;
+                let all = (least(bits)..=greatest(bits)).filter(|&x| machine(x) == Mark::Right).count();
+                assert_eq!(all as u64, right);
+            }
         }
     }
 }
@@ -417,42 +439,47 @@ fn table_1() {
 /// machine's binary32 products too.
 fn one_step_of_every_precision() {
     let mut random = Random::new(9);
-    for i in 0..200_000 {
+    for i in 0..270_000 {
         let given = given(&mut random, 4 + (i / KINDS % 21) as u32, i % KINDS);
-        let Ok(factor) = set_up(given.bits, given.scale, given.lower, given.upper) else { continue };
+        let Ok(factor) = given.set_up() else { continue };
         let (first, last) = (least(factor.bits), greatest(factor.bits));
         let mut significands = near_ties(&factor);
         significands.extend([first, last, random.from_to(first, last)]);
         for x in significands {
             assert!(near_enough(&factor, x, one_step_off), "{factor:X?} {x:X}");
             if factor.bits == 24 {
-                let Product { mark, significand, binade, direction } = product_once(&factor, x);
-                let value = significand as f32 * 2f32.powi(binade as i32 - 23);
-                let due = (mark, value, direction);
-                assert_eq!(onestep::machine(&factor, x as u32 & 0x7F_FFFF), due, "{factor:X?} {x:X}");
+                let whole = product_once(&factor, x);
+                let due = (whole.mark, whole.number(), whole.direction);
+                assert_eq!(onestep::machine(&factor, number(false, x, 0)), due, "{factor:X?} {x:X}");
             }
         }
     }
 }
 
-/// Zeros of both signs keep their sign, whatever sign the low part has, at every scale; and the refusals that are judged before.
+/// Zeros of both signs keep their sign, whatever sign the low part has, at every scale, and by a factor below zero have the other one; and
+/// the refusals that are judged before.
 fn zeros() {
     // The low part of 3/2 + 2^-62 is positive, that of 3/2 zero; those of 3/2 - 2^-62 and of pi are negative.
     let (end, (_, _, lower, upper)) = (3 << 61, KNOWN[1]);
     for (lower, upper, sign) in [(end + 1, end + 1, 1), (end, end, 0), (end - 1, end - 1, -1), (lower, upper, -1)] {
         for scale in -100..=100 {
-            let f = set_up(24, scale, lower, upper).expect("an accepted factor");
+            let f = set_up(false, 24, scale, lower, upper).expect("an accepted factor");
             assert_eq!(f.low.signum(), sign);
             for zero in [0x00000000, 0x80000000] {
                 assert_eq!(read(&f, zero), Ok((Mark::Right, Number::equal(zero))));
                 assert_eq!(read_once(&f, zero), Ok((Mark::Right, Number::equal(zero))));
                 assert_eq!(divide_reading(&f, zero), Ok(Number::equal(zero)));
+                let (f, other) = (f.opposite(), zero ^ 0x80000000);
+                assert_eq!(read(&f, zero), Ok((Mark::Right, Number::equal(other))));
+                assert_eq!(read_once(&f, zero), Ok((Mark::Right, Number::equal(other))));
+                assert_eq!(divide_reading(&f, zero), Ok(Number::equal(other)));
             }
             check_zeros(&f);
+            check_zeros(&f.opposite());
         }
     }
     let other_sign = Factor { low_float: pi(24).low_float ^ 0x80000000, ..pi(24) };
-    for (f, refusal) in [(pi(23), 20), (other_sign, 31)] {
+    for (f, refusal) in [(pi(23), 20), (pi(23).opposite(), 20), (other_sign, 31), (other_sign.opposite(), 31)] {
         for zero in [0x00000000, 0x80000000] {
             assert_eq!(read(&f, zero), Err(refusal));
             assert_eq!(read_once(&f, zero), Err(refusal));
@@ -461,32 +488,32 @@ fn zeros() {
     }
 }
 
-/// A zero's answers are the machine's single product and quotient of the reading and Ch × 2^k, which is a normal number. The two steps
-/// themselves would make plus zero of minus zero where the low part is negative, and there alone.
+/// A zero's answers are the machine's single product and quotient of the reading and Ch × 2^k, sign included, which is a normal number. The
+/// two steps themselves would make plus zero of minus zero where the parts have unlike signs, and there alone.
 fn check_zeros(factor: &Factor) {
-    let (high, low) = (f32::from_bits(factor.high_float), f32::from_bits(factor.low_float));
-    let applied = high * 2f32.powi(factor.scale);
+    let (high, low, applied) = (factor.high_number(), factor.low_number(), factor.applied());
     assert!(applied.is_normal());
     for zero in [0.0f32, -0.0] {
         let (bits, product, quotient) = (zero.to_bits(), (zero * applied).to_bits(), (zero / applied).to_bits());
         let right = Ok((Mark::Right, Number::equal(product)));
         assert_eq!((read(factor, bits), read_once(factor, bits)), (right, right), "{factor:X?}");
         assert_eq!(divide_reading(factor, bits), Ok(Number::equal(quotient)), "{factor:X?}");
-        let lost = zero.is_sign_negative() && factor.low < 0;
+        let lost = zero.is_sign_negative() != factor.minus && factor.low < 0;
         let steps = high.mul_add(zero, low * zero).to_bits();
         assert_eq!(steps, if lost { 0 } else { product }, "{factor:X?}");
         assert!(!lost || product == 0x8000_0000, "{factor:X?}");
     }
 }
 
-/// The same for factors of many kinds, low parts of every sign among them.
+/// The same for factors of many kinds and of both signs, low parts of every sign among them.
 fn zeros_of_many_factors() {
     let mut random = Random::new(11);
     let mut met = [0; 3];
     for i in 0..20_000 {
         let g = given(&mut random, 24, i % (KINDS - 1));
-        let Ok(factor) = set_up(24, g.scale, g.lower, g.upper) else { continue };
+        let Ok(factor) = g.set_up() else { continue };
         check_zeros(&factor);
+        check_zeros(&factor.opposite());
         met[(factor.low.signum() + 1) as usize] += 1;
     }
     assert!(met.iter().all(|&factors| factors > 1000), "{met:?}");
@@ -534,7 +561,7 @@ fn directions() {
 
 /// 1/pi on readings. The product of 1.57 comes down in two steps and goes up to the same in one; a minus mirrors either.
 fn directions_of_readings() {
-    let f = set_up(24, -2, 0x517CC1B727220A94, 0x517CC1B727220A95).expect("an accepted factor");
+    let f = set_up(false, 24, -2, 0x517CC1B727220A94, 0x517CC1B727220A95).expect("an accepted factor");
     assert_eq!(read(&f, 0x3FC8F5C3), Ok((Mark::Right, Number::below(0x3EFFDEC7))));
     assert_eq!(read(&f, 0xBFC8F5C3), Ok((Mark::Right, Number::above(0xBEFFDEC7))));
     assert_eq!(read_once(&f, 0x3FC8F5C3), Ok((Mark::Right, Number::above(0x3EFFDEC7))));
@@ -552,14 +579,14 @@ fn directions_of_readings() {
     assert_eq!(divide_reading(&f, f.high_float - (2 << 23)), Ok(Number::equal(0x3F800000)));
 }
 
-/// For factors of many kinds: what is compared as whole numbers has the direction that the dropped digits tell; at 24 bits it is the
-/// machine's too, and readings of both signs have it, one mirrored. Ties and carries are met on both devices.
+/// For factors of many kinds and of both signs: what is compared as whole numbers has the direction that the dropped digits tell; at 24 bits
+/// it is the machine's too, and readings of both signs have it, one mirrored. Ties and carries are met on both devices.
 fn directions_of_every_precision() {
     let mut random = Random::new(12);
-    let mut met = std::collections::BTreeMap::new();
-    for i in 0..100_000 {
+    let mut met = BTreeMap::new();
+    for i in 0..130_000 {
         let given = given(&mut random, 4 + (i / KINDS % 21) as u32, i % KINDS);
-        let Ok(factor) = set_up(given.bits, given.scale, given.lower, given.upper) else { continue };
+        let Ok(factor) = given.set_up() else { continue };
         let (first, last) = (least(factor.bits), greatest(factor.bits));
         let mut significands = near_ties(&factor);
         significands.extend([first, last, random.from_to(first, last), (factor.first_high() - 1).max(first)]);
@@ -567,31 +594,32 @@ fn directions_of_every_precision() {
             let answers = [product(&factor, x), product_once(&factor, x)];
             for (device, place) in places(&factor, x).into_iter().enumerate() {
                 assert_eq!(answers[device].direction, place.direction, "{factor:X?} {x:X}");
-                *met.entry((device, place)).or_insert(0) += 1;
+                *met.entry((device, factor.minus, place)).or_insert(0) += 1;
             }
             if factor.bits == 24 {
-                check_signs(&factor, x as u32 & 0x7F_FFFF);
+                check_signs(&factor, x);
             }
         }
     }
-    for due in [0, 1].into_iter().flat_map(|device| PLACES.map(|place| (device, place))) {
-        assert!(met.get(&due).is_some_and(|&count| count > 100), "{due:?} of {met:?}");
+    for (device, minus) in [(0, false), (0, true), (1, false), (1, true)] {
+        for due in all_places(minus).map(|place| (device, minus, place)) {
+            assert!(met.get(&due).is_some_and(|&count| count > 100), "{due:?} of {met:?}");
+        }
     }
 }
 
-/// The significand with these fraction bits as a reading, of both signs.
-fn check_signs(factor: &Factor, fraction: u32) {
-    let whole = product(factor, (0x80_0000 | fraction) as u64);
-    let value = whole.significand as f32 * 2f32.powi(whole.binade as i32 - 23);
-    assert_eq!(reading::product(factor, fraction), (whole.mark, value, whole.direction), "{factor:X?} {fraction:X}");
+/// The significand as a reading, of both signs.
+fn check_signs(factor: &Factor, x: u64) {
+    let whole = product(factor, x);
+    let due = (whole.mark, whole.number(), whole.direction);
+    assert_eq!(reading::product(factor, number(false, x, 0)), due, "{factor:X?} {x:X}");
     let check = |function: &dyn Fn(u32) -> Number, direction: fn(&Factor, f32, f32) -> Direction| {
-        let plus = 0x3F80_0000 | fraction;
+        let plus = number(false, x, 0).to_bits();
         let (there, mirrored) = (function(plus), function(plus ^ 0x8000_0000));
-        let due = Number { bits: there.bits ^ 0x8000_0000, direction: there.direction.mirrored() };
-        assert_eq!(mirrored, due, "{factor:X?} {fraction:X}");
+        assert_eq!(mirrored, there.mirrored(), "{factor:X?} {x:X}");
         for (reading, number) in [(plus, there), (plus ^ 0x8000_0000, mirrored)] {
             let by_machine = direction(factor, f32::from_bits(reading), f32::from_bits(number.bits));
-            assert_eq!(number.direction, by_machine, "{factor:X?} {fraction:X}");
+            assert_eq!(number.direction, by_machine, "{factor:X?} {x:X}");
         }
     };
     check(&|bits| read(factor, bits).expect("a product").1, of_product);
@@ -599,8 +627,175 @@ fn check_signs(factor: &Factor, fraction: u32) {
     check(&|bits| divide_reading(factor, bits).expect("a quotient"), of_quotient);
 }
 
-/// For many factors of small precision: what is not right is a suspect, both rows are one, the search finds the row, the
-/// sweep by searches is the plain one, quotients and one-step products are near enough, and both tallies of a range are one.
+/// W5's figures at 4 bits: P1 to P9 with a minus on the factor, whose parts, marks and suspects are those of the size.
+fn below_zero() {
+    use Direction::{Above, Below, Equal};
+    use Mark::{Open, Right, Wrong};
+    let below = |lower, upper| set_up(true, 4, 0, lower, upper).expect("an accepted factor");
+    let due = |significand, binade, direction, mark| Ok(Product { mark, significand, binade, direction, minus: true });
+    let quotient = |significand, binade, direction| Ok(Quotient { significand, binade, direction, minus: true });
+    // P1: 9 × -12 / 8 = -13 1/2 is a tie that goes down, 14 × -12 / 16 = -10 1/2 one that goes up.
+    let f = below(3 << 61, 3 << 61);
+    assert_eq!(f, Factor { minus: true, ..accepted(4, 3 << 61, 3 << 61) });
+    assert_eq!((f.high_float, f.low_float), (0x3FC00000, 0));
+    assert_eq!(all_suspects(&f), [9, 14]);
+    for multiply in [multiply, multiply_once] {
+        assert_eq!(multiply(&f, 9), due(14, 0, Below, Right));
+        assert_eq!(multiply(&f, 14), due(10, 1, Above, Right));
+        assert_eq!(multiply(&f, 12), due(9, 1, Equal, Right));
+        assert_eq!(multiply(&f, 16), Err(17));
+        assert_eq!(multiply(&Factor { high: 13, ..f }, 16), Err(31));
+    }
+    // 8 / -12 × 16 = -10 2/3 goes down, 14 / -12 × 8 = -9 1/3 up.
+    assert_eq!(divide(&f, 8), quotient(11, -1, Below));
+    assert_eq!(divide(&f, 12), quotient(8, 0, Equal));
+    assert_eq!(divide(&f, 14), quotient(9, 0, Above));
+    assert_eq!(divide(&f, 7), Err(17));
+    // P2: -9/8 - 1/16 is -9 1/2 eighths, a tie that goes down. In one step -9/8 is exact, and 15 × -9 / 16 = -8 7/16 goes up.
+    let f = below(0x4BFFFC0000000000, 0x4BFFFC0000000000);
+    assert_eq!((f.high, f.low, f.places), (9, 8, 7));
+    assert_eq!(all_suspects(&f), [8]);
+    assert_eq!(multiply(&f, 8), due(10, 0, Below, Wrong));
+    assert_eq!(multiply_once(&f, 8), due(9, 0, Equal, Right));
+    assert_eq!(multiply_once(&f, 15), due(8, 1, Above, Wrong));
+    // P3: -90/64 - 2/64 is -11 1/2 eighths, and in one step it is -11 1/4.
+    let f = below(0x51C71C71C71C71C7, 0x51C71C71C71C71C8);
+    assert_eq!((f.high, f.low, f.places), (10, 14, 9));
+    assert_eq!(multiply(&f, 9), due(12, 0, Below, Open));
+    assert_eq!(multiply_once(&f, 9), due(11, 0, Above, Open));
+    // P4: the low part is stored as that of the size.
+    let f = below(0x5555555555555555, 0x5555555555555556);
+    assert_eq!((f.high, f.low, f.places), (11, -11, 8));
+    let directions = [8, 9, 10, 11, 12, 13, 14, 15].map(|x| product(&f, x).direction);
+    assert_eq!(directions, [Below, Equal, Above, Below, Equal, Below, Above, Equal]);
+    // P5: a little above -15/4.
+    let f = below((1 << 63) - 1, (1 << 63) - 1);
+    assert_eq!((f.high, f.low, f.places), (16, -8, 65));
+    assert_eq!(multiply(&f, 15), due(15, 1, Below, Right));
+    // P6 to P9
+    assert_eq!(set_up(true, 4, 0, (17 << 58) - 1, (17 << 58) + 1), Err(15));
+    assert_eq!(set_up(true, 4, 0, 3 << 61, (3 << 61) + 1), Err(16));
+    assert!(set_up(true, 4, 0, 1 << 62, 1 << 62).is_ok());
+    assert_eq!(set_up(true, 4, 0, 1 << 62, 1 << 63), Err(12));
+    assert_eq!(set_up(true, 3, 0, 1 << 62, 1 << 62), Err(11));
+    assert_eq!(set_up(true, 25, 0, 1 << 62, 1 << 62), Err(11));
+}
+
+/// -1/pi on readings: what 1/pi takes down goes up. And height loss, -0.012.
+fn readings_below_zero() {
+    let (_, scale, lower, upper) = KNOWN[0];
+    let f = set_up(true, 24, scale, lower, upper).expect("an accepted factor");
+    assert_eq!(read(&f, 0x3FC8F5C3), Ok((Mark::Right, Number::above(0xBEFFDEC7))));
+    assert_eq!(read(&f, 0xBFC8F5C3), Ok((Mark::Right, Number::below(0x3EFFDEC7))));
+    assert_eq!(read_once(&f, 0x3FC8F5C3), Ok((Mark::Right, Number::below(0xBEFFDEC7))));
+    assert_eq!(read_once(&f, 0xBFC8F5C3), Ok((Mark::Right, Number::above(0x3EFFDEC7))));
+    assert_eq!(divide_reading(&f, 0x3FC8F5C3), Ok(Number::below(0xC09DD569)));
+    assert_eq!(divide_reading(&f, 0xBFC8F5C3), Ok(Number::above(0x409DD569)));
+    assert_eq!(read_once(&f, 0x3F800000), Ok((Mark::Right, Number::equal(0xBEA2F983))));
+    assert_eq!(divide_reading(&f, f.high_float - (2 << 23)), Ok(Number::equal(0xBF800000)));
+    for (reading, refusal) in [(0x7F800000, 21), (0xFFC00000, 21), (0x807FFFFF, 22), (0x00800000, 23)] {
+        assert_eq!((read(&f, reading), read_once(&f, reading)), (Err(refusal), Err(refusal)));
+    }
+    assert_eq!(divide_reading(&f, 0x7F7FFFFF), Err(23));
+    // The limits are those of the size.
+    let f = set_up(true, 24, 100, 3 << 61, 3 << 61).expect("an accepted factor");
+    assert_eq!(read(&f, (127 + 27) << 23), Ok((Mark::Right, Number::equal(0xFF400000))));
+    assert_eq!(read(&f, (127 + 28) << 23), Err(23));
+    // 25 m measured: the binary32 number next to -0.3 lies below it.
+    let (scale, lower, upper) = HEIGHT_LOSS;
+    let f = set_up(true, 24, scale, lower, upper).expect("an accepted factor");
+    let loss = (-0.3f32).to_bits();
+    assert_eq!(read(&f, 25f32.to_bits()), Ok((Mark::Right, Number::below(loss))));
+    assert_eq!(divide_reading(&f, loss).map(|number| number.bits), Ok(25f32.to_bits()));
+}
+
+/// 80 hexadecimal is added to the byte of the precision, which is judged without it. Reports are those of the size.
+fn frames_below_zero() {
+    let (lower, upper) = (KNOWN[1].2, KNOWN[1].3);
+    for byte in 0..=0xFF {
+        let line = format!("{byte:02X} 01 {lower:016X} {upper:016X}");
+        let due = set_up(byte >= 0x80, byte & 0x7F, 1, lower, upper);
+        assert_eq!(due.is_ok(), (4..=24).contains(&byte) || (0x84..=0x98).contains(&byte), "{byte:X}");
+        assert_eq!(frame::factor(line.as_bytes(), true), due, "{byte:X}");
+    }
+    for (byte, due) in
+        [(0x80, Err(11)), (0x83, Err(11)), (0x84, Ok(4)), (0x98, Ok(24)), (0x99, Err(11)), (0xFF, Err(11))]
+    {
+        let line = format!("{byte:02X} 01 {lower:016X} {upper:016X}");
+        assert_eq!(frame::factor(line.as_bytes(), true).map(|factor| factor.bits), due);
+    }
+    let mut report = Vec::new();
+    let example = EXAMPLE.lines().map(|line| format!("84{}\n", &line[2..])).collect::<String>();
+    frame::plotconst(&mut example.as_bytes(), &mut report).expect("written to memory");
+    assert_eq!(String::from_utf8_lossy(&report), EXAMPLE_REPORT);
+    let mut random = Random::new(14);
+    let mut reported = 0;
+    for i in 0..3000 {
+        let given = given(&mut random, 4 + (i / KINDS % 7) as u32, i % KINDS);
+        let [plus, minus] = [0, 0x80].map(|sign| {
+            let (byte, scale) = (given.bits as u8 & 0x7F | sign, given.scale as u8);
+            let line = format!("{byte:02X} {scale:02X} {:016X} {:016X}", given.lower, given.upper);
+            let mut report = Vec::new();
+            frame::report(7, line.as_bytes(), true, &mut report).expect("written to memory");
+            report
+        });
+        assert_eq!(plus, minus, "{given:X?}");
+        reported += (plus.len() > "0007 FF 11\n".len()) as u32;
+    }
+    assert!(reported > 1000, "{reported}");
+}
+
+/// For factors of many kinds, good ones and damaged: what set-up answers, and the parts, are those of the size, and rounding the ends with
+/// their sign gives the parts with theirs. All answers of the factor of the other sign are the same, but for sign and direction, which are
+/// mirrored.
+fn signs_of_every_precision() {
+    let mut random = Random::new(13);
+    for i in 0..20_000 {
+        let given = given(&mut random, 4 + (i / KINDS % 21) as u32, i % KINDS);
+        let [plus, minus] = [0, 1].map(|minus| Given { minus, ..given }.set_up());
+        assert_eq!(minus, plus.map(|factor| Factor { minus: true, ..factor }), "{given:X?}");
+        let (Ok(plus), Ok(minus)) = (plus, minus) else { continue };
+        for factor in [plus, minus] {
+            for (high, low) in factor.ends().map(|end| parts(factor.bits, end)) {
+                assert!(high.equals(factor.high_part()) && low.equals(factor.low_part()), "{factor:X?}");
+            }
+        }
+        check_mirrored(&mut random, &plus);
+        let damaged = Factor { low_float: plus.low_float ^ 1 << random.below(32), ..plus };
+        check_mirrored(&mut random, &damaged);
+    }
+}
+
+fn check_mirrored(random: &mut Random, factor: &Factor) {
+    let opposite = factor.opposite();
+    let (first, last) = (least(factor.bits), greatest(factor.bits));
+    let mut significands = near_ties(factor);
+    for low in [true, false] {
+        significands.extend(search::next(factor, low, first).place.map(|place| place as u64));
+    }
+    significands.extend([first - 1, first, last, last + 1, random.from_to(first, last)]);
+    for x in significands {
+        assert_eq!(multiply(&opposite, x), multiply(factor, x).map(Product::mirrored), "{factor:X?} {x:X}");
+        assert_eq!(multiply_once(&opposite, x), multiply_once(factor, x).map(Product::mirrored), "{factor:X?} {x:X}");
+        assert_eq!(divide(&opposite, x), divide(factor, x).map(Quotient::mirrored), "{factor:X?} {x:X}");
+        let range = (x, random.from_to(x, x + 20));
+        assert_eq!(tally(&opposite, range.0, range.1), tally(factor, range.0, range.1), "{factor:X?} {x:X}");
+        // As a reading of any exponent and sign, zeros and what is refused among them.
+        let reading = random.word() as u32 & 0xFF80_0000 | x as u32 & 0x7F_FFFF;
+        for reading in [reading, reading & 0x8000_0000] {
+            for read in [read, read_once] {
+                let due = read(factor, reading).map(|(mark, number)| (mark, number.mirrored()));
+                assert_eq!(read(&opposite, reading), due, "{factor:X?} {reading:X}");
+            }
+            let due = divide_reading(factor, reading).map(Number::mirrored);
+            assert_eq!(divide_reading(&opposite, reading), due, "{factor:X?} {reading:X}");
+        }
+    }
+}
+
+/// For many factors of small precision and of both signs: what is not right is a suspect, both rows are one, the search finds the row, the
+/// sweep by searches is the plain one and that of the other sign, quotients and one-step products are near enough, and both tallies of a
+/// range are one.
 fn methods() {
     let mut state = 1u64;
     let mut next = || {
@@ -608,7 +803,7 @@ fn methods() {
         state >> 2
     };
     let mut tried = 0;
-    while tried < 3000 {
+    while tried < 4000 {
         let bits = 4 + (tried % 9) as u32;
         let lower = match next() % 4 {
             0 => (1 << 62) + (next() % (1 << bits) << (62 - bits)),
@@ -621,7 +816,7 @@ fn methods() {
                 1 => next() % 4,
                 _ => next() >> (2 * bits),
             };
-        let factor = match set_up(bits, 0, lower, upper) {
+        let factor = match set_up(next() % 4 == 0, bits, 0, lower, upper) {
             Ok(factor) => factor,
             Err(_) => continue,
         };
@@ -649,12 +844,16 @@ fn check_methods(factor: &Factor, next: &mut dyn FnMut() -> u64) {
     let (a, b) = if next() % 2 == 0 { (first, last) } else { (a.min(b), a.max(b)) };
     assert_eq!(count(factor, a, b), count_by_values(factor, a, b));
     let mut state = new_state(factor, a, b).expect("a good range");
+    let mut opposite = new_state(&factor.opposite(), a, b).expect("a good range");
     let mut plain = Plain::new(factor, a, b);
     loop {
         let cap = next() % 5;
         let mut list = vec![7u32; (next() % 4) as usize];
         let place = next() % 4;
+        let mut same = list.clone();
         let answer = call(&mut state, cap, &mut list, place);
+        assert_eq!(call(&mut opposite, cap, &mut same, place), answer);
+        assert_eq!((opposite, &same), (State { factor: factor.opposite(), ..state }, &list));
         match plain.call(cap, list.len() as u64, place) {
             Err(refusal) => {
                 assert_eq!(answer, Err(refusal));

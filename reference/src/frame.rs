@@ -25,11 +25,12 @@ pub fn fields(line: &[u8], widths: &[usize]) -> Option<Vec<u64>> {
     parts.into_iter().map(digits).collect()
 }
 
-/// The factor of a line; `ended` says that its line feed was there.
+/// The factor of a line; `ended` says that its line feed was there. The precision's byte has 80 hexadecimal added for a factor below zero.
 pub fn factor(line: &[u8], ended: bool) -> Result<Factor, Refusal> {
     let read = if ended { fields(line, &[2, 2, 16, 16]) } else { None };
     let fields = read.ok_or(24u32)?;
-    set_up(fields[0] as u32, fields[1] as u8 as i8 as i32, fields[2], fields[3])
+    let (sign, bits) = (fields[0] / 0x80, fields[0] % 0x80);
+    set_up(sign == 1, bits as u32, fields[1] as u8 as i8 as i32, fields[2], fields[3])
 }
 
 /// What `plotconst` prints for the line with this number.

@@ -45,7 +45,7 @@ fn float(whole: i64, places: u32) -> u32 {
     (whole as f32 * f32::from_bits((127 - places) << 23)).to_bits()
 }
 
-pub fn set_up(bits: u32, scale: i32, lower: u64, upper: u64) -> Result<Factor, Refusal> {
+pub fn set_up(minus: bool, bits: u32, scale: i32, lower: u64, upper: u64) -> Result<Factor, Refusal> {
     if !(4..=24).contains(&bits) {
         return Err(11);
     }
@@ -67,12 +67,12 @@ pub fn set_up(bits: u32, scale: i32, lower: u64, upper: u64) -> Result<Factor, R
         return Err(16);
     }
     let (high_float, low_float) = (float(high as i64, bits - 1), float(low, places));
-    Ok(Factor { bits, lower, upper, high, low, places, high_float, low_float, scale })
+    Ok(Factor { minus, bits, lower, upper, high, low, places, high_float, low_float, scale })
 }
 
 /// The refusals 31 and 17 of a range, or of one significand as its first and last.
 fn check(factor: &Factor, first: u64, last: u64) -> Result<(), Refusal> {
-    if set_up(factor.bits, factor.scale, factor.lower, factor.upper).as_ref() != Ok(factor) {
+    if set_up(factor.minus, factor.bits, factor.scale, factor.lower, factor.upper).as_ref() != Ok(factor) {
         return Err(31);
     }
     if first < least(factor.bits) || greatest(factor.bits) < last || last < first {
@@ -81,7 +81,16 @@ fn check(factor: &Factor, first: u64, last: u64) -> Result<(), Refusal> {
     Ok(())
 }
 
-/// A product and its mark, by RN of both ends times x.
+/// A direction of a size, with the factor's sign.
+fn turned(factor: &Factor, direction: Direction) -> Direction {
+    if factor.minus {
+        direction.mirrored()
+    } else {
+        direction
+    }
+}
+
+/// A product and its mark, by RN of both ends times x; its direction is given as that of the size.
 fn marked(factor: &Factor, x: u64, significand: u64, binade: u32, direction: Direction) -> Product {
     let rounded_by = |end: u64| {
         let (significand, dropped) = rounded(end as u128 * x as u128, factor.bits);
@@ -95,7 +104,7 @@ fn marked(factor: &Factor, x: u64, significand: u64, binade: u32, direction: Dir
     } else {
         Mark::Open
     };
-    Product { mark, significand, binade, direction }
+    Product { mark, significand, binade, direction: turned(factor, direction), minus: factor.minus }
 }
 
 pub fn multiply(factor: &Factor, x: u64) -> Result<Product, Refusal> {
@@ -127,7 +136,8 @@ pub fn divide(factor: &Factor, x: u64) -> Result<Quotient, Refusal> {
         _ if 2 * rest > factor.high => (kept + 1, Direction::Above),
         _ => (kept, Direction::Below),
     };
-    Ok(Quotient { significand, binade: -(below_one as i64), direction })
+    let direction = turned(factor, direction);
+    Ok(Quotient { significand, binade: -(below_one as i64), direction, minus: factor.minus })
 }
 
 /// A whole number without its last `dropped` digits, rounded.

@@ -1,11 +1,18 @@
-//! Lines for `plotconst`, the same in every run: frames of many kinds, and lines that are none, more than the program reads.
+//! Lines for `plotconst`, the same in every run: frames with every precision byte, frames of many kinds, and lines that are none, more than
+//! the program reads.
 
-use crate::random::{given, Random, KINDS};
+use crate::random::{given, Random, KINDS, KNOWN};
 use std::io::{self, Write};
 
 const LINES: u64 = 66_000;
 
 pub fn lines(output: &mut dyn Write) -> io::Result<()> {
+    // Pi is accepted at every precision; an end of 0 is refused, where the byte is not.
+    let (_, scale, lower, upper) = KNOWN[1];
+    for byte in 0..=0xFF {
+        writeln!(output, "{byte:02X} {scale:02X} {lower:016X} {upper:016X}")?;
+        writeln!(output, "{byte:02X} {scale:02X} {:016X} {upper:016X}", 0)?;
+    }
     let mut random = Random::new(1);
     for i in 0..LINES {
         let mut line = frame(&mut random, i);
@@ -28,8 +35,8 @@ fn frame(random: &mut Random, i: u64) -> Vec<u8> {
     if random.below(16) == 0 {
         given.scale = random.below(256) as i32;
     }
-    let (bits, scale) = (given.bits as u8, given.scale as u8);
-    format!("{bits:02X} {scale:02X} {:016X} {:016X}", given.lower, given.upper).into_bytes()
+    let (sign, bits, scale) = (if given.minus == 0 { 0 } else { 0x80 }, given.bits as u8, given.scale as u8);
+    format!("{:02X} {scale:02X} {:016X} {:016X}", bits | sign, given.lower, given.upper).into_bytes()
 }
 
 /// Alters a line so that it most often is no frame; no line feed comes into it.

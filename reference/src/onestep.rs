@@ -1,4 +1,5 @@
-//! The one-step device (document 02, W2): RN(Ch × x) of a significand or of a reading with its mark, and the tally of a range.
+//! The one-step device (document 02, W2): RN(Ch × x) of a significand or of a reading with its mark, Ch with the factor's sign, and the
+//! tally of a range.
 
 use crate::factor::{greatest, least, Factor, Refusal};
 use crate::product::{marked, Mark, Product};
@@ -53,12 +54,12 @@ pub fn read_once(factor: &Factor, reading: u32) -> Result<(Mark, Number), Refusa
     read_by(factor, reading, machine)
 }
 
-/// Mark, one-step product, in [1, 4), and direction of the significand whose fraction bits are given: one binary32 multiplication. The
-/// exact product is a binary64 number.
-pub fn machine(factor: &Factor, fraction: u32) -> (Mark, f32, Direction) {
-    let (x, high) = (f32::from_bits(0x3F80_0000 | fraction), f32::from_bits(factor.high_float));
+/// Mark, one-step product, its size in [1, 4), and direction of a significand of either sign: one binary32 multiplication by the high part
+/// with its sign. The exact product is a binary64 number.
+pub fn machine(factor: &Factor, x: f32) -> (Mark, f32, Direction) {
+    let high = factor.high_number();
     let value = x * high;
-    (mark(factor, fraction, value), value, Direction::of_exact(value as f64, x as f64 * high as f64))
+    (mark(factor, x, value), value, Direction::of_exact(value as f64, x as f64 * high as f64))
 }
 
 pub fn tally(factor: &Factor, first: u64, last: u64) -> Result<Tally, Refusal> {
@@ -74,8 +75,8 @@ pub fn count(factor: &Factor, first: u64, last: u64) -> Tally {
     (first..=last).fold(Tally::default(), |tally, x| tally + Tally::one(product_once(factor, x).mark))
 }
 
-/// The same, from the values: a value's significands are those that Ch takes to it. Those of them are right that both ends take to it,
-/// and those wrong that the lower end takes past it or the upper end not up to it.
+/// The same, from the sizes' values: a value's significands are those that Ch takes to it. Those of them are right that both ends take to
+/// it, and those wrong that the lower end takes past it or the upper end not up to it.
 pub fn count_by_values(factor: &Factor, first: u64, last: u64) -> Tally {
     let (least, greatest) = (least(factor.bits), greatest(factor.bits));
     let high = factor.high << (63 - factor.bits);
@@ -157,8 +158,11 @@ mod tests {
             for high in least(bits)..=1 << bits {
                 let factor = of_high(bits, high);
                 for x in least(bits)..=greatest(bits) {
-                    let Product { significand, binade, direction, .. } = product_once(&factor, x);
+                    let Product { significand, binade, direction, minus, .. } = product_once(&factor, x);
                     assert_eq!((significand, binade, direction), by_trial(bits, high, x), "{bits} {high} {x}");
+                    assert!(!minus);
+                    let below = product_once(&factor.opposite(), x);
+                    assert_eq!(below, product_once(&factor, x).mirrored(), "{bits} -{high} {x}");
                 }
             }
         }
@@ -186,9 +190,9 @@ mod tests {
     fn tallies_of_every_range() {
         use crate::random::{given, Random, KINDS};
         let mut random = Random::new(10);
-        for i in 0..4000 {
+        for i in 0..5400 {
             let g = given(&mut random, 4 + (i / KINDS % 2) as u32, i % (KINDS - 1));
-            let Ok(factor) = crate::factor::set_up(g.bits, g.scale, g.lower, g.upper) else { continue };
+            let Ok(factor) = g.set_up() else { continue };
             let (least, greatest) = (least(g.bits), greatest(g.bits));
             for first in least..=greatest {
                 for last in first..=greatest {

@@ -1,15 +1,28 @@
 //! The quotient of a significand or of a reading by the high part, with the machine's own divisions (document 02, W1).
 
 use crate::factor::{greatest, least, Factor, Refusal};
-use crate::reading::{put_on, taken, Number};
+use crate::reading::{number, put_on, taken, Number};
 use crate::rounding::{nearest, Direction, Dyadic};
 
 #[derive(Clone, Copy, Debug, PartialEq, Eq)]
 pub struct Quotient {
     pub significand: u64,
-    /// -1 for [1/2, 1), 0 for [1, 2).
+    /// -1 where the size lies in [1/2, 1), 0 for [1, 2).
     pub binade: i64,
     pub direction: Direction,
+    pub minus: bool,
+}
+
+impl Quotient {
+    /// The quotient as a number of the machine, at 24 bits.
+    pub fn number(self) -> f32 {
+        number(self.minus, self.significand, self.binade)
+    }
+
+    /// The quotient by the factor of the other sign (document 02, W5): the law, to which quotients of either sign are held.
+    pub fn mirrored(self) -> Quotient {
+        Quotient { direction: self.direction.mirrored(), minus: !self.minus, ..self }
+    }
 }
 
 pub fn divide(factor: &Factor, x: u64) -> Result<Quotient, Refusal> {
@@ -17,45 +30,51 @@ pub fn divide(factor: &Factor, x: u64) -> Result<Quotient, Refusal> {
     Ok(quotient(factor, x))
 }
 
-/// The quotient by an intact factor of a significand that 17 does not refuse: one binary64 division, rounded again to n bits.
-/// Rounding twice does no harm, since 53 is at least 2n + 2: the exact quotient is never a midpoint of n bits, and from
-/// each it is at least 2^-(2n + 1) away, while the division is off by 2^-53 at most. The direction compares
-/// the quotient with X / H, both times H and over the quotient's places.
+/// The quotient by an intact factor of a significand that 17 does not refuse: one binary64 division by the high part with its sign,
+/// rounded again to n bits. Rounding twice does no harm, since 53 is at least 2n + 2: the exact quotient is never a midpoint of n bits, and
+/// from each it is at least 2^-(2n + 1) away, while the division is off by 2^-53 at most. The direction compares the quotient with X / H,
+/// where a minus of H is put on X: both times the size of H and over the quotient's places.
 pub fn quotient(factor: &Factor, x: u64) -> Quotient {
-    let value = x as f64 / factor.high as f64;
+    let value = x as f64 / factor.signed(factor.high as f64);
     // From 1/2 on a binary64 number has no more than 53 places.
     let whole = (value * 2f64.powi(53)) as i64;
     let rounded = nearest(factor.bits, Dyadic::new(whole as i128, 53));
     let binade = factor.bits as i32 - 1 - rounded.places;
-    assert!(binade == -1 || binade == 0, "the quotient lies in [1/2, 2)");
-    let significand = rounded.whole as u64;
-    let direction = Direction::of((significand * factor.high).cmp(&(x << rounded.places)));
-    Quotient { significand, binade: binade as i64, direction }
-}
-
-/// A zero's quotient is the machine's own by the high part, which tells its sign (W3).
-pub fn divide_reading(factor: &Factor, reading: u32) -> Result<Number, Refusal> {
-    match taken(factor, reading)? {
-        None => Ok(Number::equal((f32::from_bits(reading) / f32::from_bits(factor.high_float)).to_bits())),
-        Some(fraction) => put_on(machine(factor, fraction), reading, -factor.scale),
+    assert!(binade == -1 || binade == 0, "the quotient's size lies in [1/2, 2)");
+    let exact = factor.signed(x as i128) << rounded.places;
+    Quotient {
+        significand: rounded.whole.unsigned_abs() as u64,
+        binade: binade as i64,
+        direction: Direction::of((rounded.whole * factor.high as i128).cmp(&exact)),
+        minus: rounded.whole < 0,
     }
 }
 
-/// The quotient, in [1/2, 2), of the significand whose fraction bits are given, and its direction: one binary32 division. The quotient
-/// times the high part is a binary64 number.
-pub fn machine(factor: &Factor, fraction: u32) -> (f32, Direction) {
-    let (x, high) = (f32::from_bits(0x3F80_0000 | fraction), f32::from_bits(factor.high_float));
-    let value = x / high;
-    (value, Direction::of_exact(value as f64 * high as f64, x as f64))
+/// A zero's quotient is the machine's own by the high part, which tells its sign (W3 and W5).
+pub fn divide_reading(factor: &Factor, reading: u32) -> Result<Number, Refusal> {
+    let Some(x) = taken(factor, reading)? else {
+        return Ok(Number::equal((f32::from_bits(reading) / factor.high_number()).to_bits()));
+    };
+    let (quotient, direction) = machine(factor, x);
+    Ok(Number { bits: put_on(quotient, reading, -factor.scale)?, direction })
 }
 
-/// Whether the quotient is the number of n bits nearest to X / H, and no other is as near: by whole numbers.
+/// The quotient, its size in [1/2, 2), of a significand of either sign, and its direction: one binary32 division by the high part with its
+/// sign. The quotient times the size of the high part is a binary64 number; the minus is put on x.
+pub fn machine(factor: &Factor, x: f32) -> (f32, Direction) {
+    let high = factor.high_number();
+    let value = x / high;
+    (value, Direction::of_exact(value as f64 * high.abs() as f64, x as f64 * high.signum() as f64))
+}
+
+/// Whether the quotient is the number of n bits nearest to X / H, and no other is as near: by whole numbers, with their signs.
 pub fn is_nearest(factor: &Factor, x: u64) -> bool {
-    let Quotient { significand, binade, .. } = quotient(factor, x);
-    let exact = x << (factor.bits as i64 - 1 - binade);
+    let Quotient { significand, binade, minus, .. } = quotient(factor, x);
+    let exact = factor.signed(x as i128) << (factor.bits as i64 - 1 - binade);
+    let ours = significand as i128 * if minus { -1 } else { 1 };
     least(factor.bits) <= significand
         && significand <= greatest(factor.bits)
-        && 2 * exact.abs_diff(significand * factor.high) < factor.high
+        && 2 * exact.abs_diff(ours * factor.high as i128) < factor.high as u128
 }
 
 /// Significands whose quotients lie as near to a midpoint as any does, in either binade and on either side, where there are such.
@@ -85,6 +104,7 @@ pub fn near_midpoints(factor: &Factor) -> Vec<u64> {
 #[cfg(test)]
 mod tests {
     use super::*;
+    use crate::directions::of_quotient;
     use crate::factor::{of_high, set_up};
     use crate::random::{given, Random, KINDS, KNOWN};
 
@@ -98,7 +118,7 @@ mod tests {
         let nearest = all().min_by_key(apart).expect("some number");
         assert_eq!(all().filter(|q| apart(q) == apart(&nearest)).count(), 1, "a tie");
         let (significand, binade) = nearest;
-        Quotient { significand, binade, direction: Direction::of(over(&nearest).cmp(&exact)) }
+        Quotient { significand, binade, direction: Direction::of(over(&nearest).cmp(&exact)), minus: false }
     }
 
     #[test]
@@ -108,7 +128,9 @@ mod tests {
                 let factor = of_high(bits, high);
                 assert_eq!(factor.high, high);
                 for x in least(bits)..=greatest(bits) {
-                    assert_eq!(quotient(&factor, x), by_trial(bits, high, x), "{bits} {high} {x}");
+                    let due = by_trial(bits, high, x);
+                    assert_eq!(quotient(&factor, x), due, "{bits} {high} {x}");
+                    assert_eq!(quotient(&factor.opposite(), x), due.mirrored(), "{bits} -{high} {x}");
                 }
             }
         }
@@ -119,12 +141,13 @@ mod tests {
     fn agrees_with_the_machine_at_24_bits() {
         let mut random = Random::new(6);
         for (_, scale, lower, upper) in KNOWN {
-            let factor = set_up(24, scale, lower, upper).expect("an accepted factor");
-            for x in (0..300_000).map(|_| random.from_to(least(24), greatest(24))).chain(near_midpoints(&factor)) {
-                let whole = quotient(&factor, x);
-                let expected = whole.significand as f32 * 2f32.powi(whole.binade as i32 - 23);
-                assert_eq!(machine(&factor, (x - least(24)) as u32), (expected, whole.direction));
-                assert!(is_nearest(&factor, x));
+            for factor in [false, true].map(|minus| set_up(minus, 24, scale, lower, upper).expect("an accepted factor"))
+            {
+                for x in (0..300_000).map(|_| random.from_to(least(24), greatest(24))).chain(near_midpoints(&factor)) {
+                    let whole = quotient(&factor, x);
+                    assert_eq!(machine(&factor, number(false, x, 0)), (whole.number(), whole.direction));
+                    assert!(is_nearest(&factor, x));
+                }
             }
         }
     }
@@ -146,24 +169,24 @@ mod tests {
         assert!(found > 500, "{found}");
     }
 
-    /// One binary32 division of the whole reading by Ch × 2^k, where the quotient is not refused; and 23 where it lies outside.
+    /// One binary32 division of the whole reading by Ch × 2^k, sign included, where the quotient is not refused; and 23 where it lies outside.
     #[test]
     fn agrees_with_a_division_of_the_whole_reading() {
         let mut random = Random::new(7);
         let mut refused = [0, 0];
-        for i in 0..400_000 {
+        for i in 0..540_000 {
             let g = given(&mut random, 24, i % (KINDS - 1));
-            let Ok(factor) = set_up(24, g.scale, g.lower, g.upper) else { continue };
+            let Ok(factor) = g.set_up() else { continue };
             let reading = f32::from_bits(random.word() as u32);
             if !reading.is_normal() {
                 continue;
             }
-            let applied = f32::from_bits(factor.high_float) * 2f32.powi(factor.scale);
+            let applied = factor.applied();
             match divide_reading(&factor, reading.to_bits()) {
                 Ok(Number { bits, direction }) => {
                     assert_eq!(bits, (reading / applied).to_bits());
-                    let back = f32::from_bits(bits) as f64 * applied as f64;
-                    assert_eq!(direction, Direction::of_exact(back, reading as f64), "{factor:X?} {reading}");
+                    let by_machine = of_quotient(&factor, reading, f32::from_bits(bits));
+                    assert_eq!(direction, by_machine, "{factor:X?} {reading}");
                 }
                 Err(refusal) => {
                     assert_eq!(refusal, 23);

@@ -1,4 +1,6 @@
-//! Pseudo-random numbers, the same in every run, and factors of many kinds.
+//! Pseudo-random numbers, the same in every run, and factors of many kinds and of both signs.
+
+use crate::factor::{self, Factor, Refusal};
 
 pub struct Random {
     state: u64,
@@ -41,19 +43,29 @@ impl Random {
 const ONE: u64 = 1 << 62;
 const LAST: u64 = (1 << 63) - 1;
 
-/// What a factor is set up from.
+/// What a factor is set up from: `minus` is 0 for one above zero, and anything else for one below.
 #[derive(Clone, Copy, Debug)]
 pub struct Given {
+    pub minus: u32,
     pub bits: u32,
     pub scale: i32,
     pub lower: u64,
     pub upper: u64,
 }
 
+impl Given {
+    pub fn set_up(self) -> Result<Factor, Refusal> {
+        factor::set_up(self.minus != 0, self.bits, self.scale, self.lower, self.upper)
+    }
+}
+
 pub const KINDS: u64 = 10;
 
-/// Ends of a kind: random, short, near ties of either part, extreme, ratios, products near midpoints, and any words at all.
+/// Ends of a kind: random, short, near ties of either part, extreme, ratios, products near midpoints, and any words at all. One factor of
+/// four is below zero.
 pub fn given(random: &mut Random, bits: u32, kind: u64) -> Given {
+    let word = random.word() as u32;
+    let minus = if random.below(4) == 0 { random.one_of(&[1, 1, 2, 1 << 31, u32::MAX, word]) } else { 0 };
     let mut scale = random.from_to(0, 200) as i32 - 100;
     let near = |random: &mut Random, end: u64| (end + random.below(3)).saturating_sub(1).clamp(ONE, LAST);
     let lower = match kind {
@@ -118,9 +130,9 @@ pub fn given(random: &mut Random, bits: u32, kind: u64) -> Given {
         let lower = any(random);
         let upper = if random.below(3) == 0 { lower } else { any(random) };
         let bits = random.one_of(&[bits, bits, bits, 0, 3, 4, 24, 25, 32, 53, 1 << 31, u32::MAX]);
-        return Given { bits, scale, lower, upper };
+        return Given { minus, bits, scale, lower, upper };
     }
-    Given { bits, scale, lower, upper }
+    Given { minus, bits, scale, lower, upper }
 }
 
 /// The factors that document 01's readers know: 1/pi, pi, ln 2, the square root of 2, 2.54 and 4/3, each between two ends.
