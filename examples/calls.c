@@ -28,20 +28,22 @@ int main(void) {
     uint64_t state[GUSNALIP_STATE_WORDS];
     uint64_t counts[GUSNALIP_COUNT_WORDS];
     uint32_t list[2] = {7, 7};
+    int i;
 
     /* 3/2 at 4 bits, and at 24 for readings. */
-    due("precision 3", gusnalip_set_up(3, 0, three_halves, three_halves, factor, GUSNALIP_FACTOR_WORDS), 11);
-    due("3/2", gusnalip_set_up(4, 0, three_halves, three_halves, factor, GUSNALIP_FACTOR_WORDS), GUSNALIP_ACCEPTED);
+    due("precision 3", gusnalip_set_up(GUSNALIP_PLUS, 3, 0, three_halves, three_halves, factor, GUSNALIP_FACTOR_WORDS), 11);
+    due("3/2", gusnalip_set_up(GUSNALIP_PLUS, 4, 0, three_halves, three_halves, factor, GUSNALIP_FACTOR_WORDS), GUSNALIP_ACCEPTED);
     due("3/2 times 9", gusnalip_multiply(factor, GUSNALIP_FACTOR_WORDS, 9, product, GUSNALIP_PRODUCT_WORDS), GUSNALIP_RIGHT);
     due("its significand", product[0], 14);
     due("its binade", product[1], 0);
     due("its direction, a tie that went up", product[2], GUSNALIP_ABOVE);
+    due("its sign", product[3], GUSNALIP_PLUS);
     due("no room", gusnalip_multiply(factor, GUSNALIP_FACTOR_WORDS, 14, product, GUSNALIP_PRODUCT_WORDS - 1), GUSNALIP_TOO_SHORT);
-    factor[5] += (uint64_t)1 << 32;
+    factor[6] += (uint64_t)1 << 32;
     due("damage", gusnalip_multiply(factor, GUSNALIP_FACTOR_WORDS, 14, product, GUSNALIP_PRODUCT_WORDS), GUSNALIP_DAMAGED);
     due("the significand as it was", product[0], 14);
     due("the direction as it was", product[2], GUSNALIP_ABOVE);
-    due("3/2 at 24 bits", gusnalip_set_up(24, -1, three_halves, three_halves, factor, GUSNALIP_FACTOR_WORDS), GUSNALIP_ACCEPTED);
+    due("3/2 at 24 bits", gusnalip_set_up(GUSNALIP_PLUS, 24, -1, three_halves, three_halves, factor, GUSNALIP_FACTOR_WORDS), GUSNALIP_ACCEPTED);
     due("3/4 times 1", gusnalip_read(factor, GUSNALIP_FACTOR_WORDS, 0x3F800000, reading, GUSNALIP_READING_WORDS), GUSNALIP_RIGHT);
     due("its bits", reading[0], 0x3F400000);
     due("its direction", reading[1], GUSNALIP_EQUAL);
@@ -51,11 +53,12 @@ int main(void) {
     due("its bits, the low part being zero", reading[0], 0);
 
     /* Dividing: by 3/2 at 4 bits; by 2, the high part of the last fraction; by 3/4 at 24 bits, and by 1/pi: from the diameter 1/2 to the girth pi/2. */
-    due("3/2 again", gusnalip_set_up(4, 0, three_halves, three_halves, factor, GUSNALIP_FACTOR_WORDS), GUSNALIP_ACCEPTED);
+    due("3/2 again", gusnalip_set_up(GUSNALIP_PLUS, 4, 0, three_halves, three_halves, factor, GUSNALIP_FACTOR_WORDS), GUSNALIP_ACCEPTED);
     due("15 by 3/2", gusnalip_divide(factor, GUSNALIP_FACTOR_WORDS, 15, quotient, GUSNALIP_QUOTIENT_WORDS), GUSNALIP_ACCEPTED);
     due("its significand", quotient[0], 10);
     due("its binade", quotient[1], 0);
     due("its direction", quotient[2], GUSNALIP_EQUAL);
+    due("its sign", quotient[3], GUSNALIP_PLUS);
     due("14 by 3/2", gusnalip_divide(factor, GUSNALIP_FACTOR_WORDS, 14, quotient, GUSNALIP_QUOTIENT_WORDS), GUSNALIP_ACCEPTED);
     due("its significand", quotient[0], 9);
     due("its direction", quotient[2], GUSNALIP_BELOW);
@@ -66,16 +69,16 @@ int main(void) {
     due("no room", gusnalip_divide(factor, GUSNALIP_FACTOR_WORDS, 12, quotient, GUSNALIP_QUOTIENT_WORDS - 1), GUSNALIP_TOO_SHORT);
     due("16 by 3/2", gusnalip_divide(factor, GUSNALIP_FACTOR_WORDS, 16, quotient, GUSNALIP_QUOTIENT_WORDS), 17);
     due("a reading at 4 bits", gusnalip_divide_reading(factor, GUSNALIP_FACTOR_WORDS, 0x7F800000, reading, GUSNALIP_READING_WORDS), 20);
-    factor[3] += 1;
+    factor[4] += 1;
     due("damage", gusnalip_divide(factor, GUSNALIP_FACTOR_WORDS, 16, quotient, GUSNALIP_QUOTIENT_WORDS), GUSNALIP_DAMAGED);
     due("the significand as it was", quotient[0], 11);
     due("the binade as it was", quotient[1], minus_one);
     due("the direction as it was", quotient[2], GUSNALIP_ABOVE);
-    due("nearly 2", gusnalip_set_up(4, 0, last_end, last_end, factor, GUSNALIP_FACTOR_WORDS), GUSNALIP_ACCEPTED);
+    due("nearly 2", gusnalip_set_up(GUSNALIP_PLUS, 4, 0, last_end, last_end, factor, GUSNALIP_FACTOR_WORDS), GUSNALIP_ACCEPTED);
     due("9 by 2", gusnalip_divide(factor, GUSNALIP_FACTOR_WORDS, 9, quotient, GUSNALIP_QUOTIENT_WORDS), GUSNALIP_ACCEPTED);
     due("its significand", quotient[0], 9);
     due("its binade", quotient[1], minus_one);
-    due("3/4", gusnalip_set_up(24, -1, three_halves, three_halves, factor, GUSNALIP_FACTOR_WORDS), GUSNALIP_ACCEPTED);
+    due("3/4", gusnalip_set_up(GUSNALIP_PLUS, 24, -1, three_halves, three_halves, factor, GUSNALIP_FACTOR_WORDS), GUSNALIP_ACCEPTED);
     due("1 by 3/4", gusnalip_divide_reading(factor, GUSNALIP_FACTOR_WORDS, 0x3F800000, reading, GUSNALIP_READING_WORDS), GUSNALIP_ACCEPTED);
     due("its bits", reading[0], 0x3FAAAAAB);
     due("its direction", reading[1], GUSNALIP_ABOVE);
@@ -93,15 +96,15 @@ int main(void) {
     due("its direction, a zero", reading[1], GUSNALIP_EQUAL);
     due("plus zero by 3/4", gusnalip_divide_reading(factor, GUSNALIP_FACTOR_WORDS, 0, reading, GUSNALIP_READING_WORDS), GUSNALIP_ACCEPTED);
     due("its bits, the low part being zero", reading[0], 0);
-    due("1/pi", gusnalip_set_up(24, -2, below_4_over_pi, below_4_over_pi + 1, factor, GUSNALIP_FACTOR_WORDS), GUSNALIP_ACCEPTED);
+    due("1/pi", gusnalip_set_up(GUSNALIP_PLUS, 24, -2, below_4_over_pi, below_4_over_pi + 1, factor, GUSNALIP_FACTOR_WORDS), GUSNALIP_ACCEPTED);
     due("1/2 by 1/pi", gusnalip_divide_reading(factor, GUSNALIP_FACTOR_WORDS, 0x3F000000, reading, GUSNALIP_READING_WORDS), GUSNALIP_ACCEPTED);
     due("its bits", reading[0], 0x3FC90FDB);
     due("its direction", reading[1], GUSNALIP_BELOW);
-    factor[8] += (uint64_t)1 << 32;
+    factor[9] += (uint64_t)1 << 32;
     due("damage", gusnalip_divide_reading(factor, GUSNALIP_FACTOR_WORDS, 0x7F800000, reading, GUSNALIP_READING_WORDS), GUSNALIP_DAMAGED);
 
     /* The one-step device: 19/16 - 2^-20 at 4 bits, its high part being 9/8. 8 is right, 15 is wrong, and so are 4 of each in all. */
-    due("19/16 - 2^-20 for one step", gusnalip_set_up(4, 0, below_19_16, below_19_16, factor, GUSNALIP_FACTOR_WORDS), GUSNALIP_ACCEPTED);
+    due("19/16 - 2^-20 for one step", gusnalip_set_up(GUSNALIP_PLUS, 4, 0, below_19_16, below_19_16, factor, GUSNALIP_FACTOR_WORDS), GUSNALIP_ACCEPTED);
     due("8 in one step", gusnalip_multiply_once(factor, GUSNALIP_FACTOR_WORDS, 8, product, GUSNALIP_PRODUCT_WORDS), GUSNALIP_RIGHT);
     due("its significand", product[0], 9);
     due("its binade", product[1], 0);
@@ -130,17 +133,17 @@ int main(void) {
     due("a tally past the last", gusnalip_tally(factor, GUSNALIP_FACTOR_WORDS, 8, 16, tally, GUSNALIP_TALLY_WORDS), 17);
     due("a tally backwards", gusnalip_tally(factor, GUSNALIP_FACTOR_WORDS, 15, 8, tally, GUSNALIP_TALLY_WORDS), 17);
     due("the right ones as they were", tally[0], 1);
-    factor[3] += 1;
+    factor[4] += 1;
     due("damage", gusnalip_tally(factor, GUSNALIP_FACTOR_WORDS, 15, 8, tally, GUSNALIP_TALLY_WORDS), GUSNALIP_DAMAGED);
     due("damage", gusnalip_multiply_once(factor, GUSNALIP_FACTOR_WORDS, 16, product, GUSNALIP_PRODUCT_WORDS), GUSNALIP_DAMAGED);
-    due("23/18", gusnalip_set_up(4, 0, below_23_18, below_23_18 + 1, factor, GUSNALIP_FACTOR_WORDS), GUSNALIP_ACCEPTED);
+    due("23/18", gusnalip_set_up(GUSNALIP_PLUS, 4, 0, below_23_18, below_23_18 + 1, factor, GUSNALIP_FACTOR_WORDS), GUSNALIP_ACCEPTED);
     due("its tally", gusnalip_tally(factor, GUSNALIP_FACTOR_WORDS, 8, 15, tally, GUSNALIP_TALLY_WORDS), GUSNALIP_ACCEPTED);
     due("right ones", tally[0], 5);
     due("wrong ones", tally[1], 2);
     due("open ones", tally[2], 1);
 
     /* 1/pi for readings; one tally takes 65,536 significands, and not one more. */
-    due("1/pi for one step", gusnalip_set_up(24, -2, below_4_over_pi, below_4_over_pi + 1, factor, GUSNALIP_FACTOR_WORDS), GUSNALIP_ACCEPTED);
+    due("1/pi for one step", gusnalip_set_up(GUSNALIP_PLUS, 24, -2, below_4_over_pi, below_4_over_pi + 1, factor, GUSNALIP_FACTOR_WORDS), GUSNALIP_ACCEPTED);
     due("-1 in one step", gusnalip_read_once(factor, GUSNALIP_FACTOR_WORDS, 0xBF800000, reading, GUSNALIP_READING_WORDS), GUSNALIP_RIGHT);
     due("its bits", reading[0], 0xBEA2F983);
     due("its direction, the high part itself", reading[1], GUSNALIP_EQUAL);
@@ -161,12 +164,12 @@ int main(void) {
     due("all of them", tally[0] + tally[1] + tally[2], GUSNALIP_TALLY_LONGEST);
     due("65,537", gusnalip_tally(factor, GUSNALIP_FACTOR_WORDS, 8388608, 8454144, tally, GUSNALIP_TALLY_WORDS), 41);
     due("more, from outside", gusnalip_tally(factor, GUSNALIP_FACTOR_WORDS, 8388607, 16777215, tally, GUSNALIP_TALLY_WORDS), 17);
-    factor[8] += (uint64_t)1 << 32;
+    factor[9] += (uint64_t)1 << 32;
     due("damage", gusnalip_read_once(factor, GUSNALIP_FACTOR_WORDS, 0x7F800000, reading, GUSNALIP_READING_WORDS), GUSNALIP_DAMAGED);
 
     /* pi, whose low part is negative: a zero keeps its sign there too, where the sum of the two steps' zeros would lose it. */
-    due("pi", gusnalip_set_up(24, 1, below_pi_over_2, below_pi_over_2 + 1, factor, GUSNALIP_FACTOR_WORDS), GUSNALIP_ACCEPTED);
-    due("its low part is negative", factor[4] >> 63, 1);
+    due("pi", gusnalip_set_up(GUSNALIP_PLUS, 24, 1, below_pi_over_2, below_pi_over_2 + 1, factor, GUSNALIP_FACTOR_WORDS), GUSNALIP_ACCEPTED);
+    due("its low part is negative", factor[5] >> 63, 1);
     due("pi times minus zero", gusnalip_read(factor, GUSNALIP_FACTOR_WORDS, 0x80000000, reading, GUSNALIP_READING_WORDS), GUSNALIP_RIGHT);
     due("its bits, the low part being negative", reading[0], 0x80000000);
     due("pi times minus zero in one step", gusnalip_read_once(factor, GUSNALIP_FACTOR_WORDS, 0x80000000, reading, GUSNALIP_READING_WORDS), GUSNALIP_RIGHT);
@@ -181,14 +184,14 @@ int main(void) {
     due("its bits, the low part being negative", reading[0], 0);
 
     /* On which side the last rounding fell: 4/3 at 4 bits, and 1.57 times 1/pi, which comes down in two steps and goes up to the same in one. */
-    due("4/3", gusnalip_set_up(4, 0, below_4_3, below_4_3 + 1, factor, GUSNALIP_FACTOR_WORDS), GUSNALIP_ACCEPTED);
+    due("4/3", gusnalip_set_up(GUSNALIP_PLUS, 4, 0, below_4_3, below_4_3 + 1, factor, GUSNALIP_FACTOR_WORDS), GUSNALIP_ACCEPTED);
     due("4/3 times 8", gusnalip_multiply(factor, GUSNALIP_FACTOR_WORDS, 8, product, GUSNALIP_PRODUCT_WORDS), GUSNALIP_RIGHT);
     due("its direction", product[2], GUSNALIP_ABOVE);
     due("4/3 times 9", gusnalip_multiply(factor, GUSNALIP_FACTOR_WORDS, 9, product, GUSNALIP_PRODUCT_WORDS), GUSNALIP_RIGHT);
     due("its direction", product[2], GUSNALIP_EQUAL);
     due("4/3 times 10", gusnalip_multiply(factor, GUSNALIP_FACTOR_WORDS, 10, product, GUSNALIP_PRODUCT_WORDS), GUSNALIP_RIGHT);
     due("its direction", product[2], GUSNALIP_BELOW);
-    due("1/pi for directions", gusnalip_set_up(24, -2, below_4_over_pi, below_4_over_pi + 1, factor, GUSNALIP_FACTOR_WORDS), GUSNALIP_ACCEPTED);
+    due("1/pi for directions", gusnalip_set_up(GUSNALIP_PLUS, 24, -2, below_4_over_pi, below_4_over_pi + 1, factor, GUSNALIP_FACTOR_WORDS), GUSNALIP_ACCEPTED);
     due("1.57", gusnalip_read(factor, GUSNALIP_FACTOR_WORDS, 0x3FC8F5C3, reading, GUSNALIP_READING_WORDS), GUSNALIP_RIGHT);
     due("its bits", reading[0], 0x3EFFDEC7);
     due("its direction", reading[1], GUSNALIP_BELOW);
@@ -209,14 +212,119 @@ int main(void) {
     due("its direction, mirrored", reading[1], GUSNALIP_BELOW);
 
     /* 19/16 - 2^-20 at 4 bits: its one suspect, 8, is wrong. */
-    due("19/16 - 2^-20", gusnalip_set_up(4, 0, below_19_16, below_19_16, factor, GUSNALIP_FACTOR_WORDS), GUSNALIP_ACCEPTED);
+    due("19/16 - 2^-20", gusnalip_set_up(GUSNALIP_PLUS, 4, 0, below_19_16, below_19_16, factor, GUSNALIP_FACTOR_WORDS), GUSNALIP_ACCEPTED);
     due("a new sweep", gusnalip_new_sweep(factor, GUSNALIP_FACTOR_WORDS, 8, 15, state, GUSNALIP_STATE_WORDS), GUSNALIP_ACCEPTED);
     due("a call", gusnalip_sweep(state, GUSNALIP_STATE_WORDS, 100, list, 2, 1, counts, GUSNALIP_COUNT_WORDS), GUSNALIP_ACCEPTED);
     due("its trials", counts[0], 1);
     due("its place", counts[2], 2);
     due("the list before the free place", list[0], 7);
     due("the word of 8", list[1], 16);
-    due("finished", state[12], 1);
+    due("finished", state[13], 1);
     due("a further call", gusnalip_sweep(state, GUSNALIP_STATE_WORDS, 100, list, 2, 1, counts, GUSNALIP_COUNT_WORDS), 33);
+
+    /* Below zero: -3/2 at 4 bits, set up with a minus that is not 1. Words of the size, signs and directions mirrored. */
+    due("precision 3 below zero", gusnalip_set_up(2, 3, 0, three_halves, three_halves, factor, GUSNALIP_FACTOR_WORDS), 11);
+    due("no room", gusnalip_set_up(2, 4, 0, three_halves, three_halves, factor, GUSNALIP_FACTOR_WORDS - 1), GUSNALIP_TOO_SHORT);
+    due("-3/2", gusnalip_set_up(2, 4, 0, three_halves, three_halves, factor, GUSNALIP_FACTOR_WORDS), GUSNALIP_ACCEPTED);
+    due("its sign", factor[0], GUSNALIP_MINUS);
+    due("its precision", factor[1], 4);
+    due("its lower end", factor[2], three_halves);
+    due("its high significand", factor[4], 12);
+    due("its high float, which is positive", factor[7], 0x3FC00000);
+    due("-3/2 times 9", gusnalip_multiply(factor, GUSNALIP_FACTOR_WORDS, 9, product, GUSNALIP_PRODUCT_WORDS), GUSNALIP_RIGHT);
+    due("its significand", product[0], 14);
+    due("its binade", product[1], 0);
+    due("its direction, a tie that went down", product[2], GUSNALIP_BELOW);
+    due("its sign", product[3], GUSNALIP_MINUS);
+    due("-3/2 times 14 in one step", gusnalip_multiply_once(factor, GUSNALIP_FACTOR_WORDS, 14, product, GUSNALIP_PRODUCT_WORDS), GUSNALIP_RIGHT);
+    due("its significand", product[0], 10);
+    due("its binade", product[1], 1);
+    due("its direction, a tie that went up", product[2], GUSNALIP_ABOVE);
+    due("its sign", product[3], GUSNALIP_MINUS);
+    due("8 by -3/2", gusnalip_divide(factor, GUSNALIP_FACTOR_WORDS, 8, quotient, GUSNALIP_QUOTIENT_WORDS), GUSNALIP_ACCEPTED);
+    due("its significand", quotient[0], 11);
+    due("its binade", quotient[1], minus_one);
+    due("its direction", quotient[2], GUSNALIP_BELOW);
+    due("its sign", quotient[3], GUSNALIP_MINUS);
+    due("12 by -3/2", gusnalip_divide(factor, GUSNALIP_FACTOR_WORDS, 12, quotient, GUSNALIP_QUOTIENT_WORDS), GUSNALIP_ACCEPTED);
+    due("its direction", quotient[2], GUSNALIP_EQUAL);
+    due("its sign", quotient[3], GUSNALIP_MINUS);
+    due("16 by -3/2", gusnalip_divide(factor, GUSNALIP_FACTOR_WORDS, 16, quotient, GUSNALIP_QUOTIENT_WORDS), 17);
+    due("no room", gusnalip_divide(factor, GUSNALIP_FACTOR_WORDS, 8, quotient, GUSNALIP_QUOTIENT_WORDS - 1), GUSNALIP_TOO_SHORT);
+    due("a word too few", gusnalip_divide(factor, GUSNALIP_FACTOR_WORDS - 1, 8, quotient, GUSNALIP_QUOTIENT_WORDS), GUSNALIP_TOO_SHORT);
+    due("the significand as it was", quotient[0], 8);
+    due("a reading at 4 bits", gusnalip_read(factor, GUSNALIP_FACTOR_WORDS, 0x80000000, reading, GUSNALIP_READING_WORDS), 20);
+
+    /* Any word that is not 0 is a minus, and none is damage. */
+    factor[0] = (uint64_t)1 << 63;
+    due("-3/2 times 9, another minus", gusnalip_multiply(factor, GUSNALIP_FACTOR_WORDS, 9, product, GUSNALIP_PRODUCT_WORDS), GUSNALIP_RIGHT);
+    due("its direction", product[2], GUSNALIP_BELOW);
+    due("its sign", product[3], GUSNALIP_MINUS);
+    factor[0] = GUSNALIP_PLUS;
+    due("3/2 times 9, the minus taken away", gusnalip_multiply(factor, GUSNALIP_FACTOR_WORDS, 9, product, GUSNALIP_PRODUCT_WORDS), GUSNALIP_RIGHT);
+    due("its direction", product[2], GUSNALIP_ABOVE);
+    due("its sign", product[3], GUSNALIP_PLUS);
+    /* The words as they stood before there was a sign. */
+    for (i = 1; i < GUSNALIP_FACTOR_WORDS; i++)
+        factor[i - 1] = factor[i];
+    due("words without a sign", gusnalip_multiply(factor, GUSNALIP_FACTOR_WORDS, 9, product, GUSNALIP_PRODUCT_WORDS), GUSNALIP_DAMAGED);
+
+    /* -(19/16 - 2^-20): tally and sweep are those of the size; the sign in a state is written back as 1 by a call that is accepted. */
+    due("-(19/16 - 2^-20)", gusnalip_set_up(GUSNALIP_MINUS, 4, 0, below_19_16, below_19_16, factor, GUSNALIP_FACTOR_WORDS), GUSNALIP_ACCEPTED);
+    due("its tally", gusnalip_tally(factor, GUSNALIP_FACTOR_WORDS, 8, 15, tally, GUSNALIP_TALLY_WORDS), GUSNALIP_ACCEPTED);
+    due("right ones", tally[0], 4);
+    due("wrong ones", tally[1], 4);
+    factor[0] = 2;
+    due("a new sweep below zero", gusnalip_new_sweep(factor, GUSNALIP_FACTOR_WORDS, 8, 15, state, GUSNALIP_STATE_WORDS), GUSNALIP_ACCEPTED);
+    due("its sign", state[0], GUSNALIP_MINUS);
+    due("its first", state[10], 8);
+    due("no room", gusnalip_new_sweep(factor, GUSNALIP_FACTOR_WORDS, 8, 15, state, GUSNALIP_STATE_WORDS - 1), GUSNALIP_TOO_SHORT);
+    state[0] = minus_one;
+    list[1] = 7;
+    due("cap 0", gusnalip_sweep(state, GUSNALIP_STATE_WORDS, 0, list, 2, 1, counts, GUSNALIP_COUNT_WORDS), 18);
+    due("the sign as it was", state[0], minus_one);
+    due("a word too few", gusnalip_sweep(state, GUSNALIP_STATE_WORDS - 1, 100, list, 2, 1, counts, GUSNALIP_COUNT_WORDS), GUSNALIP_TOO_SHORT);
+    due("a call below zero", gusnalip_sweep(state, GUSNALIP_STATE_WORDS, 100, list, 2, 1, counts, GUSNALIP_COUNT_WORDS), GUSNALIP_ACCEPTED);
+    due("its trials", counts[0], 1);
+    due("the word of 8", list[1], 16);
+    due("the sign", state[0], GUSNALIP_MINUS);
+    due("finished", state[13], 1);
+
+    /* -1/pi on readings, and zeros of both signs; -pi, whose size has a negative low part. */
+    due("-1/pi", gusnalip_set_up(GUSNALIP_MINUS, 24, -2, below_4_over_pi, below_4_over_pi + 1, factor, GUSNALIP_FACTOR_WORDS), GUSNALIP_ACCEPTED);
+    due("1.57", gusnalip_read(factor, GUSNALIP_FACTOR_WORDS, 0x3FC8F5C3, reading, GUSNALIP_READING_WORDS), GUSNALIP_RIGHT);
+    due("its bits", reading[0], 0xBEFFDEC7);
+    due("its direction, mirrored", reading[1], GUSNALIP_ABOVE);
+    due("-1.57", gusnalip_read(factor, GUSNALIP_FACTOR_WORDS, 0xBFC8F5C3, reading, GUSNALIP_READING_WORDS), GUSNALIP_RIGHT);
+    due("its bits", reading[0], 0x3EFFDEC7);
+    due("its direction, mirrored twice", reading[1], GUSNALIP_BELOW);
+    due("1.57 in one step", gusnalip_read_once(factor, GUSNALIP_FACTOR_WORDS, 0x3FC8F5C3, reading, GUSNALIP_READING_WORDS), GUSNALIP_RIGHT);
+    due("its bits", reading[0], 0xBEFFDEC7);
+    due("its direction, mirrored", reading[1], GUSNALIP_BELOW);
+    due("1/2 by -1/pi", gusnalip_divide_reading(factor, GUSNALIP_FACTOR_WORDS, 0x3F000000, reading, GUSNALIP_READING_WORDS), GUSNALIP_ACCEPTED);
+    due("its bits", reading[0], 0xBFC90FDB);
+    due("its direction, mirrored", reading[1], GUSNALIP_ABOVE);
+    due("infinity", gusnalip_read(factor, GUSNALIP_FACTOR_WORDS, 0x7F800000, reading, GUSNALIP_READING_WORDS), 21);
+    due("the least reading", gusnalip_read_once(factor, GUSNALIP_FACTOR_WORDS, 0x00800000, reading, GUSNALIP_READING_WORDS), 23);
+    due("the last reading", gusnalip_divide_reading(factor, GUSNALIP_FACTOR_WORDS, 0x7F7FFFFF, reading, GUSNALIP_READING_WORDS), 23);
+    due("the bits as they were", reading[0], 0xBFC90FDB);
+    for (i = 0; i < 2; i++) {
+        due("plus zero", gusnalip_read(factor, GUSNALIP_FACTOR_WORDS, 0, reading, GUSNALIP_READING_WORDS), GUSNALIP_RIGHT);
+        due("its bits", reading[0], 0x80000000);
+        due("its direction, a zero", reading[1], GUSNALIP_EQUAL);
+        due("minus zero", gusnalip_read(factor, GUSNALIP_FACTOR_WORDS, 0x80000000, reading, GUSNALIP_READING_WORDS), GUSNALIP_RIGHT);
+        due("its bits", reading[0], 0);
+        due("plus zero in one step", gusnalip_read_once(factor, GUSNALIP_FACTOR_WORDS, 0, reading, GUSNALIP_READING_WORDS), GUSNALIP_RIGHT);
+        due("its bits", reading[0], 0x80000000);
+        due("minus zero in one step", gusnalip_read_once(factor, GUSNALIP_FACTOR_WORDS, 0x80000000, reading, GUSNALIP_READING_WORDS), GUSNALIP_RIGHT);
+        due("its bits", reading[0], 0);
+        due("plus zero divided", gusnalip_divide_reading(factor, GUSNALIP_FACTOR_WORDS, 0, reading, GUSNALIP_READING_WORDS), GUSNALIP_ACCEPTED);
+        due("its bits", reading[0], 0x80000000);
+        due("minus zero divided", gusnalip_divide_reading(factor, GUSNALIP_FACTOR_WORDS, 0x80000000, reading, GUSNALIP_READING_WORDS), GUSNALIP_ACCEPTED);
+        due("its bits", reading[0], 0);
+        due("its direction, a zero", reading[1], GUSNALIP_EQUAL);
+        due("-pi", gusnalip_set_up(GUSNALIP_MINUS, 24, 1, below_pi_over_2, below_pi_over_2 + 1, factor, GUSNALIP_FACTOR_WORDS), GUSNALIP_ACCEPTED);
+        due("its low part is that of the size", factor[5] >> 63, 1);
+    }
     return wrong;
 }

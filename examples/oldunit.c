@@ -10,7 +10,7 @@ int main(void)
     uint32_t answer;
 
     /* 1/pi, known between two ends (README: writing a frame). */
-    answer = gusnalip_set_up(24, -2, 0x517CC1B727220A94, 0x517CC1B727220A95, factor, GUSNALIP_FACTOR_WORDS);
+    answer = gusnalip_set_up(GUSNALIP_PLUS, 24, -2, 0x517CC1B727220A94, 0x517CC1B727220A95, factor, GUSNALIP_FACTOR_WORDS);
     if (answer != GUSNALIP_ACCEPTED)
         return printf("the factor is refused with %u\n", answer), 1;
     /* One call takes 65,536 significands; tallies of adjoining ranges add up. */

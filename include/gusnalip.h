@@ -5,19 +5,22 @@
  * GUSNALIP_TOO_SHORT (the list of a sweep may have any length, 0 too: it is refused with 19). Every other answer and every word written
  * is fixed by the function's contract (crates/exports), for any input. Every refusal writes nothing, GUSNALIP_TOO_SHORT included.
  *
- * A factor is GUSNALIP_FACTOR_WORDS words: precision, lower end, upper end, high significand, low significand (two's complement), its
- * places, high and low part as bits of binary32 numbers, scale (two's complement of 32 bits). The words for precision, places, floats
- * and scale are written with an upper half of 0; one with another upper half is damage, and refused with 31. A sweep's state is
- * GUSNALIP_STATE_WORDS words: a factor, then the first, last and next significand, and 0 or any other word for not finished or finished.
- * Further words of either are not looked at.
+ * A factor is GUSNALIP_FACTOR_WORDS words: sign, precision, lower end, upper end, high significand, low significand (two's complement),
+ * its places, high and low part as bits of binary32 numbers, scale (two's complement of 32 bits). The sign is written as GUSNALIP_PLUS or
+ * GUSNALIP_MINUS, and any word that is not 0 is read as a minus. All else is that of the size: a factor below zero has the ends and parts of
+ * the one above, and its high part is stored as a positive number. The words for precision, places, floats and scale are written with an
+ * upper half of 0; one with another upper half is damage, and refused with 31. So are words that were written when factors had no sign: their
+ * lower end stands in the place of the precision. A sweep's state is GUSNALIP_STATE_WORDS words: a factor, then the first, last and next
+ * significand, and 0 or any other word for not finished or finished. Further words of either are not looked at.
  *
- * A reading of zero gives a zero of the reading's own sign, multiplied on either device (marked right) or divided, whatever sign the low
- * part has.
+ * A reading of zero gives a zero, multiplied on either device (marked right) or divided: minus zero where one of reading and factor has a
+ * minus and the other has not, else plus zero, whatever sign the low part has.
  *
  * Products and quotients, those of readings too, are written with the direction of their last rounding: GUSNALIP_BELOW, GUSNALIP_EQUAL or
- * GUSNALIP_ABOVE, as the rounded number lies below, on or above what was rounded, sign included: that of a negative reading is mirrored,
- * and a zero is equal. In two steps Ch * x + u1 is rounded last, not C * x: equal says that this rounding was exact, and not that the
- * product is RN(C * x), which is what the mark tells. In one step it is Ch * x, and divided x / Ch. A refusal has no direction.
+ * GUSNALIP_ABOVE, as the rounded number lies below, on or above what was rounded, sign included: a minus of the reading mirrors it, and so
+ * does one of the factor, and a zero is equal. In two steps Ch * x + u1 is rounded last, not C * x: equal says that this rounding was exact,
+ * and not that the product is RN(C * x), which is what the mark tells. In one step it is Ch * x, and divided x / Ch. A refusal has no
+ * direction. Marks, tallies and sweeps of a factor below zero are those of its size.
  *
  * gusnalip_read asks for the machine's default rounding mode, round to nearest (FE_TONEAREST): with another one that the caller has set,
  * readings whose products lie near a midpoint can come out differently. Nothing else depends on it: quotients and one-step products, those
@@ -28,12 +31,12 @@
 #include <stddef.h>
 #include <stdint.h>
 
-#define GUSNALIP_FACTOR_WORDS 9
-#define GUSNALIP_PRODUCT_WORDS 3
-#define GUSNALIP_QUOTIENT_WORDS 3
+#define GUSNALIP_FACTOR_WORDS 10
+#define GUSNALIP_PRODUCT_WORDS 4
+#define GUSNALIP_QUOTIENT_WORDS 4
 #define GUSNALIP_READING_WORDS 2
 #define GUSNALIP_TALLY_WORDS 3
-#define GUSNALIP_STATE_WORDS 13
+#define GUSNALIP_STATE_WORDS 14
 #define GUSNALIP_COUNT_WORDS 3
 
 #define GUSNALIP_ACCEPTED 0
@@ -43,6 +46,8 @@
 #define GUSNALIP_BELOW 1
 #define GUSNALIP_EQUAL 2
 #define GUSNALIP_ABOVE 3
+#define GUSNALIP_PLUS 0
+#define GUSNALIP_MINUS 1
 #define GUSNALIP_DAMAGED 31
 #define GUSNALIP_TOO_SHORT 255
 
@@ -53,11 +58,12 @@
 extern "C" {
 #endif
 
-/* Sets a factor up: 0 and the factor's words, or a refusal 11 to 16. */
-uint32_t gusnalip_set_up(uint32_t precision, int32_t scale, uint64_t lower, uint64_t upper, uint64_t *out, size_t out_length);
+/* Sets a factor up, above zero where minus is 0 and below it where it is anything else, the ends being those of its size: 0 and the
+ * factor's words, or a refusal 11 to 16. */
+uint32_t gusnalip_set_up(uint32_t minus, uint32_t precision, int32_t scale, uint64_t lower, uint64_t upper, uint64_t *out, size_t out_length);
 
-/* Multiplies a significand: a mark, with the product's significand in out[0], its binade in out[1] and its direction in out[2], or the
- * refusal 31 or 17. */
+/* Multiplies a significand: a mark, with the product's significand in out[0], its binade in out[1], its direction in out[2] and its sign,
+ * which is the factor's, in out[3] (GUSNALIP_PLUS or GUSNALIP_MINUS), or the refusal 31 or 17. */
 uint32_t gusnalip_multiply(const uint64_t *factor, size_t factor_length, uint64_t x, uint64_t *out, size_t out_length);
 
 /* Multiplies a reading given by its bits: a mark, with the bits of the product in out[0] and its direction in out[1], or a refusal 31, 20
@@ -65,7 +71,7 @@ uint32_t gusnalip_multiply(const uint64_t *factor, size_t factor_length, uint64_
 uint32_t gusnalip_read(const uint64_t *factor, size_t factor_length, uint32_t reading, uint32_t *out, size_t out_length);
 
 /* Divides a significand by the factor's high part, which the scale does not change: 0, with the quotient's significand in out[0], its
- * binade in out[1] (two's complement of 64 bits: -1 is all ones) and its direction in out[2], or the refusal 31 or 17. */
+ * binade in out[1] (two's complement of 64 bits: -1 is all ones), its direction in out[2] and its sign in out[3], or the refusal 31 or 17. */
 uint32_t gusnalip_divide(const uint64_t *factor, size_t factor_length, uint64_t x, uint64_t *out, size_t out_length);
 
 /* Divides a reading given by its bits by the factor's high part times 2^scale: 0, with the bits of the quotient in out[0] and its direction
@@ -84,8 +90,8 @@ uint32_t gusnalip_tally(const uint64_t *factor, size_t factor_length, uint64_t f
 /* Begins a sweep: 0 and the state's words, or the refusal 31 or 17. */
 uint32_t gusnalip_new_sweep(const uint64_t *factor, size_t factor_length, uint64_t first, uint64_t last, uint64_t *out, size_t out_length);
 
-/* Goes on with a sweep: 0, with the state handed back in the state's words, the listed words in the list from its first free place on,
- * and trials, rounds and the next first free place in counts; or a refusal 31, 32, 33, 18 or 19, and nothing is written. */
+/* Goes on with a sweep: 0, with the state handed back in the state's words, all of them, the listed words in the list from its first free
+ * place on, and trials, rounds and the next first free place in counts; or a refusal 31, 32, 33, 18 or 19, and nothing is written. */
 uint32_t gusnalip_sweep(uint64_t *state, size_t state_length, uint64_t cap, uint32_t *list, size_t list_length, size_t free, uint64_t *counts,
                         size_t counts_length);
 
