@@ -14,6 +14,8 @@ use Rattle.floats.specs.Fields.{sameFloat}
 use Rattle.factor.specs.declared.Description.{Description}
 use Rattle.factor.specs.declared.Parts.{Parts}
 use Rattle.factor.specs.declared.Applied.{Applied}
+use Rattle.factor.specs.declared.Stored.{Stored}
+use Rattle.factor.specs.declared.StoredAnswer.{StoredAnswer}
 use Rattle.factor.specs.declared.Factor.{Factor}
 use Rattle.factor.specs.declared.SetUp.{SetUp}
 use Rattle.factor.specs.declared.SetUp.the-variants.{Accepted, Refused}
@@ -55,9 +57,16 @@ unfoldable pub appliedOf : Description → Applied
 unfolding Ieee.round
 appliedOf d = record { high = floatIn binary32 (highPart (contextFor d) (d .lower)); low = floatIn binary32 (lowPart (contextFor d) (d .lower)); scale = d .scale }
 
--- the factor: sign, precision, both ends, the parts, and what a handheld applies, these being those of the size
+-- all that is stored of a size
+abbrev pub storedBy : Description → Stored
+storedBy d = record { parts = partsAt (contextFor d) (d .lower); applied = appliedOf d }
+
+-- the factor: sign, precision and both ends as described, and what is stored of the size
+abbrev pub factorWith : Description → Stored → Factor
+factorWith d s = record { minus = d .minus; precision = record { bits = d .precision }; lower = d .lower; upper = d .upper; parts = s .parts; applied = s .applied }
+
 abbrev pub factorOf : Description → Factor
-factorOf d = record { minus = d .minus; precision = record { bits = d .precision }; lower = d .lower; upper = d .upper; parts = partsAt (contextFor d) (d .lower); applied = appliedOf d }
+factorOf d = factorWith d (storedBy d)
 
 -- ---- set-up
 -- the conditions that refuse a description
@@ -71,12 +80,22 @@ conditions d =
     ∷ (16, not (sameLow (partsAt (contextFor d) (d .lower)) (partsAt (contextFor d) (d .upper))))
     ∷ []
 
+-- what is stored, unless one of them holds
+unfoldable pub storedOf : Description → Outcome Stored
+unfolding partsAt appliedOf
+storedOf d = answer (conditions d) (storedBy d)
+
 -- the factor, unless one of them holds
 unfoldable pub setUp : Description → Outcome Factor
 unfolding partsAt appliedOf
 setUp d = answer (conditions d) (factorOf d)
 
--- what each case of set-up's answer says
+-- what each case says
+abbrev pub storedSays : StoredAnswer → Outcome Stored
+storedSays (StoredAnswer.Accepted s) = accepted s
+storedSays (StoredAnswer.Refused k) = refused k
+
+-- and each case of set-up's answer
 abbrev pub outcomeOf : SetUp → Outcome Factor
 outcomeOf (Accepted f) = accepted f
 outcomeOf (Refused k) = refused k
@@ -85,13 +104,13 @@ outcomeOf (Refused k) = refused k
 abbrev pub sameApplied : Applied → Applied → Bool
 sameApplied a b = sameFloat binary32 (a .high) (b .high) && (sameFloat binary32 (a .low) (b .low) && sameZ (a .scale) (b .scale))
 
--- the stored parts of two factors with the same precision and ends; a sign has nothing to compare
-abbrev pub sameFactor : Factor → Factor → Bool
-sameFactor f g = sameHigh (f .parts) (g .parts) && (sameLow (f .parts) (g .parts) && sameApplied (f .applied) (g .applied))
+-- f stores just s; of a sign there is nothing to compare
+abbrev pub storesJust : Factor → Stored → Bool
+storesJust f s = sameHigh (f .parts) (s .parts) && (sameLow (f .parts) (s .parts) && sameApplied (f .applied) (s .applied))
 
--- f is what a set-up gave
-abbrev pub given : Factor → Outcome Factor → Bool
-given f (accepted g) = sameFactor f g
+-- f stores what a set-up stores
+abbrev pub given : Factor → Outcome Stored → Bool
+given f (accepted s) = storesJust f s
 given f (refused k) = false
 
 -- a factor as it would be described
@@ -100,8 +119,8 @@ described f = record { minus = f .minus; precision = f .precision .bits; scale =
 
 -- 31 stands if this is false: the factor's stored parts are those that its ends, precision and scale set up, and those are not refused
 unfoldable pub intact : Factor → Bool
-unfolding setUp
-intact f = given f (setUp (described f))
+unfolding storedOf
+intact f = given f (storedOf (described f))
 
 -- ---- what is known of a factor that was accepted
 pub record Sound (f : Factor) : Type 0 where

@@ -8,17 +8,18 @@ use lib.Ieee.{binary32, toBits}
 use store.Seg.{eqb-same}
 use borrow.Author.Tests.{ltb-false, leb-false, eqb-true, eq-eqb, not-false}
 use Rattle.marks.specs.Answers.{NoneHolds, Outcome, refused, accepted}
-use Rattle.marks.specs.AnswerLaws.{only-accepted, or-false, and-true}
+use Rattle.marks.specs.AnswerLaws.{only-accepted, none-refuses, or-false, and-true}
 use Rattle.floats.specs.Fields.{sameFloat}
 use Rattle.factor.specs.declared.Description.{Description}
 use Rattle.factor.specs.declared.Parts.{Parts}
+use Rattle.factor.specs.declared.Stored.{Stored}
 use Rattle.factor.specs.declared.Factor.{Factor}
 use Rattle.factor.specs.Precision.{leastPrecision, mostPrecision, ValidPrecision, precisionOut}
 use Rattle.factor.specs.Context.{Context, contextFor}
 use Rattle.factor.specs.ContextLaws.{valid-of}
 use Rattle.factor.specs.Parts.{partsAt}
 use Rattle.factor.specs.Ends.{End}
-use Rattle.factor.specs.SetUp.{endOut, sameHigh, sameZ, sameLow, appliedOf, factorOf, conditions, setUp, sameFactor, given, described, intact, Sound}
+use Rattle.factor.specs.SetUp.{endOut, sameHigh, sameZ, sameLow, appliedOf, storedBy, factorWith, factorOf, conditions, storedOf, setUp, storesJust, given, described, intact, Sound}
 
 -- ---- tests
 pub sameZ-true : (x y : ℤ) → sameZ x y ≡ true → x ≡ y
@@ -74,16 +75,17 @@ module _ (f : Factor) (e : intact f ≡ true) where
   abbrev g : Factor
   g = factorOf (described f)
 
-  from-setUp : (s : Outcome Factor) → given f s ≡ true → (h : Factor) × (s ≡ accepted h) × (sameFactor f h ≡ true)
-  from-setUp (accepted h) q = (h, refl, q)
-  from-setUp (refused j) q = absurd (true≢false (sym q))
+  from-stored : (s : Outcome Stored) → given f s ≡ true → (h : Stored) × (s ≡ accepted h) × (storesJust f h ≡ true)
+  from-stored (accepted h) q = (h, refl, q)
+  from-stored (refused j) q = absurd (true≢false (sym q))
 
-  pub intact-accepted : (setUp (described f) ≡ accepted g) × (sameFactor f g ≡ true)
-  unfolding intact
+  pub intact-accepted : (setUp (described f) ≡ accepted g) × (storesJust f (storedBy (described f)) ≡ true)
+  unfolding intact setUp
   intact-accepted =
-      let t = from-setUp (setUp (described f)) e in
-      let same = setUp-sound (described f) (t .0) (t .1) .0 in
-      (t .1 ∙ ap accepted (sym same), subst (λ (h : Factor). sameFactor f h ≡ true) (sym same) (t .2))
+      let d = described f in
+      let t = from-stored (storedOf d) e in
+      let r = only-accepted (conditions d) (storedBy d) (t .0) (t .1) in
+      (none-refuses (conditions d) (factorOf d) (r .0), subst (λ (h : Stored). storesJust f h ≡ true) (sym (r .1)) (t .2))
 
   pub intact-sound : Sound f
   unfolding appliedOf
@@ -107,12 +109,13 @@ module _ (f : Factor) (e : intact f ≡ true) where
 
 -- ---- what set-up gives is let through
 pub accepted-intact : (d : Description) (f : Factor) → setUp d ≡ accepted f → intact f ≡ true
+unfolding setUp
 accepted-intact d f e =
-    let t = setUp-sound d f e .0 in
-    subst (λ (h : Factor). intact h ≡ true) t (own (e ∙ ap accepted (sym t)))
+    let t = only-accepted (conditions d) (factorOf d) f e in
+    subst (λ (h : Factor). intact h ≡ true) (t .1) (own (t .0))
   where
-    itself : (f : Factor) → sameFactor f f ≡ true
-    itself f = simp (eqb-same, sameZ-same)
+    itself : (s : Stored) → storesJust (factorWith d s) s ≡ true
+    itself s = simp (eqb-same, sameZ-same)
 
-    own : setUp d ≡ accepted (factorOf d) → intact (factorOf d) ≡ true
-    own p = unfold intact appliedOf in ap (given (factorOf d)) p ∙ itself (factorOf d)
+    own : NoneHolds (conditions d) → intact (factorOf d) ≡ true
+    own h = unfold intact appliedOf in ap (given (factorOf d)) (none-refuses (conditions d) (storedBy d) h) ∙ itself (storedBy d)

@@ -1,11 +1,12 @@
 -- A factor with another sign (request W5): its conditions and its parts are those of its size, so set-up answers alike with the sign put on, and 31 lets through what it let through. Assumes nothing.
-use mathlib.Core.Path.{_≡_, refl, ap, _∙_}
+use mathlib.Core.Path.{_≡_, refl}
 use mathlib.Core.Bool.{Bool}
 use Rattle.marks.specs.Answers.{Outcome, refused, accepted, each}
 use Rattle.marks.specs.AnswerLaws.{answer-each}
 use Rattle.factor.specs.declared.Description.{Description}
+use Rattle.factor.specs.declared.Stored.{Stored}
 use Rattle.factor.specs.declared.Factor.{Factor}
-use Rattle.factor.specs.SetUp.{factorOf, conditions, setUp, given, described, intact}
+use Rattle.factor.specs.SetUp.{factorOf, conditions, storedOf, setUp, given, described, intact}
 
 -- a factor, and a description, with the sign s; with a plus it is the size
 abbrev pub withSign : Bool → Factor → Factor
@@ -22,8 +23,8 @@ set-up-signed s d = answer-each (withSign s) (conditions d) (factorOf d)
 -- 31 has nothing to compare in a sign
 pub intact-signed : (s : Bool) (f : Factor) → intact (withSign s f) ≡ intact f
 unfolding intact
-intact-signed s f = ap (given (withSign s f)) (set-up-signed s (described f)) ∙ go (setUp (described f))
+intact-signed s f = go (storedOf (described f))
   where
-    go : (o : Outcome Factor) → given (withSign s f) (each (withSign s) o) ≡ given f o
+    go : (o : Outcome Stored) → given (withSign s f) o ≡ given f o
     go (accepted g) = refl
     go (refused k) = refl

@@ -16,7 +16,7 @@ ghost use Rattle.factor.specs.Context.{contextAt};
 ghost use Rattle.factor.specs.UnitParts.{partsFrom};
 ghost use Rattle.factor.specs.Ends.{End};
 ghost use Rattle.factor.specs.Parts.{partsAt};
-ghost use Rattle.factor.specs.SetUp.{endOut, scaleOut, sameLow, sameApplied, sameFactor, setUp, outcomeOf, intact};
+ghost use Rattle.factor.specs.SetUp.{endOut, scaleOut, sameLow, sameApplied, storesJust, storedOf, storedSays, setUp, outcomeOf, intact};
 ghost use Rattle.factor.specs.Stored.{LowStorable, Storable, appliedFrom};
 
 // A factor as an office describes it: sign, precision, scale and both ends, none of them judged yet. The ends describe the size.
@@ -47,6 +47,12 @@ pub struct Applied {
     pub scale: i32,
 }
 
+// What is stored of a factor's size: the parts, and what a handheld applies.
+pub struct Stored {
+    pub parts: Parts,
+    pub applied: Applied,
+}
+
 // A factor: whether it lies below zero (request W5), precision, both ends, the parts, and what a handheld applies. All but the sign are those of the size.
 pub struct Factor {
     pub minus: bool,
@@ -55,6 +61,12 @@ pub struct Factor {
     pub upper: u64,
     pub parts: Parts,
     pub applied: Applied,
+}
+
+// What set-up stores of a size, or one of the refusals 11 to 16.
+enum StoredAnswer {
+    Accepted(Stored),
+    Refused(u32),
 }
 
 // The answer to set-up: the factor, or one of the refusals 11 to 16.
@@ -289,39 +301,54 @@ fn ends_out(p: Precision, lower: u64, upper: u64) -> bool
     end_out(p, upper)
 }
 
-// Set-up: the factor, or the first refusal whose condition holds.
-pub fn set_up(d: Description) -> SetUp
-    ensures { λ r. ⌜ outcomeOf r ≡ setUp d ⌝ }
+// What a description's size sets up, which its sign does not change, or the first refusal whose condition holds.
+fn stored_of(d: Description) -> StoredAnswer
+    ensures { λ r. ⌜ storedSays r ≡ storedOf d ⌝ }
 {
     let PrecisionAnswer::Accepted(precision) = Precision::new(d.precision) else {
-        return SetUp::Refused(11);
+        return StoredAnswer::Refused(11);
     };
     if ends_out(precision, d.lower, d.upper) {
-        return SetUp::Refused(12);
+        return StoredAnswer::Refused(12);
     }
     if d.upper < d.lower {
-        return SetUp::Refused(13);
+        return StoredAnswer::Refused(13);
     }
     if scale_out(d.scale) {
-        return SetUp::Refused(14);
+        return StoredAnswer::Refused(14);
     }
     let parts = parts_at(precision, d.lower);
     let other = parts_at(precision, d.upper);
     if parts.high != other.high {
-        return SetUp::Refused(15);
+        return StoredAnswer::Refused(15);
     }
     if !same_low(parts, other) {
-        return SetUp::Refused(16);
+        return StoredAnswer::Refused(16);
     }
     let applied = stored_parts(precision, parts, d.scale);
-    SetUp::Accepted(Factor {
-        minus: d.minus,
-        precision,
-        lower: d.lower,
-        upper: d.upper,
-        parts,
-        applied,
-    })
+    StoredAnswer::Accepted(Stored { parts, applied })
+}
+
+// Set-up: the factor, or the first refusal whose condition holds.
+pub fn set_up(d: Description) -> SetUp
+    ensures { λ r. ⌜ outcomeOf r ≡ setUp d ⌝ }
+{
+    match stored_of(d) {
+        StoredAnswer::Refused(number) => SetUp::Refused(number),
+        StoredAnswer::Accepted(s) => {
+            let precision = Precision { bits: d.precision };
+            let parts = s.parts;
+            let applied = s.applied;
+            SetUp::Accepted(Factor {
+                minus: d.minus,
+                precision,
+                lower: d.lower,
+                upper: d.upper,
+                parts,
+                applied,
+            })
+        }
+    }
 }
 
 // Whether what is stored is the same bit for bit.
@@ -336,16 +363,16 @@ fn same_applied(a: Applied, b: Applied) -> bool
     false
 }
 
-// Whether two factors of the same precision, scale and ends store the same parts, bit for bit. Of a sign there is nothing to compare.
-fn same_factor(f: Factor, g: Factor) -> bool
-    ensures { λ r. ⌜ r ≡ sameFactor f g ⌝ }
+// Whether a factor stores just this, bit for bit. Of a sign there is nothing to compare.
+fn stores(f: Factor, s: Stored) -> bool
+    ensures { λ r. ⌜ r ≡ storesJust f s ⌝ }
 {
     let p = f.parts;
-    let q = g.parts;
+    let q = s.parts;
     if p.high == q.high {
         if same_low(p, q) {
             let a = f.applied;
-            let b = g.applied;
+            let b = s.applied;
             return same_applied(a, b);
         }
     }
@@ -363,8 +390,8 @@ pub fn is_intact(f: Factor) -> bool
         lower: f.lower,
         upper: f.upper,
     };
-    match set_up(own) {
-        SetUp::Accepted(g) => same_factor(f, g),
-        SetUp::Refused(_) => false,
+    match stored_of(own) {
+        StoredAnswer::Accepted(s) => stores(f, s),
+        StoredAnswer::Refused(_) => false,
     }
 }
