@@ -19,15 +19,13 @@ use sweep::SweepState;
 use tally::Counts;
 use tally::TallyAnswer;
 ghost use mathlib.Core.Path.{_≡_};
-ghost use mathlib.Core.Bool.{not};
 ghost use Prim.Native.Nat.{_≤_};
-ghost use lib.Dec.{eqb};
 ghost use lib.ListN.{length};
 ghost use lib.Seq.{sets};
 ghost use Rattle.product.specs.declared.Device.{Device};
 ghost use Rattle.reading.specs.Reading.{outcomeOf as readingSays};
 ghost use Rattle.sweep.specs.Answers.{viewOf};
-ghost use Rattle.exports.specs.Words.{factorFrom, factorWords, damaged, stateOf, stateWords};
+ghost use Rattle.exports.specs.Words.{flagFrom, factorFrom, factorWords, damaged, stateOf, stateWords};
 ghost use Rattle.exports.specs.Answers.{taken, takenOf, leaves, setUpTo, directionNumber, productWords, quotientWords, readingWords, multiplyTo, readingAnswer, readTo, tallyWords, tallyTo, divideTo, divideReadingTo, newSweepTo, sweepTo};
 
 // So many words have a factor, a product, a quotient, what a reading is answered with, a tally, a sweep's state, and what a sweep call counts.
@@ -274,8 +272,8 @@ pub extern "C" fn gusnalip_set_up(
     upper: u64,
     out: &mut [u64],
 ) -> u32
-    ensures { λ r. ⌜ r ≡ setUpTo (record { minus = not (eqb minus 0); precision = precision; scale = scale; lower = lower; upper = upper }) (now (out .entry)) .number ⌝ }
-    ensures { λ _. ⌜ now (out .exit) ≡ leaves (setUpTo (record { minus = not (eqb minus 0); precision = precision; scale = scale; lower = lower; upper = upper }) (now (out .entry))) (now (out .entry)) ⌝ }
+    ensures { λ r. ⌜ r ≡ setUpTo (record { minus = flagFrom minus; precision = precision; scale = scale; lower = lower; upper = upper }) (now (out .entry)) .number ⌝ }
+    ensures { λ _. ⌜ now (out .exit) ≡ leaves (setUpTo (record { minus = flagFrom minus; precision = precision; scale = scale; lower = lower; upper = upper }) (now (out .entry))) (now (out .entry)) ⌝ }
 {
     if out.len() < FACTOR_WORDS {
         return TOO_SHORT;

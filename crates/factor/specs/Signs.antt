@@ -9,22 +9,22 @@ use Rattle.factor.specs.declared.Factor.{Factor}
 use Rattle.factor.specs.SetUp.{factorOf, conditions, storedOf, setUp, given, described, intact}
 
 -- a factor, and a description, with the sign s; with a plus it is the size
-abbrev pub withSign : Bool → Factor → Factor
-withSign s f = record { minus = s; precision = f .precision; lower = f .lower; upper = f .upper; parts = f .parts; applied = f .applied }
+abbrev pub factorAs : Bool → Factor → Factor
+factorAs s f = record { minus = s; precision = f .precision; lower = f .lower; upper = f .upper; parts = f .parts; applied = f .applied }
 
-abbrev pub describedWith : Bool → Description → Description
-describedWith s d = record { minus = s; precision = d .precision; scale = d .scale; lower = d .lower; upper = d .upper }
+abbrev pub describedAs : Bool → Description → Description
+describedAs s d = record { minus = s; precision = d .precision; scale = d .scale; lower = d .lower; upper = d .upper }
 
 -- set-up refuses alike, and gives the same but for the sign
-pub set-up-signed : (s : Bool) (d : Description) → setUp (describedWith s d) ≡ each (withSign s) (setUp d)
+pub set-up-signed : (s : Bool) (d : Description) → setUp (describedAs s d) ≡ each (factorAs s) (setUp d)
 unfolding setUp
-set-up-signed s d = answer-each (withSign s) (conditions d) (factorOf d)
+set-up-signed s d = answer-each (factorAs s) (conditions d) (factorOf d)
 
 -- 31 has nothing to compare in a sign
-pub intact-signed : (s : Bool) (f : Factor) → intact (withSign s f) ≡ intact f
+pub intact-signed : (s : Bool) (f : Factor) → intact (factorAs s f) ≡ intact f
 unfolding intact
 intact-signed s f = go (storedOf (described f))
   where
-    go : (o : Outcome Stored) → given (withSign s f) o ≡ given f o
+    go : (o : Outcome Stored) → given (factorAs s f) o ≡ given f o
     go (accepted g) = refl
     go (refused k) = refl

@@ -1,4 +1,4 @@
--- Document 01's example, line by line, and lines that are no frames, worked out by computation. Assumes nothing.
+-- Document 01's example, line by line, factors below zero (request W5), and lines that are no frames, worked out by computation. Assumes nothing.
 use mathlib.Core.Path.{_≡_, refl}
 use mathlib.Core.Bool.{Bool, true, false}
 use mathlib.Core.List.{List, [] as []ᴸ, _∷_ as _∷ᴸ_}

@@ -15,7 +15,7 @@ use borrow.Author.Tests.{lt-ltb, le-ltb, le-leb, lt-leb, eqb-true, not-false}
 use Rattle.marks.specs.Answers.{NoneHolds, Outcome, accepted, answer, each}
 use Rattle.marks.specs.AnswerLaws.{pass, end, accepts, answer-each, only-accepted, and-true}
 use Rattle.factor.specs.declared.Description.{Description}
-use Rattle.factor.specs.Signs.{describedWith}
+use Rattle.factor.specs.Signs.{describedAs}
 use Rattle.frame.specs.declared.Field.{Field}
 use Rattle.frame.specs.declared.Field.the-variants.{Value}
 use Rattle.frame.specs.Digits.{digits, hexDigits, valueAfter, fieldAt, malformed, numberOf}
@@ -179,11 +179,11 @@ module _ (rest : List ℕ) where
   said v h = ap saidBy (byte-first v h rest)
 
   -- with a sign added to its first byte it says the same, with that sign
-  pub sign-read : (s : Bool) (p : ℕ) → p < signAdded → frameOf (hexDigits 2 (precisionByte s p) ++ rest) ≡ each (describedWith s) (frameOf (hexDigits 2 p ++ rest))
+  pub sign-read : (s : Bool) (p : ℕ) → p < signAdded → frameOf (hexDigits 2 (precisionByte s p) ++ rest) ≡ each (describedAs s) (frameOf (hexDigits 2 p ++ rest))
   unfolding saidBy
   sign-read s p h =
       let byte = byte-apart s p h in
       said (precisionByte s p) (byte-small s p h)
       ∙ ap₂ (λ (m : Bool) (n : ℕ). answer (conditionsBy (Value p)) (saidWith m n)) (byte .0) (byte .1 ∙ sym (mod-eq-of-lt h))
-      ∙ answer-each (describedWith s) (conditionsBy (Value p)) (saidWith (minusIn p) (precisionIn p))
-      ∙ ap (each (describedWith s)) (sym (said p (byte-small false p h)))
+      ∙ answer-each (describedAs s) (conditionsBy (Value p)) (saidWith (minusIn p) (precisionIn p))
+      ∙ ap (each (describedAs s)) (sym (said p (byte-small false p h)))

@@ -9,7 +9,7 @@ use Rattle.rounding.specs.Digits.{pow-half}
 use Rattle.rounding.specs.Round.{HasBits}
 use Rattle.factor.specs.declared.Factor.{Factor}
 use Rattle.factor.specs.SetUp.{Sound}
-use Rattle.factor.specs.Signs.{withSign}
+use Rattle.factor.specs.Signs.{factorAs}
 use Rattle.product.specs.declared.Device.{Device}
 use Rattle.product.specs.declared.Product.{Product}
 use Rattle.product.specs.Product.{stepsOf}
@@ -45,6 +45,6 @@ formed Device.TwoStep f s X x = let is = sound-product f s X x in record { bits 
 formed Device.OneStep f s X x = let is = sound-one-step f s X x in record { bits = is .bits; binade = is .binade }
 
 -- with whatever sign the factor has, it and its direction are the size's (request W5)
-pub sized : (s : Bool) (d : Device) (f : Factor) (X : ℕ) → directedOn d (withSign s f) X ≡ directedOn d f X
+pub sized : (s : Bool) (d : Device) (f : Factor) (X : ℕ) → directedOn d (factorAs s f) X ≡ directedOn d f X
 sized s Device.TwoStep f X = refl
 sized s Device.OneStep f X = refl

@@ -34,13 +34,13 @@ pub enum Device {
     OneStep,
 }
 
-// A product from 1 to below 4: a significand of n bits, and its binade, 0 for [1, 2) and 1 for [2, 4).
+// A product's size, from 1 to below 4: a significand of n bits, and its binade, 0 for [1, 2) and 1 for [2, 4).
 pub struct Product {
     pub significand: u64,
     pub binade: u32,
 }
 
-// A product as it was rounded: the direction is that of the last rounding (request W4), on the two-step device from Ch * x + u1.
+// A product's size as it was rounded: the direction is that of the last rounding (request W4), on the two-step device from Ch * x + u1.
 pub struct DirectedProduct {
     pub product: Product,
     pub direction: Direction,

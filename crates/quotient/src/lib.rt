@@ -9,13 +9,13 @@ ghost use Rattle.factor.specs.SetUp.{Sound};
 ghost use Rattle.quotient.specs.Quotient.{directedBy, signedQuotient, binadesBelow};
 ghost use Rattle.quotient.specs.Answer.{divided, outcomeOf};
 
-// A quotient from 1/2 to below 2: a significand of n bits, and its binade, -1 for [1/2, 1) and 0 for [1, 2).
+// A quotient's size, from 1/2 to below 2: a significand of n bits, and its binade, -1 for [1/2, 1) and 0 for [1, 2).
 pub struct Quotient {
     pub significand: u64,
     pub binade: i32,
 }
 
-// A quotient as it was rounded: the direction is that from x / Ch (request W4).
+// A quotient's size as it was rounded: the direction is that from x / Ch (request W4).
 pub struct DirectedQuotient {
     pub quotient: Quotient,
     pub direction: Direction,

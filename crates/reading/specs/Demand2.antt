@@ -253,7 +253,7 @@ pub reading-answered : (d : Device) (f : Factor) (x : Float) → let b = toBits 
 unfolding applied
 reading-answered d f x h = let b = toBits binary32 x in none-refuses (conditions f b (productExponent f b (productAt d f b))) (numbered d f b) h
 
--- a zero of either sign is answered, right and equal, with the standard's product of it and the stored high part, which as every f32 fits the format
+-- a zero of either sign is answered, right and equal, with the standard's product of it and the stored high part with the factor's sign, which as every f32 fits the format
 pub zero-multiplied : (d : Device) (f : Factor) → intact f ≡ true → f .precision .bits ≡ prec binary32 → T (fits binary32 (f .applied .high)) → (s : Bool) → applied d f (zeroOf s) ≡ accepted (record { mark = Mark.Right; value = record { number = mul binary32 (zeroOf s) (signedHigh f); direction = Equal } })
 unfolding applied
 zero-multiplied d f i n h s = let b = toBits binary32 (zeroOf s) in zero-is-operation multiplying multiplies f i n h s (productOf f b (directedAt d f b)) (λ y. record { mark = Mark.Right; value = record { number = y; direction = Equal } }) refl

@@ -1,4 +1,4 @@
--- A binary32 reading divided by a factor (request W1, with document 01's refusals 31, 20, 21, 22, 23), and the direction of that (request W4). Definitions only. Assumes nothing.
+-- A binary32 reading divided by a factor (request W1, with document 01's refusals 31, 20, 21, 22, 23), with the sign of both (requests W3 and W5) and the direction (request W4). Definitions only. Assumes nothing.
 use Prim.Native.Nat.{ℕ}
 use lib.IntN.{ℤ, _+ℤ_, _-ℤ_}
 use lib.Ieee.{Float, binary32, toBits}

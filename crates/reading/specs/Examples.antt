@@ -16,7 +16,7 @@ use Rattle.factor.specs.Precision.{scaleOf}
 use Rattle.factor.specs.Context.{tieRule}
 use Rattle.factor.specs.Parts.{partsAt}
 use Rattle.factor.specs.SetUp.{appliedOf, factorOf}
-use Rattle.factor.specs.Signs.{withSign}
+use Rattle.factor.specs.Signs.{factorAs}
 use Rattle.factor.specs.declared.Description.{Description}
 use Rattle.product.specs.declared.Device.{Device}
 use Rattle.reading.specs.Reading.{DirectedNumber, applied}
@@ -123,17 +123,17 @@ lost-by-two-steps = refl
 
 -- - 1/π: the same girth of either sign. The size was rounded down to 0.499746531, so that - 0.499746531 is above what was rounded; two minuses give a plus. Zeros have the sign of the product, and what is refused is refused alike
 below-zero :
-    (applied Device.TwoStep (withSign true byPi) (fin false 13170115 (negsuc 22)) ≡ right (fin true 16768711 (negsuc 24)) Above)
-    × (applied Device.TwoStep (withSign true byPi) (fin true 13170115 (negsuc 22)) ≡ right (fin false 16768711 (negsuc 24)) Below)
-    × (applied Device.OneStep (withSign true byPi) (fin false 13170115 (negsuc 22)) ≡ right (fin true 16768711 (negsuc 24)) Below)
-    × (applied Device.OneStep (withSign true byPi) (fin true 13170115 (negsuc 22)) ≡ right (fin false 16768711 (negsuc 24)) Above)
-    × (applied Device.OneStep (withSign true byPi) (fin false 7906077 (negsuc 22)) ≡ wrong (fin true 10066329 (negsuc 24)) Above)
-    × (applied Device.TwoStep (withSign true byPi) (inf true) ≡ refused 21)
+    (applied Device.TwoStep (factorAs true byPi) (fin false 13170115 (negsuc 22)) ≡ right (fin true 16768711 (negsuc 24)) Above)
+    × (applied Device.TwoStep (factorAs true byPi) (fin true 13170115 (negsuc 22)) ≡ right (fin false 16768711 (negsuc 24)) Below)
+    × (applied Device.OneStep (factorAs true byPi) (fin false 13170115 (negsuc 22)) ≡ right (fin true 16768711 (negsuc 24)) Below)
+    × (applied Device.OneStep (factorAs true byPi) (fin true 13170115 (negsuc 22)) ≡ right (fin false 16768711 (negsuc 24)) Above)
+    × (applied Device.OneStep (factorAs true byPi) (fin false 7906077 (negsuc 22)) ≡ wrong (fin true 10066329 (negsuc 24)) Above)
+    × (applied Device.TwoStep (factorAs true byPi) (inf true) ≡ refused 21)
 unfolding byPi applied answer judged directionOf sideOf Ieee.toBits
 below-zero = (refl, refl, refl, refl, refl, refl)
 
 sighted-below-zero :
-    (d : Device) → (applied d (withSign true pi) (fin true 0 (pos 0)) ≡ right (fin false 0 (pos 0)) Equal) × (applied d (withSign true pi) (fin false 0 (pos 0)) ≡ right (fin true 0 (pos 0)) Equal)
+    (d : Device) → (applied d (factorAs true pi) (fin true 0 (pos 0)) ≡ right (fin false 0 (pos 0)) Equal) × (applied d (factorAs true pi) (fin false 0 (pos 0)) ≡ right (fin true 0 (pos 0)) Equal)
 unfolding pi applied answer judged directionOf sideOf Ieee.toBits
 sighted-below-zero Device.TwoStep = (refl, refl)
 sighted-below-zero Device.OneStep = (refl, refl)
@@ -146,10 +146,10 @@ girth = refl
 
 -- - 1/π: the same, and zeros of both signs
 girth-below-zero :
-    (dividedReading (withSign true byPi) (fin false 1 (negsuc 0)) ≡ quotient (fin true 13176795 (negsuc 22)) Above)
-    × (dividedReading (withSign true byPi) (fin true 1 (negsuc 0)) ≡ quotient (fin false 13176795 (negsuc 22)) Below)
-    × (dividedReading (withSign true byPi) (fin true 0 (pos 0)) ≡ quotient (fin false 0 (pos 0)) Equal)
-    × (dividedReading (withSign true byPi) (fin false 0 (pos 0)) ≡ quotient (fin true 0 (pos 0)) Equal)
+    (dividedReading (factorAs true byPi) (fin false 1 (negsuc 0)) ≡ quotient (fin true 13176795 (negsuc 22)) Above)
+    × (dividedReading (factorAs true byPi) (fin true 1 (negsuc 0)) ≡ quotient (fin false 13176795 (negsuc 22)) Below)
+    × (dividedReading (factorAs true byPi) (fin true 0 (pos 0)) ≡ quotient (fin false 0 (pos 0)) Equal)
+    × (dividedReading (factorAs true byPi) (fin false 0 (pos 0)) ≡ quotient (fin true 0 (pos 0)) Equal)
 unfolding byPi dividedReading answer judged directionOf sideOf Ieee.toBits
 girth-below-zero = (refl, refl, refl, refl)
 

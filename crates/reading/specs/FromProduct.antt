@@ -1,4 +1,4 @@
--- Laws: the answer to a reading that is no zero is, on either device, the product of its significand with the reading's own sign and exponent put on; divided, it is the quotient of its significand, alike. Assumes nothing.
+-- Laws: the answer to a reading that is no zero and that none of 31, 20, 21 and 22 refuses is, on either device, the product of its significand with the reading's own sign and exponent put on; divided, it is the quotient of its significand, alike. Assumes nothing.
 use mathlib.Core.Path.{_≡_, sym, ap, _∙_}
 use mathlib.Core.Bool.{Bool, false}
 use mathlib.Core.List.{[], _∷_}

@@ -19,7 +19,7 @@ use Rattle.floats.specs.Signs.{Turned, round-turned, turned-bits}
 use Rattle.floats.specs.Classes.{nan-class}
 use Rattle.factor.specs.declared.Factor.{Factor}
 use Rattle.factor.specs.Precision.{significandOut}
-use Rattle.factor.specs.Signs.{withSign, intact-signed}
+use Rattle.factor.specs.Signs.{factorAs, intact-signed}
 use Rattle.product.specs.declared.Device.{Device}
 use Rattle.product.specs.declared.DirectedProduct.{DirectedProduct}
 use Rattle.product.specs.declared.SignedProduct.{SignedProduct}
@@ -126,7 +126,7 @@ module _ {A : Type 0} (g : A → A) (S : Symmetric g) where
       rw (t .biased, t .trailing, sign) (sign-turned f b (signWith f b))
 
   -- and of two factors that do
-  two-factors : (f : Factor) (b : ℕ) → answerTo (withSign true f) b (made (withSign true f) b) ≡ each g (answerTo (withSign false f) b (made (withSign false f) b))
+  two-factors : (f : Factor) (b : ℕ) → answerTo (factorAs true f) b (made (factorAs true f) b) ≡ each g (answerTo (factorAs false f) b (made (factorAs false f) b))
   two-factors f b =
       let s = signOf binary32 b in
       let sign : unlike s true ≡ not (unlike s false) = unlike-comm s true ∙ unlike-turned false s ∙ ap not (unlike-comm false s) in
@@ -175,19 +175,19 @@ pub divided-reading-mirrored : (f : Factor) (x : Float) → T (fits binary32 x) 
 unfolding dividedReading quotient-made
 divided-reading-mirrored f = opposite-readings turned (quotient-made f) f
 
--- ---- a negative factor's answers are its size's, the sign turned and the direction mirrored
+-- ---- a negative factor's answers are its size's, the sign turned and the direction mirrored; which sign that is, each answer's own theorems tell
 module _ (s : Bool) (f : Factor) where
   -- a factor with a sign: what it answers, by its size and that sign
-  product-signed : (d : Device) (X : ℕ) → let v = directedOn d f X in multiplied d (withSign s f) X ≡ answer (significandConditions f X) (record { mark = markBy f X (v .product); value = signedProduct s v })
+  product-signed : (d : Device) (X : ℕ) → let v = directedOn d f X in multiplied d (factorAs s f) X ≡ answer (significandConditions f X) (record { mark = markBy f X (v .product); value = signedProduct s v })
   unfolding multiplied
   product-signed d X =
       ap₂ (λ (i : Bool) (v : DirectedProduct). answer ((31, not i) ∷ (17, significandOut (f .precision .bits) X) ∷ []) (record { mark = markBy f X (v .product); value = signedProduct s v })) (intact-signed s f) (sized s d f X)
 
-  reading-signed : (d : Device) (x : Float) → let b = toBits binary32 x in applied d (withSign s f) x ≡ answerTo (withSign s f) b (made (under turned) (product-made d f) (withSign s f) b)
+  reading-signed : (d : Device) (x : Float) → let b = toBits binary32 x in applied d (factorAs s f) x ≡ answerTo (factorAs s f) b (made (under turned) (product-made d f) (factorAs s f) b)
   unfolding applied product-made
-  reading-signed d x = let b = toBits binary32 x in ap (λ (v : DirectedProduct). answerTo (withSign s f) b (productOf (withSign s f) b v)) (sized s d f (significandOf binary32 b))
+  reading-signed d x = let b = toBits binary32 x in ap (λ (v : DirectedProduct). answerTo (factorAs s f) b (productOf (factorAs s f) b v)) (sized s d f (significandOf binary32 b))
 
-pub negative-mirrored : (q : Question) (f : Factor) → answerOf q (withSign true f) ≡ each (turnedValue q) (answerOf q (withSign false f))
+pub negative-mirrored : (q : Question) (f : Factor) → answerOf q (factorAs true f) ≡ each (turnedValue q) (answerOf q (factorAs false f))
 negative-mirrored (multiply d X) f =
     let v = directedOn d f X in
     let value : Bool → Marked SignedProduct = λ s. record { mark = markBy f X (v .product); value = signedProduct s v } in

@@ -19,11 +19,11 @@ use Rattle.reading.specs.Standard.{Is}
 abbrev pub readingAt : ℕ → Fraction
 readingAt b = record { minus = signOf binary32 b; num = significandOf binary32 b * up (exponentOf binary32 b); den = hid binary32 * down (exponentOf binary32 b) }
 
--- a constant with the factor's scale and sign put on: C * 2 ^ k, or - C * 2 ^ k
+-- a constant with the factor's scale and sign put on: ± C * 2 ^ k
 abbrev pub scaledBy : Factor → Fraction → Fraction
 scaledBy f C = scaledAs (f .minus) (f .applied .scale) C
 
--- that of the high part
+-- ± Ch * 2 ^ k
 abbrev pub appliedHigh : Factor → Fraction
 appliedHigh f = scaledBy f (high (prec binary32) (f .parts))
 

@@ -1,4 +1,4 @@
--- Laws: a division and a multiplication of the standard are their exact value rounded, and powers of two, signs and the error go along with them; so an answer that RN of the significands makes is one operation of the reading and Ch * 2 ^ k (`one-operation`). Assumes nothing.
+-- Laws: a division and a multiplication of the standard are their exact value rounded, and powers of two, signs and the error go along with them; so an answer that RN of the significands makes is one operation of the reading and ± Ch * 2 ^ k (`one-operation`). Assumes nothing.
 use mathlib.Core.Path.{_≡_, refl, sym, ap, ap₂, _∙_, subst}
 use mathlib.Core.Bool.{Bool, false}
 use Prim.Native.Nat.{ℕ, suc, _+_, _-_, _*_, _^_, _≤_, _<_}
@@ -87,7 +87,7 @@ multiplies =
     turned : (s t : Bool) (a c b d : ℕ) → Ieee.round binary32 (unlike s t) (a * b) (c * d) ≡ Ieee.round binary32 (unlike t s) (b * a) (d * c)
     turned s t a c b d = ap (λ (m : Bool). Ieee.round binary32 m (a * b) (c * d)) (unlike-comm s t) ∙ ap₂ (λ (p q : ℕ). Ieee.round binary32 (unlike t s) p q) (mul-comm a b) (mul-comm c d)
 
--- ---- Ch and Ch * 2 ^ k, of a sound factor of the format's precision
+-- ---- Ch and ± Ch * 2 ^ k, of a sound factor of the format's precision
 module _ (f : Factor) (sound : Sound f) (n : f .precision .bits ≡ prec binary32) where
   abbrev k : ℤ
   k = f .applied .scale
@@ -111,14 +111,14 @@ module _ (f : Factor) (sound : Sound f) (n : f .precision .bits ≡ prec binary3
   power-positive : Positive (power k)
   power-positive = record { sign = refl; above = up-pos k; some = down-pos k }
 
-  pub applied-positive : Positive sizedHigh
-  applied-positive = times-positive (high (prec binary32) (f .parts)) (power k) high-positive power-positive
+  pub sized-positive : Positive sizedHigh
+  sized-positive = times-positive (high (prec binary32) (f .parts)) (power k) high-positive power-positive
 
   -- with the factor's sign it is a binary32 number
   pub applied-held : Is (floatIn binary32 (appliedHigh f)) (appliedHigh f)
   applied-held =
       let t = scale-from k (scale-size k (sound .scale)) in
-      round-itself binary32 (f .minus) (f .parts .high * up k) (hid binary32 * down k) (f .parts .high) (t .0) (applied-positive .some) (high-bits .most) (in-smallest binary32 (f .parts .high) k (t .0) (t .1)) (lt-of-le-of-lt (mul-le-mul (high-bits .most) (pow-mono (t .2))) (lit< tt))
+      round-itself binary32 (f .minus) (f .parts .high * up k) (hid binary32 * down k) (f .parts .high) (t .0) (sized-positive .some) (high-bits .most) (in-smallest binary32 (f .parts .high) k (t .0) (t .1)) (lt-of-le-of-lt (mul-le-mul (high-bits .most) (pow-mono (t .2))) (lit< tt))
     where
       scale-from : (k : ℤ) → natAbs k ≤ 100 → (j : ℕ) × (k +ℤ pos 126 ≡ pos j) × (j ≤ 226)
       scale-from (pos m) l = (m + 126, refl, omega arith)
@@ -162,7 +162,7 @@ module _ (f : Factor) (sound : Sound f) (n : f .precision .bits ≡ prec binary3
     x-exact = lawful .positive x (high (prec binary32) (f .parts)) x-positive high-positive
 
     r-exact : Positive of-r
-    r-exact = lawful .positive r sizedHigh r-positive applied-positive
+    r-exact = lawful .positive r sizedHigh r-positive sized-positive
 
     module _ (rounds : RoundsAt binary32 of-x S z) (at : c ≡ o .exponents e k +ℤ z) where
       -- the reading's rounds to S / hid * 2 ^ c
@@ -183,7 +183,7 @@ module _ (f : Factor) (sound : Sound f) (n : f .precision .bits ≡ prec binary3
 
         standard : (y g : Float) → Is y (readingAt b) → Is g (appliedHigh f) → o .inFormat y g ≡ numberOf binary32 s S c
         standard y g i j =
-            lawful .value y g (readingAt b) (appliedHigh f) (number-some binary32 e) (applied-positive .above) (applied-positive .some) i j ∙ ap (floatIn binary32) (lawful .signs (signOf binary32 b) (f .minus) r sizedHigh)
+            lawful .value y g (readingAt b) (appliedHigh f) (number-some binary32 e) (sized-positive .above) (sized-positive .some) i j ∙ ap (floatIn binary32) (lawful .signs (signOf binary32 b) (f .minus) r sizedHigh)
             ∙ number-rounds binary32 s of-r (r-exact .above) (r-exact .some) S c bits c-in r-rounds
 
         -- ---- the error

@@ -1,5 +1,5 @@
 -- What an answer to a reading's division tells, for every factor and every reading (`divided-reading-answered`, `divided-reading-tells`): its sign is that of the standard's quotient, which of a zero is the whole answer (`zero-divided`), equal; any other is RN(x / Ch) with sign and exponent
--- put on, exactly; one division of the standard, of significands and of the reading itself by Ch * 2 ^ k, gives the same; it is less than 3/2 units in the last place from the reading / (C * 2 ^ k) for every fraction C between the ends; and its direction tells how it lies as seen from x / Ch, sign and scale on (request W4). Assumes nothing.
+-- put on, exactly; one division of the standard, of significands and of the reading itself by ± Ch * 2 ^ k, gives the same; it is less than 3/2 units in the last place from the reading / (± C * 2 ^ k) for every fraction C between the ends; and its direction tells how it lies as seen from x / Ch, sign and scale on (request W4). Assumes nothing.
 use mathlib.Core.Path.{_≡_, refl, sym, ap, _∙_, subst}
 use mathlib.Core.Bool.{Bool, true, false, cond}
 use mathlib.Core.Logic.{_⊎_, inl, inr}
@@ -65,7 +65,7 @@ pub record Tells (f : Factor) (b : ℕ) (a : DirectedNumber) : Type 0 where
   -- its number is sign * RN(x / Ch) * 2 ^ (e - k), exactly, and a normal number
   pub value : Is (a .number) (answerAt f b)
   pub normal : Normal binary32 (toBits binary32 (a .number))
-  -- and one division of the standard: of x by Ch it is RN(x / Ch), and of the reading by Ch * 2 ^ k that number; it is less than 3/2 ulp from the reading / (C * 2 ^ k) for every C between the ends
+  -- and one division of the standard: of x by Ch it is RN(x / Ch), and of the reading by ± Ch * 2 ^ k that number; it is less than 3/2 ulp from the reading / (± C * 2 ^ k) for every C between the ends
   pub division : OneOperation dividing f b (valueOf (prec binary32) (quotientAt f b)) (answerAt f b) (a .number)
   -- its direction tells how it lies as seen from x / Ch
   pub directs : Directs (a .direction) (lastAt f b) (answerAt f b)
@@ -168,7 +168,7 @@ pub divided-reading-answered : (f : Factor) (x : Float) → let b = toBits binar
 unfolding dividedReading
 divided-reading-answered f x h = let b = toBits binary32 x in none-refuses (conditions f b (quotientOf f b .exponent)) (numbered f b) h
 
--- a zero of either sign is answered, equal, with the standard's quotient of it by the stored high part, which as every f32 fits the format
+-- a zero of either sign is answered, equal, with the standard's quotient of it by the stored high part with the factor's sign, which as every f32 fits the format
 pub zero-divided : (f : Factor) → intact f ≡ true → f .precision .bits ≡ prec binary32 → T (fits binary32 (f .applied .high)) → (s : Bool) → dividedReading f (zeroOf s) ≡ accepted (record { number = div binary32 (zeroOf s) (signedHigh f); direction = Equal })
 unfolding dividedReading
 zero-divided f i n h s = zero-is-operation dividing divides f i n h s (quotientOf f (toBits binary32 (zeroOf s))) (λ y. record { number = y; direction = Equal }) refl

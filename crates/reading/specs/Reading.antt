@@ -40,7 +40,7 @@ pub data Kind : Type 0 where
 abbrev pub kindOf : ℕ → Kind
 kindOf b = cond (zeroBits binary32 b) (zero b) (normal b)
 
--- the sign of its product or quotient by a factor, of a zero too: minus where one of the two has it and the other has not (IEEE 754-2019, 6.3; request W3)
+-- the sign of its product or quotient by a factor, of a zero too: minus where one of the two has it and the other has not (IEEE 754-2019, 6.3; requests W3 and W5)
 abbrev pub signWith : Factor → ℕ → Bool
 signWith f b = unlike (signOf binary32 b) (f .minus)
 

@@ -1,4 +1,4 @@
--- Laws: the sign of an answer is the one that the standard's operation gives the reading and any number with the factor's sign, and a zero is answered with what it gives (request W3). Assumes zeroNumber.
+-- Laws: the sign of an answer is the one that the standard's operation gives the reading and any number with the factor's sign, and a zero is answered with what it gives (requests W3 and W5). Assumes nothing.
 use mathlib.Core.Path.{_≡_, refl, sym, ap, ap₂, _∙_, subst}
 use mathlib.Core.Bool.{Bool, true, false, not, cond, true≢false}
 use Prim.Native.Nat.{ℕ, _*_, _^_, _<_}
@@ -25,7 +25,7 @@ use Rattle.reading.specs.Reading.{unreadable, signWith, numberOf, Made, 
 use Rattle.reading.specs.AnswerLaws.{is-intact, precision-is, zeros-answered}
 use Rattle.reading.specs.Standard.{Is}
 use Rattle.reading.specs.OneOperation.{readingAt, appliedHigh, Operation, signedHigh, LikeFactor, StandardSign}
-use Rattle.reading.specs.OneOperationLaws.{Lawful, reading-is, applied-positive, applied-held}
+use Rattle.reading.specs.OneOperationLaws.{Lawful, reading-is, sized-positive, applied-held}
 
 module _ (o : Operation) (lawful : Lawful o) (f : Factor) (b : ℕ) (h : NoneHolds (unreadable f b)) where
   -- a zero as a number, with the reading's sign
@@ -84,7 +84,7 @@ module _ (o : Operation) (lawful : Lawful o) (f : Factor) (b : ℕ) (h : NoneHol
   scaled : LikeFactor f (floatIn binary32 (appliedHigh f))
   scaled =
       let n = precision-is f b h in
-      let C = applied-positive f sound n in
+      let C = sized-positive f sound n in
       record { value = appliedHigh f; is = applied-held f sound n; sign = refl; above = C .above; some = C .some }
 
   standard-sign : (y : Float) → isSignMinus y ≡ signWith f b → (zeroBits binary32 b ≡ true → y ≡ zeroOf (signWith f b)) → StandardSign o f b y
@@ -113,7 +113,7 @@ unfolding toBits
 zero-through f i n true = (ap not i, (ap not (eq-eqb _ _ n), (refl, (refl, tt))))
 zero-through f i n false = (ap not i, (ap not (eq-eqb _ _ n), (refl, (refl, tt))))
 
--- where g of a zero with the answer's sign is made of it, it is answered with g of what the operation gives it and the stored high part
+-- where g of a zero with the answer's sign is made of it, it is answered with g of what the operation gives it and the stored high part with the factor's sign
 pub zero-is-operation : {A : Type 0} (o : Operation) → Lawful o → (f : Factor) → intact f ≡ true → f .precision .bits ≡ prec binary32 → T (fits binary32 (f .applied .high)) → (s : Bool) (m : Made A) (g : Float → A)
     → m .of-zero ≡ g (zeroOf (signWith f (toBits binary32 (zeroOf s)))) → answerTo f (toBits binary32 (zeroOf s)) m ≡ accepted (g (o .inFormat (zeroOf s) (signedHigh f)))
 zero-is-operation o lawful f i n high-fits s m g e =

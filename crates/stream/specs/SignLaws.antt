@@ -7,7 +7,7 @@ use Rattle.marks.specs.Answers.{Outcome, refused, accepted, andThen, each}
 use Rattle.factor.specs.declared.Description.{Description}
 use Rattle.factor.specs.declared.Factor.{Factor}
 use Rattle.factor.specs.SetUp.{setUp}
-use Rattle.factor.specs.Signs.{withSign, describedWith, set-up-signed}
+use Rattle.factor.specs.Signs.{factorAs, describedAs, set-up-signed}
 use Rattle.frame.specs.Digits.{hexDigits}
 use Rattle.frame.specs.Frame.{signAdded, frameOf, precisionByte}
 use Rattle.frame.specs.FrameLaws.{sign-read}
@@ -15,12 +15,12 @@ use Rattle.stream.specs.Output.{suspectsOf, sweptOutput, judgedLine, jud
 
 module _ (s : Bool) where
   -- what is set up, with the sign
-  judged-signed : (o : Outcome Description) → andThen (each (describedWith s) o) setUp ≡ each (withSign s) (andThen o setUp)
+  judged-signed : (o : Outcome Description) → andThen (each (describedAs s) o) setUp ≡ each (factorAs s) (andThen o setUp)
   judged-signed (refused k) = refl
   judged-signed (accepted d) = set-up-signed s d
 
   -- and what is printed of it, without
-  output-signed : (i : ℕ) (o : Outcome Factor) → judgedOutput i (each (withSign s) o) ≡ judgedOutput i o
+  output-signed : (i : ℕ) (o : Outcome Factor) → judgedOutput i (each (factorAs s) o) ≡ judgedOutput i o
   unfolding sweptOutput suspectsOf
   output-signed i (refused k) = refl
   output-signed i (accepted f) = refl

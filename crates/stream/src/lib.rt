@@ -89,7 +89,7 @@ struct Part {
 }
 
 // How much of a line is kept, and where the input goes on.
-struct ValidPrecision {
+struct Kept {
     length: usize,
     at: usize,
 }
@@ -113,7 +113,7 @@ fn keep_byte(held: &mut [u8], count: usize, b: u8) -> usize
 }
 
 // Reads up to the next line feed or to the end of the input.
-fn keep_line(held: &mut [u8], count: usize, input: &[u8], at: usize) -> ValidPrecision
+fn keep_line(held: &mut [u8], count: usize, input: &[u8], at: usize) -> Kept
     requires { ⌜ (length (now held) ≡ 40) × (count ≤ 40) × (at ≤ length (now input)) ⌝ }
     ensures { λ r. ⌜ (length (now (held .exit)) ≡ 40) × (r .length ≤ 40) × (take (r .length) (now (held .exit)) ≡ kept (take count (now (held .entry))) (drop at (now (input .entry)))) ⌝ }
     ensures { λ r. ⌜ (r .at ≤ length (now (input .entry))) × (drop (r .at) (now (input .entry)) ≡ upToFeed (drop at (now (input .entry)))) ⌝ }
@@ -123,12 +123,12 @@ fn keep_line(held: &mut [u8], count: usize, input: &[u8], at: usize) -> ValidPre
     while place < input.len() {
         let b = input[place];
         if b == LINE_FEED {
-            return ValidPrecision { length, at: place };
+            return Kept { length, at: place };
         }
         length = keep_byte(held, length, b);
         place += 1;
     }
-    ValidPrecision { length, at: place }
+    Kept { length, at: place }
 }
 
 // What a line asks for: a factor to sweep, or a refusal.

@@ -62,13 +62,14 @@ products :
 unfolding signedAt multiplied answer judged directionOf sideOf Ieee.toBits size
 products = (refl, refl, refl)
 
--- - 23/18: marks and counts are the size's, and - 11/8 is above what it was rounded from; in two steps - 12/8, which the size was rounded up to, is below it
+-- - 23/18: marks and counts are the size's, and - 11/8 is above what it was rounded from; in two steps - 12/8, which the size was rounded up to, is below it. The same of - P2, whose 8 is wrong
 below-zero :
     (multiplied Device.OneStep (signedAt true 4 0x51C71C71C71C71C7 0x51C71C71C71C71C8) 9 ≡ signed true Open 11 0 Above)
     × (multiplied Device.TwoStep (signedAt true 4 0x51C71C71C71C71C7 0x51C71C71C71C71C8) 9 ≡ signed true Open 12 0 Below)
+    × (multiplied Device.TwoStep (signedAt true 4 0x4BFFFC0000000000 0x4BFFFC0000000000) 8 ≡ signed true Wrong 10 0 Below)
     × (tallied (signedAt true 4 0x51C71C71C71C71C7 0x51C71C71C71C71C8) 8 15 ≡ counts 5 2 1)
 unfolding signedAt multiplied tallied answer judged directionOf sideOf Ieee.toBits size
-below-zero = (refl, refl, refl)
+below-zero = (refl, refl, refl, refl)
 
 -- source document 004, Table 1, for π at 4 to 8 bits: 5, 15, 25, 38 and 124 right
 pi-at : (n : ℕ) → Factor

@@ -16,7 +16,7 @@ use Rattle.factor.specs.declared.Factor.{Factor}
 use Rattle.factor.specs.Precision.{rangeOut}
 use Rattle.factor.specs.SetUp.{intact, Sound}
 use Rattle.factor.specs.SetUpLaws.{intact-sound}
-use Rattle.factor.specs.Signs.{withSign, intact-signed}
+use Rattle.factor.specs.Signs.{factorAs, intact-signed}
 use Rattle.product.specs.AnswerLaws.{InRange, in-range, range-in}
 use Rattle.tally.specs.declared.Counts.{Counts}
 use Rattle.tally.specs.Tally.{one, howMany, countsOf, nothing, together, markOnce, mostTallied, spanLength, conditions, tallied}
@@ -124,6 +124,6 @@ module _ (f : Factor) (good : intact f ≡ true) (last : ℕ) where
   tallies-whole first t calls e short = one-call first last (in-range (f .precision .bits) first last e) short ∙ ap accepted (sym (tallies-add f first (suc last) t calls .1))
 
 -- a factor with another sign is tallied alike (request W5)
-pub tally-signed : (s : Bool) (f : Factor) (first last : ℕ) → tallied (withSign s f) first last ≡ tallied f first last
+pub tally-signed : (s : Bool) (f : Factor) (first last : ℕ) → tallied (factorAs s f) first last ≡ tallied f first last
 unfolding tallied
 tally-signed s f first last = ap (λ (i : Bool). answer ((31, not i) ∷ (17, rangeOut (f .precision .bits) first last) ∷ (41, ltb mostTallied (spanLength first last)) ∷ []) (countsOf (markOnce f) first (spanLength first last))) (intact-signed s f)

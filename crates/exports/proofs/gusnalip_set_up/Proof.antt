@@ -1,7 +1,5 @@
 -- `exports::gusnalip_set_up` meets its contract: the engine's answer as a number and words. Assumes nothing.
 use mathlib.Core.Path.{_≡_, refl, sym, ap, _∙_}
-use mathlib.Core.Bool.{not}
-use lib.Dec.{eqb}
 use lib.IntN.{ℤ}
 use mir.Syntax.{w32}
 use mir.Val.{toZ, ofZ}
@@ -12,6 +10,7 @@ use Rattle.marks.specs.AnswerLaws.{pass, stop, end, refuses, accepts}
 use Rattle.factor.specs.declared.Description.{Description}
 use Rattle.factor.specs.declared.SetUp.{SetUp}
 use Rattle.factor.specs.SetUp.{setUp, outcomeOf}
+use Rattle.exports.specs.Words.{flagFrom}
 use Rattle.exports.specs.Answers.{Answer, setUpAnswer, setUpTo}
 use Rattle.exports.specs.AnswerLaws.{gives}
 use Rattle.exports.proofs.gusnalip_set_up.Statement.{statement}
@@ -27,7 +26,7 @@ returns c = gives _ (refl, refl) (ap told (sym (refuses (stop (lt-ltb _ 10 (c .i
 
 -- what is described
 abbrev asked : tie.After-set-up → Description
-asked c = let a = c .before .before .before .args in record { minus = not (eqb (a .minus) 0); precision = a .precision; scale = a .scale; lower = a .lower; upper = a .upper }
+asked c = let a = c .before .before .before .args in record { minus = flagFrom (a .minus); precision = a .precision; scale = a .scale; lower = a .lower; upper = a .upper }
 
 -- what the engine answers, and so what is answered
 abbrev says : SetUp → Answer
@@ -39,7 +38,7 @@ answer c =
     let a = c .before .before .before .args in
     let same : toZ w32 (ofZ w32 (a .scale)) ≡ a .scale = search needs in
     ap told (sym (accepts (pass (le-ltb _ 10 (c .before .if1 .left)) end) (asked c)))
-    ∙ ap setUpAnswer (sym (c .set-up .ensures ∙ ap (λ (k : ℤ). setUp (record { minus = not (eqb (a .minus) 0); precision = a .precision; scale = k; lower = a .lower; upper = a .upper })) same))
+    ∙ ap setUpAnswer (sym (c .set-up .ensures ∙ ap (λ (k : ℤ). setUp (record { minus = flagFrom (a .minus); precision = a .precision; scale = k; lower = a .lower; upper = a .upper })) same))
 
 returns-2 : tie.Need-returns-2
 returns-2 c =
