@@ -10,9 +10,9 @@
  * GUSNALIP_MINUS, also into a state by a sweep call that is accepted, and any word that is not 0 is read as a minus. All else is that of the
  * size: a factor below zero has the ends and parts of the one above, and its high part is stored as a positive number. The words for
  * precision, places, floats and scale are written with an upper half of 0; one with another upper half is damage, and refused with 31. So
- * are words that were written when factors had no sign: their lower end stands in the place of the precision. A sweep's state is
- * GUSNALIP_STATE_WORDS words: a factor, then the first, last and next significand, and 0 or any other word for not finished or finished.
- * Further words of either are not looked at.
+ * are words that were written when factors had no sign, where they are not too few: their lower end stands in the place of the precision. A
+ * sweep's state is GUSNALIP_STATE_WORDS words: a factor, then the first, last and next significand, and 0 or any other word for not finished
+ * or finished. Further words of either are not looked at.
  *
  * A reading of zero gives a zero, multiplied on either device (marked right) or divided: minus zero where one of reading and factor has a
  * minus and the other has not, else plus zero, whatever sign the low part has.

@@ -80,7 +80,7 @@ conditions d =
     ∷ (16, not (sameLow (partsAt (contextFor d) (d .lower)) (partsAt (contextFor d) (d .upper))))
     ∷ []
 
--- what is stored, unless one of them holds
+-- what is stored of the size, unless one of them holds: set-up without what stands beside it (`set-up-stores`)
 unfoldable pub storedOf : Description → Outcome Stored
 unfolding partsAt appliedOf
 storedOf d = answer (conditions d) (storedBy d)
@@ -108,7 +108,7 @@ sameApplied a b = sameFloat binary32 (a .high) (b .high) && (sameFloat binary32 
 abbrev pub storesJust : Factor → Stored → Bool
 storesJust f s = sameHigh (f .parts) (s .parts) && (sameLow (f .parts) (s .parts) && sameApplied (f .applied) (s .applied))
 
--- f stores what a set-up stores
+-- f stores what was set up; nothing where that was refused
 abbrev pub given : Factor → Outcome Stored → Bool
 given f (accepted s) = storesJust f s
 given f (refused k) = false

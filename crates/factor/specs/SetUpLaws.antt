@@ -7,8 +7,8 @@ use lib.IntN.{ℤ, pos, negsuc}
 use lib.Ieee.{binary32, toBits}
 use store.Seg.{eqb-same}
 use borrow.Author.Tests.{ltb-false, leb-false, eqb-true, eq-eqb, not-false}
-use Rattle.marks.specs.Answers.{NoneHolds, Outcome, refused, accepted}
-use Rattle.marks.specs.AnswerLaws.{only-accepted, none-refuses, or-false, and-true}
+use Rattle.marks.specs.Answers.{NoneHolds, Outcome, refused, accepted, each}
+use Rattle.marks.specs.AnswerLaws.{answer-each, only-accepted, none-refuses, or-false, and-true}
 use Rattle.floats.specs.Fields.{sameFloat}
 use Rattle.factor.specs.declared.Description.{Description}
 use Rattle.factor.specs.declared.Parts.{Parts}
@@ -46,6 +46,11 @@ end-in K c e = let t = or-false (ltb c (2 ^ K .E)) (leb (2 ^ suc (K .E)) c) e in
 -- a precision that 11 lets through
 pub valid-in : (n : ℕ) → precisionOut n ≡ false → ValidPrecision n
 valid-in n e = let t = or-false (ltb n leastPrecision) (ltb mostPrecision n) e in valid-of (ltb-false n leastPrecision (t .0)) (ltb-false mostPrecision n (t .1))
+
+-- ---- set-up gives what is stored of the size, with sign, precision and ends as described beside it
+pub set-up-stores : (d : Description) → setUp d ≡ each (factorWith d) (storedOf d)
+unfolding setUp storedOf
+set-up-stores d = answer-each (factorWith d) (conditions d) (storedBy d)
 
 -- ---- set-up gave f
 pub setUp-sound : (d : Description) (f : Factor) → setUp d ≡ accepted f → (factorOf d ≡ f) × Sound (factorOf d)

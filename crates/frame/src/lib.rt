@@ -15,7 +15,7 @@ const NOT_A_FRAME: u32 = 24;
 // An end has so many digits.
 const END_DIGITS: usize = 16;
 
-// What the precision's byte has added for a negative factor.
+// What the precision's byte has added for a negative factor: 80 hexadecimal.
 const SIGN: u64 = 128;
 
 // The bytes between fields and at a line's end.

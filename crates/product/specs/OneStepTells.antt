@@ -1,6 +1,6 @@
 -- What an answer of the one-step device tells, for every factor and every number as X (`once-tells`): its sign and form, that it is RN(Ch * x), what its mark says of every fraction between the ends, and that it is less than
 -- 3/2 units in the last place from C * x for every such fraction C (request W2; source document 003, Property 2.1), all with the factor's sign on (request W5). Assumes nothing.
-use mathlib.Core.Path.{_≡_, refl, sym, ap, subst}
+use mathlib.Core.Path.{_≡_, refl, sym, ap}
 use mathlib.Core.Bool.{Bool, false}
 use Prim.Native.Nat.{ℕ, _-_, _≤_}
 use native.Mathlib.Nat.{le-trans}
@@ -15,7 +15,7 @@ use Rattle.rounding.specs.Standard.{rounds-to}
 use Rattle.rounding.specs.Fraction.{Fraction, over, signedAs, times, RN, Same, Positive}
 use Rattle.rounding.specs.FractionLaws.{RN-some, unlike-plus, times-positive, distance-same}
 use Rattle.rounding.specs.Ulp.{ulp, WithinThreeHalves}
-use Rattle.rounding.specs.UlpLaws.{error-signed}
+use Rattle.rounding.specs.UlpLaws.{within-signed}
 use Rattle.rounding.specs.OneRounding.{times-error}
 use Rattle.factor.specs.declared.Factor.{Factor}
 use Rattle.factor.specs.Context.{Context, contextOf, lowerOf, upperOf}
@@ -90,10 +90,7 @@ module _ (f : Factor) (s : Sound f) where
 
     -- the sign put on
     near : (C : Fraction) → Between K (lowerOf f) (upperOf f) C → WithinThreeHalves n (signedAs (f .minus) (valueOf n v)) (exactProduct n X (signedBy f C))
-    near C k =
-        let y = exactProduct n X C in
-        subst (λ (m : Bool). WithinThreeHalves n (signedAs (f .minus) (valueOf n v)) (signedAs m y)) (sym (unlike-plus (f .minus)))
-        (error-signed n (f .minus) (valueOf n v) y (over 3 1) (sym (ap (λ (m : Bool). unlike m false) (k .sign))) (size-near C k))
+    near C k = within-signed n (f .minus) (unlike (f .minus) false) (unlike-plus (f .minus)) (valueOf n v) (exactProduct n X C) (sym (ap (λ (m : Bool). unlike m false) (k .sign))) (size-near C k)
 
     sound-once : Tells f X (answered f (marked f X (directedOn Device.OneStep f X)))
     sound-once =

@@ -19,7 +19,7 @@ use Rattle.rounding.specs.Fraction.{Fraction, over, signedAs, times, ratio, RN,
 use Rattle.rounding.specs.FractionLaws.{RN-some, unlike-plus, unlike-comm, ratio-positive, distance-same}
 use Rattle.rounding.specs.Directed.{directs-to, directs-signed}
 use Rattle.rounding.specs.Ulp.{ulp, WithinThreeHalves}
-use Rattle.rounding.specs.UlpLaws.{error-signed}
+use Rattle.rounding.specs.UlpLaws.{within-signed}
 use Rattle.rounding.specs.OneRounding.{ratio-error}
 use Rattle.factor.specs.declared.Factor.{Factor}
 use Rattle.factor.specs.Context.{Context, Fine, contextOf, lowerOf, upperOf}
@@ -99,10 +99,7 @@ module _ (f : Factor) (s : Sound f) where
     -- with a sign put on
     module _ (m : Bool) where
       near : (C : Fraction) → Between K L U C → WithinThreeHalves n (signedAs m (valueOf n (quotientBy f X))) (exactQuotient n X (signedAs m C))
-      near C k =
-          let v = valueOf n (quotientBy f X) in
-          let y = exactQuotient n X C in
-          subst (λ (t : Bool). WithinThreeHalves n (signedAs m v) (signedAs t y)) (sym (unlike-comm false m ∙ unlike-plus m)) (error-signed n m v y (over 3 1) (sym (ap (unlike false) (k .sign))) (size-near C k))
+      near C k = within-signed n m (unlike false m) (unlike-comm false m ∙ unlike-plus m) (valueOf n (quotientBy f X)) (exactQuotient n X C) (sym (ap (unlike false) (k .sign))) (size-near C k)
 
       pub sound-quotient : Tells f X (signedQuotient m (directedBy f X))
       sound-quotient =

@@ -107,12 +107,14 @@ record Symmetric {A : Type 0} (g : A → A) : Type 0 where
   value-turns : (X : ℕ) (s : Bool) (z : ℤ) → value X (not s) z ≡ g (value X s z)
 
 module _ {A : Type 0} (g : A → A) (S : Symmetric g) where
+  -- of a reading by its bits, for an answer with the sign s, and for one of a factor
   abbrev madeWith : Bool → ℕ → Made A
   madeWith s b = let X = significandOf binary32 b in let z = S .exponent X (exponentOf binary32 b) in record { of-zero = S .zero s; exponent = z; value = S .value X s z }
 
   abbrev made : Factor → ℕ → Made A
   made f b = madeWith (signWith f b) b
 
+  -- with the answer's sign turned
   sign-turned : (f : Factor) (b : ℕ) (s : Bool) → answerTo f b (madeWith (not s) b) ≡ each g (answerTo f b (madeWith s b))
   sign-turned f b s =
       let m = madeWith s b in
@@ -183,6 +185,7 @@ module _ (s : Bool) (f : Factor) where
   product-signed d X =
       ap₂ (λ (i : Bool) (v : DirectedProduct). answer ((31, not i) ∷ (17, significandOut (f .precision .bits) X) ∷ []) (record { mark = markBy f X (v .product); value = signedProduct s v })) (intact-signed s f) (sized s d f X)
 
+  -- the same of a reading, both signs making the answer's
   reading-signed : (d : Device) (x : Float) → let b = toBits binary32 x in applied d (factorAs s f) x ≡ answerTo (factorAs s f) b (made (under turned) (product-made d f) (factorAs s f) b)
   unfolding applied product-made
   reading-signed d x = let b = toBits binary32 x in ap (λ (v : DirectedProduct). answerTo (factorAs s f) b (productOf (factorAs s f) b v)) (sized s d f (significandOf binary32 b))

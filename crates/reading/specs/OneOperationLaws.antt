@@ -17,7 +17,7 @@ use Rattle.rounding.specs.Round.{HasBits}
 use Rattle.rounding.specs.Fraction.{Fraction, over, power, signedAs, times, RN, Same, Positive}
 use Rattle.rounding.specs.FractionLaws.{RN-some, Scaled, unlike-comm, times-positive, ratio-positive, ratio-twice, times-twice, distance-same}
 use Rattle.rounding.specs.Ulp.{ulp, WithinThreeHalves}
-use Rattle.rounding.specs.UlpLaws.{error-signed}
+use Rattle.rounding.specs.UlpLaws.{within-signed}
 use Rattle.rounding.specs.Ieee.{revalue, round-itself}
 use Rattle.floats.specs.Fields.{signOf, zeroBits, Normal, significandOf, exponentOf}
 use Rattle.floats.specs.Powers.{sub-le, in-smallest}
@@ -210,7 +210,7 @@ module _ (f : Factor) (sound : Sound f) (n : f .precision .bits ≡ prec binary3
             let q = o .exactly r (sized D) in
             let u : Between (contextOf f) (lowerOf f) (upperOf f) D = record { some = t .some; sign = refl; least = t .least; most = t .most } in
             let w = q-positive D u in
-            let signed = error-signed m s (numberAt binary32 S c) q (over 3 1) (sym (w .sign)) (size-near C u) in
+            let signed = within-signed m s s refl (numberAt binary32 S c) q (sym (w .sign)) (size-near C u) in
             let told = distance-same (signedAs s (numberAt binary32 S c)) a (signedAs s q) (times (over 3 1) (ulp m (signedAs s q))) (number-some binary32 c) A (w .some) a-is signed in
             subst (WithinThreeHalves m a) (sym (lawful .signs (signOf binary32 b) (f .minus) r (sized D))) told
 

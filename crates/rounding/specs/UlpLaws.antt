@@ -74,7 +74,7 @@ module _ (v : Fraction) (p : Positive v) where
   ulp-is n e b = ap (λ (z : ℤ). power (z -ℤ pos (n - 1))) (binade-only e b)
 
 -- an error in ulps is that of the sizes: of two fractions of one sign it is so with every sign
-pub error-signed : (n : ℕ) (s : Bool) (x v u : Fraction) → x .minus ≡ v .minus → Below (distance x v) (times u (ulp n v)) → Below (distance (signedAs s x) (signedAs s v)) (times u (ulp n (signedAs s v)))
+error-signed : (n : ℕ) (s : Bool) (x v u : Fraction) → x .minus ≡ v .minus → Below (distance x v) (times u (ulp n v)) → Below (distance (signedAs s x) (signedAs s v)) (times u (ulp n (signedAs s v)))
 unfolding ulp
 error-signed n s x v u e h = turned (v .minus) s (subst (λ (m : Bool). Below (distance (signedAs m x) v) (times u (ulp n v))) e h)
   where
@@ -83,6 +83,10 @@ error-signed n s x v u e h = turned (v .minus) s (subst (λ (m : Bool). Below (d
     turned true false h = h
     turned false true h = h
     turned false false h = h
+
+-- so is the bound of 3/2 ulp with a sign put on both, t being another way of writing it
+pub within-signed : (n : ℕ) (s t : Bool) → t ≡ s → (x v : Fraction) → x .minus ≡ v .minus → WithinThreeHalves n x v → WithinThreeHalves n (signedAs s x) (signedAs t v)
+within-signed n s t same x v e h = subst (λ (m : Bool). WithinThreeHalves n (signedAs s x) (signedAs m v)) (sym same) (error-signed n s x v (over 3 1) e h)
 
 module _ (n : ℕ) (P : 0 < n) where
   -- in every unit in which v has n digits it is the step of RN

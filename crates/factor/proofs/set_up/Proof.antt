@@ -2,16 +2,15 @@
 use mathlib.Core.Path.{_≡_, sym, ap, _∙_}
 use borrow.Author.Needs.{needs}
 use Rattle.marks.specs.Answers.{each}
-use Rattle.marks.specs.AnswerLaws.{answer-each}
 use Rattle.factor.specs.declared.StoredAnswer.{StoredAnswer}
-use Rattle.factor.specs.SetUp.{factorWith, storedBy, conditions, storedOf, storedSays, setUp}
+use Rattle.factor.specs.SetUp.{factorWith, storedSays, setUp}
+use Rattle.factor.specs.SetUpLaws.{set-up-stores}
 use Rattle.factor.proofs.set_up.Statement.{statement}
 use Rattle.factor.proofs.set_up.Tie as tie
 
 -- whatever was stored
 given : (c : tie.After-stored-of) (r : StoredAnswer) → c .stored-of .result ≡ r → let d = c .before .args .d in each (factorWith d) (storedSays r) ≡ setUp d
-unfolding setUp storedOf
-given c r e = let d = c .before .args .d in ap (each (factorWith d)) (ap storedSays (sym e) ∙ c .stored-of .ensures) ∙ sym (answer-each (factorWith d) (conditions d) (storedBy d))
+given c r e = let d = c .before .args .d in ap (each (factorWith d)) (ap storedSays (sym e) ∙ c .stored-of .ensures) ∙ sym (set-up-stores d)
 
 returns : tie.Need-returns
 returns c = let number = c .before .number in given (c .before .before .before) (StoredAnswer.Refused (number .given .0 .0)) (number .given .1)
