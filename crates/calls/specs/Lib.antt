@@ -18,4 +18,5 @@ pub mod SumLaws
 pub mod FinishLaws
 pub mod Demand3
 pub mod LoopLaws
+pub mod Kit
 pub mod Toy
