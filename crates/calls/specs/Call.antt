@@ -1,7 +1,7 @@
 -- Definitions: a new state and a sweep call, by searches (document 01, "A sweep"), for every state, also one that no calls lead to. What stands in quotes is document 01's.
 use mathlib.Core.Bool.{Bool, true, false, cond}
 use mathlib.Core.List.{List, [], _∷_, _++_}
-use Prim.Native.Nat.{ℕ, zero, suc, _+_, _-_, max}
+use Prim.Native.Nat.{ℕ, zero, suc, _+_, _-_}
 use lib.Dec.{ltb}
 use lib.ListN.{length}
 use lib.Seq.{sets}
@@ -10,18 +10,18 @@ use Rattle.marks.specs.Answers.{Refusal, number, none, judged, Outcome, refused
 use Rattle.search.specs.declared.Place.{Place}
 use Rattle.search.specs.declared.Place.the-variants.{At, Nowhere}
 use Rattle.search.specs.declared.Found.{Found}
-use Rattle.calls.specs.State.{State, fresh, Call, Terms, termsOf, listed, Listing, entries, roomIn}
-use Rattle.calls.specs.Engine.{Half, low, high, lowEnd, Engine}
+use Rattle.calls.specs.State.{State, Call, Terms, termsOf, listed, Listing, entries, roomIn}
+use Rattle.calls.specs.Engine.{Section, startIn, Engine, fresh, handed}
 
 -- ---- refusals and replies
 
 -- A new state, or its refusal.
-abbrev pub newState : {F : Type 0} → Engine F → F → ℕ → ℕ → Outcome (State F)
-newState e f first last = answer (e .newFaults f first last) (fresh f first last)
+abbrev pub newState : {U : Type 0} → Engine U → U → Outcome (State U)
+newState e u = answer (e .newFaults u) (fresh e u)
 
 -- The conditions that refuse a call: "State comes before input; within a list the smaller number comes first".
-abbrev pub conditions : {F : Type 0} → Engine F → State F → Terms → List (ℕ × Bool)
-conditions e s t = e .faults s ++ (33, s .finished) ∷ e .listing (s .factor) .refuses t
+abbrev pub conditions : {U : Type 0} → Engine U → State U → Terms → List (ℕ × Bool)
+conditions e s t = e .faults s ++ (33, s .finished) ∷ e .listing (s .over) .refuses t
 
 -- "The call returns its trials and rounds as numbers. It also returns the place after the last word written, which is the next first free place."
 pub record Result : Type 0 where
@@ -37,7 +37,7 @@ pub record ReplyOf (S : Type 0) : Type 0 where
 
 -- What a sweep call returns.
 abbrev pub Reply : Type 0 → Type 0
-Reply F = ReplyOf (State F)
+Reply U = ReplyOf (State U)
 
 -- ---- the searches
 
@@ -46,26 +46,29 @@ abbrev pub within : ℕ → Place → Place
 within end (At X) = cond (ltb X end) (At X) Nowhere
 within end Nowhere = Nowhere
 
--- The search in a half, from a on, where the half's part of the range ends before the end.
+-- None found, after some rounds.
+abbrev pub noneAfter : ℕ → Found
+noneAfter n = record { place = Nowhere; rounds = n }
+
+-- The search in a section, on the way from a on.
 -- "A half in which no significand of the range is left is passed over without a search."
-abbrev pub sought : {F : Type 0} → Engine F → F → Half → ℕ → ℕ → Found
-sought e f h a end =
-    cond (ltb a end) (record { place = within end (e .find f h a .place); rounds = e .find f h a .rounds }) (record { place = Nowhere; rounds = 0 })
+abbrev pub sought : Section → (a : ℕ) → Found
+sought s a =
+    cond (ltb (startIn s a) (s .end)) (record { place = within (s .end) (s .find (startIn s a) .place); rounds = s .find (startIn s a) .rounds }) (noneAfter 0)
 
 -- The first search, where its place is one; otherwise the other, with the rounds of both.
 abbrev pub orElse : Place → Found → Found → Found
 orElse (At X) w other = w
 orElse Nowhere w other = record { place = other .place; rounds = w .rounds + other .rounds }
 
--- Where the high half's search starts: at the larger of a and the first high significand.
-abbrev pub highStart : (firstHigh a : ℕ) → ℕ
-highStart firstHigh a = max a firstHigh
+-- The first suspect from a on in sections, one after another, with the rounds of the searches that lead to it.
+unfoldable pub seek : List Section → (a : ℕ) → Found
+seek [] a = noneAfter 0
+seek (s ∷ l) a = orElse (sought s a .place) (sought s a) (seek l a)
 
--- The first suspect of the range from a on, with the rounds of the searches that lead to it: "Low X are searched before high X".
-unfoldable pub ahead : {F : Type 0} → Engine F → F → (last a : ℕ) → Found
-ahead e f last a =
-    let lower = sought e f low a (lowEnd (e .firstHigh f) last) in
-    orElse (lower .place) lower (sought e f high (highStart (e .firstHigh f) a) (suc last))
+-- The first suspect from a on in all that is swept.
+abbrev pub ahead : {U : Type 0} → Engine U → U → (a : ℕ) → Found
+ahead e u a = seek (e .sections u) a
 
 -- ---- the trials
 
@@ -101,34 +104,31 @@ searched w go =
 
 -- What a call does from a on, with a cap and room for a number of entries.
 -- "Before each suspect is tried, the call stops if the cap is reached or no place is free".
-unfoldable pub run : {F : Type 0} → Engine F → F → (last cap free a : ℕ) → Run
-run e f last zero free a = searched (ahead e f last a) stopped
-run e f last (suc cap) zero a = searched (ahead e f last a) stopped
-run e f last (suc cap) (suc free) a =
-    searched (ahead e f last a) (λ X. tried (e .mark f X) X (run e f last cap (suc free - length (listed (e .mark f X) X)) (suc X)))
+unfoldable pub run : {U : Type 0} → Engine U → U → (cap free a : ℕ) → Run
+unfolding seek
+run e u zero free a = searched (ahead e u a) stopped
+run e u (suc cap) zero a = searched (ahead e u a) stopped
+run e u (suc cap) (suc free) a =
+    searched (ahead e u a) (λ X. tried (e .mark u X) X (run e u cap (suc free - length (listed (e .mark u X) X)) (suc X)))
 
 -- ---- the call
 
--- "the next significand is then that suspect"; "the state is finished exactly when no suspect remains; the next significand is then the last of the range"
-abbrev pub handed : {F : Type 0} → State F → Place → State F
-handed s (At X) = record { factor = s .factor; first = s .first; last = s .last; next = X; finished = false }
-handed s Nowhere = record { factor = s .factor; first = s .first; last = s .last; next = s .last; finished = true }
-
 -- "A refusal returns the number, the state as given, no counts. The list is untouched." An accepted call writes the entries of its words from the first free place on.
-abbrev pub replied : {F : Type 0} → Listing → State F → Call → Refusal → Run → Reply F
-replied l s c (number n) r = record { answer = refused n; state = s; list = c .list }
-replied l s c none r =
+abbrev pub replied : {U : Type 0} → Engine U → State U → Call → Refusal → Run → Reply U
+replied e s c (number n) r = record { answer = refused n; state = s; list = c .list }
+replied e s c none r =
+    let words = entries (e .listing (s .over)) (r .words) in
     record {
-      answer = accepted (record { trials = r .trials; rounds = r .rounds; place = c .free + length (entries l (r .words)) });
-      state = handed s (r .left);
-      list = sets (c .list) (c .free) (entries l (r .words));
+      answer = accepted (record { trials = r .trials; rounds = r .rounds; place = c .free + length words });
+      state = handed e s (r .left);
+      list = sets (c .list) (c .free) words;
     }
 
 -- What a call does on a state, where nothing refuses it: it has room for as many entries as the free places hold.
-abbrev pub runOf : {F : Type 0} → Engine F → State F → Call → Run
-runOf e s c = run e (s .factor) (s .last) (c .cap) (roomIn (e .listing (s .factor)) (length (c .list)) (c .free)) (s .next)
+abbrev pub runOf : {U : Type 0} → Engine U → State U → Call → Run
+runOf e s c = run e (s .over) (c .cap) (roomIn (e .listing (s .over)) (length (c .list)) (c .free)) (s .next)
 
 -- A sweep call.
-unfoldable pub sweepCall : {F : Type 0} → Engine F → State F → Call → Reply F
+unfoldable pub sweepCall : {U : Type 0} → Engine U → State U → Call → Reply U
 unfolding judged entries
-sweepCall e s c = replied (e .listing (s .factor)) s c (judged (conditions e s (termsOf c))) (runOf e s c)
+sweepCall e s c = replied e s c (judged (conditions e s (termsOf c))) (runOf e s c)

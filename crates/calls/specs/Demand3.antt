@@ -11,8 +11,8 @@ use Rattle.marks.specs.declared.Mark.{Mark}
 use Rattle.marks.specs.declared.Mark.the-variants.{Right, Open, Wrong}
 use Rattle.marks.specs.Answers.{NoneHolds, accepted}
 use Rattle.marks.specs.AnswerLaws.{only-accepted}
-use Rattle.calls.specs.State.{State, fresh, Call, Listing, entries}
-use Rattle.calls.specs.Engine.{Engine, Laws, Lawful}
+use Rattle.calls.specs.State.{State, Call, Listing, entries}
+use Rattle.calls.specs.Engine.{Engine, fresh, Laws, Lawful}
 use Rattle.calls.specs.Call.{ReplyOf, newState, sweepCall}
 use Rattle.calls.specs.Plain.{wordsOf, Fed, Plain, begun, untried, stateOf, plains, plainAfter}
 use Rattle.calls.specs.Whole.{sweeps, stateAfter, Each, trialsIn, wordsIn, acceptedIn, endOf, fedBy, Whole}
@@ -39,30 +39,30 @@ not-suspect Right t q h = refl
 not-suspect Open t q h = absurd (true≢false (sym (q (λ z. let u : _≡_ {A = ℕ} 0 1 = cc in omega arith)) ∙ h))
 not-suspect Wrong t q h = absurd (true≢false (sym (q (λ z. let u : _≡_ {A = ℕ} 0 1 = cc in omega arith)) ∙ h))
 
-module _ {F : Type 0} {suspect : F → ℕ → Bool} {e : Engine F} {B : F → ℕ} (lawful : Lawful suspect e B) where
-  module _ (f : F) (first last : ℕ) (sound : NoneHolds (e .newFaults f first last)) (calls : List Call) where
-    abbrev laws : Laws (suspect f) e f (B f) first last
-    laws = lawful .laws f first last sound
+module _ {U : Type 0} {suspect : U → ℕ → Bool} {e : Engine U} {B : U → ℕ} (lawful : Lawful suspect e B) where
+  module _ (u : U) (sound : NoneHolds (e .newFaults u)) (calls : List Call) where
+    abbrev laws : Laws (suspect u) e u (B u)
+    laws = lawful .laws u sound
 
-    abbrev s : State F
-    s = fresh f first last
+    abbrev s : State U
+    s = fresh e u
 
-    abbrev w : Fed F
-    w = fedBy suspect e s
+    abbrev w : Fed U
+    w = fedBy suspect e u
 
     abbrev p : Plain
     p = plainAfter w (begun w) calls
 
     alike : sweeps (sweepCall e) s calls ≡ plains (stateOf w) w (begun w) calls
-    alike = sweeps-same lawful f first last sound calls
+    alike = sweeps-same lawful u sound calls
 
     finished-alike : stateAfter (sweepCall e) s calls .finished ≡ p .finished
-    finished-alike = ap (λ (s : State F). s .finished) (after-same lawful f first last sound calls)
+    finished-alike = ap (λ (s : State U). s .finished) (after-same lawful u sound calls)
 
     trials-are : trialsIn (sweeps (sweepCall e) s calls) ≡ p .tried
     trials-are = rw alike (sym (zero-add _) ∙ trials-add (stateOf w) w calls (begun w))
 
-    words-are : wordsIn (sweeps (sweepCall e) s calls) ≡ entries (w .listing) (wordsOf (e .mark f) (take (p .tried) (w .suspects)))
+    words-are : wordsIn (sweeps (sweepCall e) s calls) ≡ entries (w .listing) (wordsOf (e .mark u) (take (p .tried) (w .suspects)))
     unfolding wordsOf entries
     words-are = rw alike (words-join (stateOf w) w calls (begun w))
 
@@ -77,21 +77,21 @@ module _ {F : Type 0} {suspect : F → ℕ → Bool} {e : Engine F} {B : F → �
     pub finished-by : (m : ℕ) → AllRoomy (w .listing) m calls → 1 ≤ n → length (w .suspects) ≤ n * m → stateAfter (sweepCall e) s calls .finished ≡ true
     finished-by m roomy a h = finished-alike ∙ closes (count m roomy) a (λ u v. omega arith)
 
-    clear : (X : ℕ) → first ≤ X → X ≤ last → suspect f X ≡ false → e .mark f X ≡ Right
-    clear X h k = not-suspect (e .mark f X) (suspect f X) (laws .suspected X h k)
+    clear : (X : ℕ) → w .first ≤ X → X ≤ w .last → suspect u X ≡ false → e .mark u X ≡ Right
+    clear X h k = not-suspect (e .mark u X) (suspect u X) (laws .suspected X h k)
 
     from-fresh : Whole suspect e B (sweepCall e) s calls
     from-fresh =
-        let before = words-before (suspect f) (e .mark f) first last clear (p .tried) (laws .ordered) in
+        let before = words-before (suspect u) (e .mark u) (w .first) (w .last) clear (p .tried) (laws .ordered) in
         record {
           same = alike;
           lists = each _ (sweepCall e) (list-kept lawful) s calls;
           words =
               record {
-                listed = wordsOf (e .mark f) (take (p .tried) (w .suspects));
+                listed = wordsOf (e .mark u) (take (p .tried) (w .suspects));
                 are = words-are;
                 holds =
-                    holds (e .mark f) first (endOf last (untried w p)) (wordsOf (e .mark f) (take (p .tried) (w .suspects)))
+                    holds (e .mark u) (w .first) (endOf (w .last) (untried w p)) (wordsOf (e .mark u) (take (p .tried) (w .suspects)))
                     (before .0) (before .1);
               };
           trials = trials-are;
@@ -106,8 +106,8 @@ module _ {F : Type 0} {suspect : F → ℕ → Bool} {e : Engine F} {B : F → �
           ample = each _ (sweepCall e) (ample lawful) s calls;
         }
 
-  -- Demand 3: the list begins with a new state, over a factor and a range that are not refused.
-  pub whole-sweep : (f : F) (first last : ℕ) (s : State F) → newState e f first last ≡ accepted s → (calls : List Call) → Whole suspect e B (sweepCall e) s calls
-  whole-sweep f first last s q calls =
-      let good = only-accepted (e .newFaults f first last) (fresh f first last) s q in
-      rw (← good .1) (from-fresh f first last (good .0) calls)
+  -- Demand 3: the list begins with a new state, over what is not refused.
+  pub whole-sweep : (u : U) (s : State U) → newState e u ≡ accepted s → (calls : List Call) → Whole suspect e B (sweepCall e) s calls
+  whole-sweep u s q calls =
+      let good = only-accepted (e .newFaults u) (fresh e u) s q in
+      rw (← good .1) (from-fresh u (good .0) calls)

@@ -45,7 +45,7 @@ count-moved total m last n t k l (x ∷ r) a b d g h e =
       going = λ q. (omega (arith, add-mul n 1 m), λ i. omega arith);
     }
 
-module _ {F S : Type 0} (view : Plain → S) (w : Fed F) (lists : ListingLaws (w .listing)) (m : ℕ) where
+module _ {U S : Type 0} (view : Plain → S) (w : Fed U) (lists : ListingLaws (w .listing)) (m : ℕ) where
   count-next : (p : Plain) (n : ℕ) (c : Call) → Roomy (w .listing) m c → Count (length (w .suspects)) m p n
       → Count (length (w .suspects)) m (plainNext w p c .plain) (n + acceptedTold (plainNext w p c .told))
   count-next p n c big count =

@@ -1,4 +1,4 @@
--- The theory of sweep calls. Definitions: State, Engine, Call, Plain, ByRow and Whole. Laws: the others, of which LoopLaws has what a loop over a call's steps wants. Demand 3 stands in Whole, its proof in Demand3. Examples: Toy.
+-- The theory of sweep calls, over any engine: of factors and ranges, or of kits. Definitions: State, Engine, Call, Plain, ByRow, Whole and Kit. Laws: the others, of which LoopLaws has what a loop over a call's steps wants. Demand 3 stands in Whole, its proof in Demand3. Examples: Toy.
 pub mod State
 pub mod Engine
 pub mod Call
@@ -10,7 +10,8 @@ pub mod TrialLaws
 pub mod WordLaws
 pub mod ListLaws
 pub mod RefusalLaws
-pub mod StartLaws
+pub mod SearchLaws
+pub mod HalfLaws
 pub mod RunLaws
 pub mod CallLaws
 pub mod SameLaws

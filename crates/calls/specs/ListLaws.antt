@@ -64,7 +64,7 @@ room-is size place = div-one (size - place)
 
 -- The plain sweep with these lists, in document 01's words: "If it is finished, a call is refused with 33; otherwise cap 0 with 18; otherwise a first free place at or past the list's end with 19";
 -- "f free places, f being the list's length less the first free place".
-pub plain-call : {F : Type 0} (w : Fed F) → w .listing ≡ wordList → (p : Plain) (t : Terms)
+pub plain-call : {U : Type 0} (w : Fed U) → w .listing ≡ wordList → (p : Plain) (t : Terms)
     → plainCall w p t
     ≡ plainReplied w p (t .free) (judged ((33, p .finished) ∷ (18, eqb (t .cap) 0) ∷ (19, leb (t .size) (t .free)) ∷ [])) (tries (w .mark) (t .cap) (t .size - t .free) (untried w p))
 unfolding plainCall

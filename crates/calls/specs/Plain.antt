@@ -21,7 +21,7 @@ unfolding spanOf
 span a b = spanOf a (b - a)
 
 -- x before a list, if a test holds.
-abbrev pub keep : Bool → ℕ → List ℕ → List ℕ
+abbrev pub keep : {A : Type 0} → Bool → A → List A → List A
 keep true x l = x ∷ l
 keep false x l = l
 
@@ -57,19 +57,14 @@ wordsOf mark (x ∷ l) = listed (mark x) x ++ wordsOf mark l
 
 -- ---- the sweep
 
--- What the plain sweep is fed, the factor and the range, with their marks, "the row of all suspects in range, ascending", and how lists are kept.
-pub record Fed (F : Type 0) : Type 0 where
-  pub factor : F
+-- What the plain sweep is fed: what is swept, with its first and last significand and the marks, "the row of all suspects in range, ascending", and how lists are kept.
+pub record Fed (U : Type 0) : Type 0 where
+  pub over : U
   pub first : ℕ
   pub last : ℕ
   pub mark : ℕ → Mark
   pub suspects : List ℕ
   pub listing : Listing
-
--- The row and the marks of a factor and a range.
-abbrev pub fed : {F : Type 0} → (F → ℕ → Bool) → (F → ℕ → Mark) → (F → Listing) → F → ℕ → ℕ → Fed F
-fed suspect mark listing f first last =
-    record { factor = f; first = first; last = last; mark = mark f; suspects = row (suspect f) first (suc last); listing = listing f }
 
 -- It has "the number of them tried", "the next significand" and "a finished mark".
 pub record Plain : Type 0 where
@@ -78,11 +73,11 @@ pub record Plain : Type 0 where
   pub finished : Bool
 
 -- "at first 0", "at first the first of the range", "at first not set"
-abbrev pub begun : {F : Type 0} → Fed F → Plain
+abbrev pub begun : {U : Type 0} → Fed U → Plain
 begun w = record { tried = 0; next = w .first; finished = false }
 
 -- The suspects not yet tried.
-abbrev pub untried : {F : Type 0} → Fed F → Plain → List ℕ
+abbrev pub untried : {U : Type 0} → Fed U → Plain → List ℕ
 untried w p = drop (p .tried) (w .suspects)
 
 -- Where t are tried and a rest of the row is left: "finished exactly when the row is used up";
@@ -103,7 +98,7 @@ pub record PlainReply : Type 0 where
   pub plain : Plain
 
 -- "A refusal changes nothing." Any other call tries the next k, and its words are the entries of those that are not right.
-abbrev pub plainReplied : {F : Type 0} → Fed F → Plain → (free : ℕ) → Refusal → (k : ℕ) → PlainReply
+abbrev pub plainReplied : {U : Type 0} → Fed U → Plain → (free : ℕ) → Refusal → (k : ℕ) → PlainReply
 plainReplied w p free (number n) k = record { told = refused n; plain = p }
 plainReplied w p free none k =
     let words = entries (w .listing) (wordsOf (w .mark) (take k (untried w p))) in
@@ -117,7 +112,7 @@ abbrev pub plainRefusal : Listing → (finished : Bool) → Terms → Refusal
 plainRefusal l finished t = judged ((33, finished) ∷ l .refuses t)
 
 -- A call of the plain sweep, fed its "cap, list length and first free place"; it has room for as many entries as the free places hold.
-unfoldable pub plainCall : {F : Type 0} → Fed F → Plain → Terms → PlainReply
+unfoldable pub plainCall : {U : Type 0} → Fed U → Plain → Terms → PlainReply
 unfolding judged entries
 plainCall w p t =
     plainReplied w p (t .free) (plainRefusal (w .listing) (p .finished) t) (tries (w .mark) (t .cap) (roomIn (w .listing) (t .size) (t .free)) (untried w p))
@@ -132,22 +127,22 @@ pub record SeenOf (S : Type 0) : Type 0 where
 
 -- What is compared of a sweep call.
 abbrev pub Seen : Type 0 → Type 0
-Seen F = SeenOf (State F)
+Seen U = SeenOf (State U)
 
 -- The plain sweep as a state, "whose factor and range are those fed in".
-abbrev pub stateOf : {F : Type 0} → Fed F → Plain → State F
-stateOf w p = record { factor = w .factor; first = w .first; last = w .last; next = p .next; finished = p .finished }
+abbrev pub stateOf : {U : Type 0} → Fed U → Plain → State U
+stateOf w p = record { over = w .over; next = p .next; finished = p .finished }
 
 -- What the plain sweep makes of a call.
-abbrev pub plainNext : {F : Type 0} → Fed F → Plain → Call → PlainReply
+abbrev pub plainNext : {U : Type 0} → Fed U → Plain → Call → PlainReply
 plainNext w p c = plainCall w p (termsOf c)
 
 -- What the plain sweep shows of each call of a list, with itself as a state of type S.
-unfoldable pub plains : {F S : Type 0} → (Plain → S) → Fed F → Plain → List Call → List (SeenOf S)
+unfoldable pub plains : {U S : Type 0} → (Plain → S) → Fed U → Plain → List Call → List (SeenOf S)
 plains view w p [] = []
 plains view w p (c ∷ cs) = record { told = plainNext w p c .told; state = view (plainNext w p c .plain) } ∷ plains view w (plainNext w p c .plain) cs
 
 -- The plain sweep after the calls of a list.
-unfoldable pub plainAfter : {F : Type 0} → Fed F → Plain → List Call → Plain
+unfoldable pub plainAfter : {U : Type 0} → Fed U → Plain → List Call → Plain
 plainAfter w p [] = p
 plainAfter w p (c ∷ cs) = plainAfter w (plainNext w p c .plain) cs

@@ -1,18 +1,18 @@
 -- Laws of the refusals: what a call and its state have where none is judged. Assumes nothing.
 use mathlib.Core.Path.{_≡_, refl}
-use mathlib.Core.Bool.{Bool, false, _||_}
+use mathlib.Core.Bool.{Bool, true, false, _||_}
 use mathlib.Core.Logic.{_↔_}
 use mathlib.Core.List.{[], _∷_}
 use Prim.Native.Nat.{ℕ, _-_, _≤_, _<_}
 use native.Mathlib.Omega.{arith}
 use native.Mathlib.Nat.{one-mul, le-div-iff-mul-le}
-use borrow.Author.Tests.{le-ltb, ltb-false}
-use lib.Dec.{ltb}
+use borrow.Author.Tests.{le-leb, le-ltb, leb-true, ltb-false}
+use lib.Dec.{leb, ltb}
 use lib.ListN.{length}
-use Rattle.marks.specs.Answers.{Refusal, number, none, judged, NoneHolds, refused}
-use Rattle.marks.specs.AnswerLaws.{judged-none, none-holds, or-false}
-use Rattle.calls.specs.State.{State, outOfRange, Call, Terms, termsOf, Listing, roomIn}
-use Rattle.calls.specs.Engine.{Engine, ListingLaws, Lawful}
+use Rattle.marks.specs.Answers.{Refusal, number, none, judged, refused}
+use Rattle.marks.specs.AnswerLaws.{judged-none, none-holds, and-true, or-false}
+use Rattle.calls.specs.State.{Range, State, inRange, outOfRange, Call, Terms, termsOf, Listing, roomIn}
+use Rattle.calls.specs.Engine.{Engine, ListingLaws, Standing, Lawful}
 use Rattle.calls.specs.Call.{conditions, sweepCall}
 use Rattle.calls.specs.Plain.{tries, Fed, Plain, untried, PlainReply, plainReplied, plainRefusal, plainCall, plainNext}
 
@@ -31,11 +31,11 @@ taken {l} laws finished t q =
     record { going = n .0 .0; some = k .0; places = k .1; room = le-div-iff-mul-le {x = 1} (laws .some) .1 (omega (arith, k .1, one-mul (l .places))) }
 
 -- How many such a call tries.
-abbrev pub triedBy : {F : Type 0} → Fed F → Plain → Call → ℕ
+abbrev pub triedBy : {U : Type 0} → Fed U → Plain → Call → ℕ
 triedBy w p c = tries (w .mark) (c .cap) (roomIn (w .listing) (length (c .list)) (c .free)) (untried w p)
 
 -- What holds of a refused call's reply, and of that of a call that is taken, holds of the reply to each call.
-pub plain-reply : {F : Type 0} (w : Fed F) (p : Plain) (c : Call) (P : PlainReply → Type 0) → ((n : ℕ) → P (record { told = refused n; plain = p }))
+pub plain-reply : {U : Type 0} (w : Fed U) (p : Plain) (c : Call) (P : PlainReply → Type 0) → ((n : ℕ) → P (record { told = refused n; plain = p }))
     → (plainRefusal (w .listing) (p .finished) (termsOf c) ≡ none → P (plainReplied w p (c .free) none (triedBy w p c))) → P (plainNext w p c)
 unfolding plainCall
 plain-reply w p c P refuses takes = go (plainRefusal (w .listing) (p .finished) (termsOf c)) refl
@@ -45,33 +45,41 @@ plain-reply w p c P refuses takes = go (plainRefusal (w .listing) (p .finished) 
     go none q = takes q
 
 -- What a call and its state have where no condition refuses them.
-pub record Ready {F : Type 0} (e : Engine F) (s : State F) (t : Terms) : Type 0 where
-  pub sound : NoneHolds (e .newFaults (s .factor) (s .first) (s .last))
-  pub from : s .first ≤ s .next
-  pub upto : s .next ≤ s .last
-  pub lists : ListingLaws (e .listing (s .factor))
-  pub takes : Taken (e .listing (s .factor)) (s .finished) t
+pub record Ready {U : Type 0} (e : Engine U) (s : State U) (t : Terms) : Type 0 where
+  pub stands : Standing e s
+  pub from : e .first (s .over) ≤ s .next
+  pub upto : s .next ≤ e .last (s .over)
+  pub lists : ListingLaws (e .listing (s .over))
+  pub takes : Taken (e .listing (s .over)) (s .finished) t
 
 -- A call that no condition refuses.
-pub ready : {F : Type 0} {suspect : F → ℕ → Bool} {e : Engine F} {B : F → ℕ} → Lawful suspect e B → (s : State F) (t : Terms) → judged (conditions e s t) ≡ none → Ready e s t
-ready {F} {suspect} {e} {B} lawful s t q =
-    let n = judged-none (e .faults s) ((33, s .finished) ∷ e .listing (s .factor) .refuses t) q in
+pub ready : {U : Type 0} {suspect : U → ℕ → Bool} {e : Engine U} {B : U → ℕ} → Lawful suspect e B → (s : State U) (t : Terms) → judged (conditions e s t) ≡ none → Ready e s t
+ready {U} {suspect} {e} {B} lawful s t q =
+    let n = judged-none (e .faults s) ((33, s .finished) ∷ e .listing (s .over) .refuses t) q in
     let stands = lawful .states s .0 (n .0) in
-    let lists = lawful .laws (s .factor) (s .first) (s .last) (stands .sound) .lists in
-    record { sound = stands .sound; from = stands .from; upto = stands .upto; lists = lists; takes = taken lists (s .finished) t (n .1) }
+    let laws = lawful .laws (s .over) (stands .sound) in
+    let inside = laws .between (s .next) (stands .there) in
+    record { stands = stands; from = inside .0; upto = inside .1; lists = laws .lists; takes = taken (laws .lists) (s .finished) t (n .1) }
+
+-- A significand lies in a range exactly if it lies between its first and its last.
+pub between : {F : Type 0} (r : Range F) (X : ℕ) → (inRange r X ≡ true) ↔ ((r .first ≤ X) × (X ≤ r .last))
+between r X = (
+  λ q. let i = and-true (leb (r .first) X) (leb X (r .last)) q in (leb-true (r .first) X (i .0), leb-true X (r .last) (i .1)),
+  λ h. rw (le-leb (r .first) X (h .0), le-leb X (r .last) (h .1)),
+)
 
 -- Where a state is not out of range, its range is good and its next significand lies in it.
-pub in-range : {F : Type 0} (bad : Bool) (s : State F) → (outOfRange bad s ≡ false) ↔ ((bad ≡ false) × (s .first ≤ s .next) × (s .next ≤ s .last))
+pub in-range : {F : Type 0} (bad : Bool) (s : State (Range F)) → (outOfRange bad s ≡ false) ↔ ((bad ≡ false) × (inRange (s .over) (s .next) ≡ true))
 in-range bad s = (
   λ q.
-      let outer = or-false (bad || ltb (s .next) (s .first)) (ltb (s .last) (s .next)) q in
-      let inner = or-false bad (ltb (s .next) (s .first)) (outer .0) in
-      (inner .0, ltb-false (s .next) (s .first) (inner .1), ltb-false (s .last) (s .next) (outer .1)),
-  λ h. rw (h .0, le-ltb (s .next) (s .first) (h .1), le-ltb (s .last) (s .next) (h .2)),
+      let outer = or-false (bad || ltb (s .next) (s .over .first)) (ltb (s .over .last) (s .next)) q in
+      let inner = or-false bad (ltb (s .next) (s .over .first)) (outer .0) in
+      (inner .0, between (s .over) (s .next) .1 (ltb-false (s .next) (s .over .first) (inner .1), ltb-false (s .over .last) (s .next) (outer .1))),
+  λ h. let i = between (s .over) (s .next) .0 (h .1) in rw (h .0, le-ltb (s .next) (s .over .first) (i .0), le-ltb (s .over .last) (s .next) (i .1)),
 )
 
 -- A call that a condition refuses.
-pub call-refused : {F : Type 0} (e : Engine F) (s : State F) (c : Call) (n : ℕ) → judged (conditions e s (termsOf c)) ≡ number n
+pub call-refused : {U : Type 0} (e : Engine U) (s : State U) (c : Call) (n : ℕ) → judged (conditions e s (termsOf c)) ≡ number n
     → record { answer = refused n; state = s; list = c .list } ≡ sweepCall e s c
 unfolding sweepCall
 call-refused e s c n q = rw q

@@ -1,5 +1,5 @@
 -- Definitions: states, calls, words and how a list keeps them, which the call by searches and the plain sweep share. What stands in quotes is document 01's.
-use mathlib.Core.Bool.{Bool, false, _||_}
+use mathlib.Core.Bool.{Bool, _&&_, _||_}
 use mathlib.Core.List.{List, [], _∷_, _++_}
 use Prim.Native.Nat.{ℕ, _+_, _-_, _*_, _/_}
 use lib.Dec.{eqb, leb, ltb}
@@ -9,21 +9,25 @@ use Rattle.marks.specs.declared.Mark.the-variants.{Right, Open, Wrong}
 
 -- ---- states
 
--- "A sweep state has the factor, the first, last and next significand and a finished mark."
-pub record State (F : Type 0) : Type 0 where
+-- A factor and a range of its significands. F is the type of factors.
+pub record Range (F : Type 0) : Type 0 where
   pub factor : F
   pub first : ℕ
   pub last : ℕ
+
+-- "A sweep state has the factor, the first, last and next significand and a finished mark." U is the type of what is swept: here a factor and a range, elsewhere a kit.
+pub record State (U : Type 0) : Type 0 where
+  pub over : U
   pub next : ℕ
   pub finished : Bool
 
--- "A new state has the first as next and is not finished."
-abbrev pub fresh : {F : Type 0} → F → ℕ → ℕ → State F
-fresh f first last = record { factor = f; first = first; last = last; next = first; finished = false }
+-- Whether a significand lies in a range.
+abbrev pub inRange : {F : Type 0} → Range F → ℕ → Bool
+inRange r X = leb (r .first) X && leb X (r .last)
 
 -- "the range is one that 17 refuses, or the next significand lies outside it"
-abbrev pub outOfRange : {F : Type 0} → (bad : Bool) → State F → Bool
-outOfRange bad s = bad || ltb (s .next) (s .first) || ltb (s .last) (s .next)
+abbrev pub outOfRange : {F : Type 0} → (bad : Bool) → State (Range F) → Bool
+outOfRange bad s = bad || ltb (s .next) (s .over .first) || ltb (s .over .last) (s .next)
 
 -- ---- calls
 

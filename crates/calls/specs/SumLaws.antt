@@ -19,7 +19,7 @@ moved-tried last t (x ∷ l) = refl
 
 -- ---- trials and words
 
-module _ {F S : Type 0} (view : Plain → S) (w : Fed F) where
+module _ {U S : Type 0} (view : Plain → S) (w : Fed U) where
   trials-one : (p : Plain) (c : Call) → p .tried + trialsTold (plainNext w p c .told) ≡ plainNext w p c .plain .tried
   trials-one p c =
       plain-reply w p c (λ r. p .tried + trialsTold (r .told) ≡ r .plain .tried) (λ n. add-zero (p .tried))

@@ -12,15 +12,17 @@ use Rattle.marks.specs.declared.Mark.the-variants.{Right, Open, Wrong}
 use Rattle.marks.specs.Answers.{refused, accepted, answer}
 use Rattle.marks.specs.AnswerLaws.{or-false}
 use Rattle.search.specs.declared.Place.the-variants.{At, Nowhere}
+use Rattle.search.specs.declared.Found.{Found}
 use Rattle.search.specs.Finds.{LeastFrom}
-use Rattle.calls.specs.State.{State, fresh, outOfRange, Call, Listing, wordList}
-use Rattle.calls.specs.Engine.{Half, low, high, halfOf, lowEnd, Engine, ListingLaws, Lawful}
-use Rattle.calls.specs.Call.{newState, ahead, run, sweepCall}
-use Rattle.calls.specs.Plain.{row, tries, wordsOf, Fed, fed, begun, plainCall, Seen, stateOf, plains}
-use Rattle.calls.specs.ByRow.{searchesOf}
-use Rattle.calls.specs.Whole.{Whole}
+use Rattle.calls.specs.State.{Range, State, inRange, outOfRange, Call, Listing, wordList}
+use Rattle.calls.specs.Engine.{Half, low, high, lowEnd, halves, Engine, fresh, handed, ListingLaws, Lawful}
+use Rattle.calls.specs.Call.{newState, seek, run, sweepCall}
+use Rattle.calls.specs.Plain.{row, tries, wordsOf, Fed, begun, plainCall, Seen, stateOf, plains}
+use Rattle.calls.specs.ByRow.{closings, searchesOf}
+use Rattle.calls.specs.Whole.{fedBy, Whole}
 use Rattle.calls.specs.ListLaws.{word-laws}
-use Rattle.calls.specs.RefusalLaws.{in-range}
+use Rattle.calls.specs.RefusalLaws.{between, in-range}
+use Rattle.calls.specs.HalfLaws.{halves-chain, halves-tiled, halves-span, halves-finds}
 use Rattle.calls.specs.Demand3.{whole-sweep}
 
 -- X is a suspect for the factor f, from 0 to 6, if X + f is a multiple of 7.
@@ -34,19 +36,25 @@ abbrev toyRounds : Half → ℕ → ℕ
 toyRounds low a = a % 5
 toyRounds high a = a % 3
 
+abbrev toyFind : ℕ → Half → ℕ → Found
+toyFind f h a = record { place = At (a + (6 * (a + f)) % 7); rounds = toyRounds h a }
+
 abbrev badRange : ℕ → ℕ → Bool
 badRange first last = ltb first 64 || leb 128 last || ltb last first
 
 -- Significands from 64 to 127, of which those from 100 on are high, and lists kept in some way.
-abbrev pub toyBy : Listing → Engine ℕ
+abbrev pub toyBy : Listing → Engine (Range ℕ)
 toyBy l =
     record {
-      newFaults = λ f first last. (31, leb 7 f) ∷ (17, badRange first last) ∷ [];
-      faults = λ s. (31, leb 7 (s .factor)) ∷ (32, outOfRange (badRange (s .first) (s .last)) s) ∷ [];
-      listing = λ f. l;
-      mark = toyMark;
-      firstHigh = λ f. 100;
-      find = λ f h a. record { place = At (a + (6 * (a + f)) % 7); rounds = toyRounds h a };
+      newFaults = λ r. (31, leb 7 (r .factor)) ∷ (17, badRange (r .first) (r .last)) ∷ [];
+      faults = λ s. (31, leb 7 (s .over .factor)) ∷ (32, outOfRange (badRange (s .over .first) (s .over .last)) s) ∷ [];
+      listing = λ r. l;
+      first = λ r. r .first;
+      last = λ r. r .last;
+      has = inRange;
+      mark = λ r. toyMark (r .factor);
+      sections = λ r. halves 100 (r .last) (toyFind (r .factor));
+      beyond = λ s t. 2;
     }
 
 -- An entry has two words, the significand and 1 for open. Refused are lists of other words than 32-bit ones, by a number before 18, and fewer than two free places.
@@ -58,10 +66,10 @@ twoWords =
       entry = λ w. w / 2 ∷ w % 2 ∷ [];
     }
 
-abbrev pub toy : Engine ℕ
+abbrev pub toy : Engine (Range ℕ)
 toy = toyBy wordList
 
-abbrev pub pairs : Engine ℕ
+abbrev pub pairs : Engine (Range ℕ)
 pairs = toyBy twoWords
 
 two-laws : ListingLaws twoWords
@@ -84,32 +92,42 @@ suspected : (X : ℕ) (t : Bool) → cond t (cond (eqb (X % 2) 0) Right (cond (e
 suspected X true q = refl
 suspected X false q = absurd (q refl)
 
+-- whether a significand is a suspect of what is swept
+abbrev suspectIn : Range ℕ → ℕ → Bool
+suspectIn r X = toySuspect (r .factor) X
+
 -- The laws hold of it, with at most 4 rounds a search.
-pub toy-lawful : {l : Listing} → ListingLaws l → Lawful toySuspect (toyBy l) (λ f. 4)
-toy-lawful lists =
+pub toy-lawful : {l : Listing} → ListingLaws l → Lawful suspectIn (toyBy l) (λ r. 4)
+toy-lawful {l} lists =
     record {
       states = λ s.
-          let r = in-range (badRange (s .first) (s .last)) s in (
-            (λ h. let i = r .0 (h .1 .0) in record { sound = (h .0, (i .0, tt)); from = i .1; upto = i .2 }),
-            (λ h. (h .sound .0, (r .1 (h .sound .1 .0, h .from, h .upto), tt))),
+          let r = in-range (badRange (s .over .first) (s .over .last)) s in (
+            (λ h. let i = r .0 (h .1 .0) in record { sound = (h .0, (i .0, tt)); there = i .1 }),
+            (λ h. (h .sound .0, (r .1 (h .sound .1 .0, h .there), tt))),
           );
-      laws = λ f first last h.
-          let i = or-false (ltb first 64 || leb 128 last) (ltb last first) (h .1 .0) in
+      laws = λ r h.
+          let i = or-false (ltb (r .first) 64 || leb 128 (r .last)) (ltb (r .last) (r .first)) (h .1 .0) in
+          let o = ltb-false (r .last) (r .first) (i .1) in
           record {
-            ordered = ltb-false last first (i .1);
+            ordered = o;
+            begins = between r (r .first) .1 (omega arith, o);
+            ends = between r (r .last) .1 (o, omega arith);
+            between = λ X. between r X .0;
+            had = λ X h k t. between r X .1 (h, k);
             lists = lists;
-            suspected = λ X h k q. suspected X (toySuspect f X) q;
-            finds-low = λ a h k i. least f (lowEnd 100 last) a;
-            finds-high = λ a h k i. least f (suc last) a;
-            few = λ a h k. few (halfOf 100 a) a;
+            suspected = λ X h k q. suspected X (suspectIn r X) q;
+            chain = halves-chain 100 (r .last) (toyFind (r .factor));
+            tiled = λ X h k t. halves-tiled 100 (r .last) (toyFind (r .factor)) X k;
+            finds = halves-finds 100 (r .last) (toyFind (r .factor)) (suspectIn r) (r .first) 4 (λ a h k i. least (r .factor) (lowEnd 100 (r .last)) a) (λ a h k i. least (r .factor) (suc (r .last)) a) few;
           };
+      spans = λ s h p q. halves-span 100 (s .over .last) (toyFind (s .over .factor)) (suspectIn (s .over)) (s .next) p q;
     }
 
 -- Demand 3 holds of it, however its lists are kept.
-pub toy-whole : (f first last : ℕ) (s : State ℕ) → newState toy f first last ≡ accepted s → (calls : List Call) → Whole toySuspect toy (λ f. 4) (sweepCall toy) s calls
+pub toy-whole : (r : Range ℕ) (s : State (Range ℕ)) → newState toy r ≡ accepted s → (calls : List Call) → Whole suspectIn toy (λ r. 4) (sweepCall toy) s calls
 toy-whole = whole-sweep (toy-lawful word-laws)
 
-pub pairs-whole : (f first last : ℕ) (s : State ℕ) → newState pairs f first last ≡ accepted s → (calls : List Call) → Whole toySuspect pairs (λ f. 4) (sweepCall pairs) s calls
+pub pairs-whole : (r : Range ℕ) (s : State (Range ℕ)) → newState pairs r ≡ accepted s → (calls : List Call) → Whole suspectIn pairs (λ r. 4) (sweepCall pairs) s calls
 pairs-whole = whole-sweep (toy-lawful two-laws)
 
 -- ---- calls over 81 to 127 for the factor 2, with the suspects 82, 89, 96, 103, 110, 117 and 124, of which 89 and 103 are wrong and 117 is open
@@ -117,65 +135,71 @@ pairs-whole = whole-sweep (toy-lawful two-laws)
 abbrev asked : (cap : ℕ) → List ℕ → (free : ℕ) → Call
 asked cap list free = record { cap = cap; width = 32; list = list; free = free }
 
-abbrev before : ℕ → State ℕ
-before next = record { factor = 2; first = 81; last = 127; next = next; finished = false }
+abbrev ranged : (f first last : ℕ) → Range ℕ
+ranged f first last = record { factor = f; first = first; last = last }
 
-abbrev end : State ℕ
-end = record { factor = 2; first = 81; last = 127; next = 127; finished = true }
+abbrev before : ℕ → State (Range ℕ)
+before next = record { over = ranged 2 81 127; next = next; finished = false }
+
+abbrev end : State (Range ℕ)
+end = record { over = ranged 2 81 127; next = 127; finished = true }
 
 -- 31 comes before 17.
-new-refused : newState toy 7 127 81 ≡ refused 31
+new-refused : newState toy (ranged 7 127 81) ≡ refused 31
 unfolding answer
 new-refused = refl
 
 -- The cap stops the first call, at 96.
 first-call : sweepCall toy (before 81) (asked 2 (9 ∷ 9 ∷ 9 ∷ []) 1)
     ≡ record { answer = accepted (record { trials = 2; rounds = 4; place = 2 }); state = before 96; list = 9 ∷ 178 ∷ 9 ∷ [] }
-unfolding sweepCall run ahead
+unfolding sweepCall run seek
 first-call = refl
 
 -- A refused call changes nothing.
 refused-call : sweepCall toy (before 96) (asked 0 (9 ∷ 9 ∷ 9 ∷ []) 3)
     ≡ record { answer = refused 18; state = before 96; list = 9 ∷ 9 ∷ 9 ∷ [] }
-unfolding sweepCall run ahead
+unfolding sweepCall run seek
 refused-call = refl
 
 -- The call resumes at 96, goes on into the high half, and is stopped by a full list at 124.
 resumed-call : sweepCall toy (before 96) (asked 5 (9 ∷ 9 ∷ []) 0)
     ≡ record { answer = accepted (record { trials = 4; rounds = 7; place = 2 }); state = before 124; list = 206 ∷ 235 ∷ [] }
-unfolding sweepCall run ahead
+unfolding sweepCall run seek
 resumed-call = refl
 
 -- The last suspect is the last of the range: no search is made past it.
-closing-call : sweepCall toy (fresh 2 121 124) (asked 5 (9 ∷ []) 0)
+closing-call : sweepCall toy (fresh toy (ranged 2 121 124)) (asked 5 (9 ∷ []) 0)
     ≡ record {
       answer = accepted (record { trials = 1; rounds = 1; place = 0 });
-      state = record { factor = 2; first = 121; last = 124; next = 124; finished = true };
+      state = record { over = ranged 2 121 124; next = 124; finished = true };
       list = 9 ∷ [];
     }
-unfolding sweepCall run ahead
+unfolding sweepCall run seek
 closing-call = refl
 
 -- The searches of these three: one for each trial and one for the suspect stopped at; of the second call also one that finds none in the low half, from 97 to 99; of the last no more than its trial's.
-first-searches : searchesOf (toySuspect 2) 100 127 81 2 (At 96) ≡ 3
+first-searches : searchesOf (toySuspect 2) (toy .sections (ranged 2 81 127)) 81 2 (At 96) ≡ 3
+unfolding closings
 first-searches = refl
 
-resumed-searches : searchesOf (toySuspect 2) 100 127 96 4 (At 124) ≡ 6
+resumed-searches : searchesOf (toySuspect 2) (toy .sections (ranged 2 81 127)) 96 4 (At 124) ≡ 6
+unfolding closings
 resumed-searches = refl
 
-closing-searches : searchesOf (toySuspect 2) 100 124 121 1 Nowhere ≡ 1
+closing-searches : searchesOf (toySuspect 2) (toy .sections (ranged 2 121 124)) 121 1 Nowhere ≡ 1
+unfolding closings
 closing-searches = refl
 
 -- A finished state is refused before a cap of 0.
 finished-call : sweepCall toy end (asked 0 [] 0) ≡ record { answer = refused 33; state = end; list = [] }
-unfolding sweepCall run ahead
+unfolding sweepCall run seek
 finished-call = refl
 
 -- The plain sweep of calls over the range, and what it shows.
-fedIn : Listing → Fed ℕ
-fedIn l = fed toySuspect toyMark (λ f. l) 2 81 127
+fedIn : Listing → Fed (Range ℕ)
+fedIn l = fedBy suspectIn (toyBy l) (ranged 2 81 127)
 
-plainCalls : Listing → List Call → List (Seen ℕ)
+plainCalls : Listing → List Call → List (Seen (Range ℕ))
 unfolding fedIn plains plainCall row tries wordsOf
 plainCalls l calls = plains (stateOf (fedIn l)) (fedIn l) (begun (fedIn l)) calls
 
@@ -200,19 +224,19 @@ plain-calls = refl
 -- Five places hold two entries, so that the call is stopped by a full list at 124, and the fifth place is left.
 pair-call : sweepCall pairs (before 96) (asked 5 (9 ∷ 9 ∷ 9 ∷ 9 ∷ 9 ∷ []) 0)
     ≡ record { answer = accepted (record { trials = 4; rounds = 7; place = 4 }); state = before 124; list = 103 ∷ 0 ∷ 117 ∷ 1 ∷ 9 ∷ [] }
-unfolding sweepCall run ahead
+unfolding sweepCall run seek
 pair-call = refl
 
 -- One free place is not enough.
 pair-refused : sweepCall pairs (before 124) (asked 5 (9 ∷ 9 ∷ 9 ∷ 9 ∷ 9 ∷ []) 4)
     ≡ record { answer = refused 44; state = before 124; list = 9 ∷ 9 ∷ 9 ∷ 9 ∷ 9 ∷ [] }
-unfolding sweepCall run ahead
+unfolding sweepCall run seek
 pair-refused = refl
 
 -- Words of another width are refused before a cap of 0.
 pair-width : sweepCall pairs (before 124) (record { cap = 0; width = 64; list = 9 ∷ 9 ∷ []; free = 0 })
     ≡ record { answer = refused 49; state = before 124; list = 9 ∷ 9 ∷ [] }
-unfolding sweepCall run ahead
+unfolding sweepCall run seek
 pair-width = refl
 
 -- The plain sweep has the same.

@@ -11,11 +11,12 @@ use Rattle.marks.specs.declared.Mark.the-variants.{Open, Wrong}
 use Rattle.marks.specs.Answers.{Outcome, refused, accepted}
 use Rattle.search.specs.declared.Place.{Place}
 use Rattle.search.specs.declared.Place.the-variants.{At, Nowhere}
+use Rattle.search.specs.declared.Found.{Found}
 use Rattle.calls.specs.State.{State, Call, Listing, entries, roomIn}
 use Rattle.calls.specs.Engine.{Engine}
 use Rattle.calls.specs.Call.{Result, ReplyOf, Reply}
-use Rattle.calls.specs.Plain.{span, wordsOf, Fed, fed, Plain, begun, untried, Told, SeenOf, Seen, stateOf, plains, plainAfter}
-use Rattle.calls.specs.ByRow.{starts, roundsFrom, searchesOf, rowAhead}
+use Rattle.calls.specs.Plain.{span, row, wordsOf, Fed, Plain, begun, untried, Told, SeenOf, Seen, stateOf, plains, plainAfter}
+use Rattle.calls.specs.ByRow.{trail, roundsIn, searchesOf, rowAhead}
 
 -- ---- what is seen of calls; `call` is any account of a call, good or bad
 
@@ -129,70 +130,70 @@ pub record HoldsAs (l : Listing) (mark : ℕ → Mark) (a b : ℕ) (words : List
   pub are : words ≡ entries l listed
   pub holds : Holds mark a b listed
 
--- The starts of an accepted call's searches, read off the row of suspects.
-abbrev pub startsOf : {F : Type 0} → (F → ℕ → Bool) → Engine F → State F → Result → List ℕ
-startsOf suspect e s r = starts (e .firstHigh (s .factor)) (s .last) (s .next) (r .trials) (rowAhead suspect s)
+-- An accepted call's searches, read off the row of suspects.
+abbrev pub madeBy : {U : Type 0} → (U → ℕ → Bool) → Engine U → State U → Result → List Found
+madeBy suspect e s r = trail (e .sections (s .over)) (s .next) (r .trials) (rowAhead suspect e s)
 
 -- Where a call stopped, by the state that it hands back: at a suspect, or at none.
-abbrev pub stopOf : {F : Type 0} → State F → Place
+abbrev pub stopOf : {U : Type 0} → State U → Place
 stopOf t = cond (t .finished) Nowhere (At (t .next))
 
 -- An accepted call's searches are as many as document 01 has it; t is the state that it hands back.
-abbrev pub SearchesRight : {F : Type 0} → (F → ℕ → Bool) → Engine F → (s t : State F) → Result → Type 0
-SearchesRight suspect e s t r =
-    length (startsOf suspect e s r) ≡ searchesOf (suspect (s .factor)) (e .firstHigh (s .factor)) (s .last) (s .next) (r .trials) (stopOf t)
+abbrev pub SearchesRight : {U : Type 0} → (U → ℕ → Bool) → Engine U → (s t : State U) → Result → Type 0
+SearchesRight suspect e s t r = length (madeBy suspect e s r) ≡ searchesOf (suspect (s .over)) (e .sections (s .over)) (s .next) (r .trials) (stopOf t)
 
--- An accepted call's rounds are those of its searches, added up over their starts, and at most B of the factor for each trial and two more.
-pub record RoundsRight {F : Type 0} (suspect : F → ℕ → Bool) (e : Engine F) (B : F → ℕ) (s : State F) (r : Result) : Type 0 where
-  pub are : r .rounds ≡ roundsFrom e (s .factor) (startsOf suspect e s r)
-  pub few : r .rounds ≤ B (s .factor) * (r .trials + 2)
+-- An accepted call's rounds are those of its searches, added up, and at most B for each trial and for as many searches more as the engine has it.
+pub record RoundsRight {U : Type 0} (suspect : U → ℕ → Bool) (e : Engine U) (B : U → ℕ) (s t : State U) (r : Result) : Type 0 where
+  pub are : r .rounds ≡ roundsIn (madeBy suspect e s r)
+  pub few : r .rounds ≤ B (s .over) * (r .trials + e .beyond s t)
 
 -- "Trials are capped": an accepted call tries at most its cap.
 abbrev pub Capped : Call → Result → Type 0
 Capped c r = r .trials ≤ c .cap
 
 -- An accepted call tries at least the smallest of cap, room for entries and suspects left.
-abbrev pub Ample : {F : Type 0} → (F → ℕ → Bool) → Engine F → State F → Call → Result → Type 0
-Ample suspect e s c r = min (c .cap) (min (roomIn (e .listing (s .factor)) (length (c .list)) (c .free)) (length (rowAhead suspect s))) ≤ r .trials
+abbrev pub Ample : {U : Type 0} → (U → ℕ → Bool) → Engine U → State U → Call → Result → Type 0
+Ample suspect e s c r = min (c .cap) (min (roomIn (e .listing (s .over)) (length (c .list)) (c .free)) (length (rowAhead suspect e s))) ≤ r .trials
 
--- What the plain sweep is fed for a new state.
-abbrev pub fedBy : {F : Type 0} → (F → ℕ → Bool) → Engine F → State F → Fed F
-fedBy suspect e s = fed suspect (e .mark) (e .listing) (s .factor) (s .first) (s .last)
+-- What the plain sweep is fed for what is swept.
+abbrev pub fedBy : {U : Type 0} → (U → ℕ → Bool) → Engine U → U → Fed U
+fedBy suspect e u =
+    record { over = u; first = e .first u; last = e .last u; mark = e .mark u; suspects = row (suspect u) (e .first u) (suc (e .last u)); listing = e .listing u }
 
--- What it shows of calls from there on.
-abbrev pub plainly : {F : Type 0} → (F → ℕ → Bool) → Engine F → State F → List Call → List (Seen F)
-plainly suspect e s calls = plains (stateOf (fedBy suspect e s)) (fedBy suspect e s) (begun (fedBy suspect e s)) calls
+-- What it shows of calls from a new state on.
+abbrev pub plainly : {U : Type 0} → (U → ℕ → Bool) → Engine U → U → List Call → List (Seen U)
+plainly suspect e u calls = plains (stateOf (fedBy suspect e u)) (fedBy suspect e u) (begun (fedBy suspect e u)) calls
 
 -- Where it is after them.
-abbrev pub plainEnd : {F : Type 0} → (F → ℕ → Bool) → Engine F → State F → List Call → Plain
-plainEnd suspect e s calls = plainAfter (fedBy suspect e s) (begun (fedBy suspect e s)) calls
+abbrev pub plainEnd : {U : Type 0} → (U → ℕ → Bool) → Engine U → U → List Call → Plain
+plainEnd suspect e u calls = plainAfter (fedBy suspect e u) (begun (fedBy suspect e u)) calls
 
 -- ---- demand 3
 
 -- For every list of sweep calls from a new state, refused ones included, whatever their caps, lists and free places. Each field says which of the engines that condition (c) names it shuts out.
-pub record Whole {F : Type 0} (suspect : F → ℕ → Bool) (e : Engine F) (B : F → ℕ) (call : State F → Call → Reply F) (s : State F) (calls : List Call) : Type 0 where
+pub record Whole {U : Type 0} (suspect : U → ℕ → Bool) (e : Engine U) (B : U → ℕ) (call : State U → Call → Reply U) (s : State U) (calls : List Call) : Type 0 where
   -- each call's answer, trials, words and state are those of document 01's plain sweep
   -- (shut out: one that lists all in its first call past the cap; invented trials)
-  pub same : sweeps call s calls ≡ plainly suspect e s calls
+  pub same : sweeps call s calls ≡ plainly suspect e (s .over) calls
   -- the words of a call are all that it writes: places before its first free place and unused ones are as they were, and a refused call leaves the list
   pub lists : Each (λ s c r. ListKept c (r .answer) (r .list)) call s calls
   -- joined words hold exactly the significands in range that are not right below the first suspect not yet tried (all if none is left), once each, ascending, with marks
-  pub words : HoldsAs (e .listing (s .factor)) (e .mark (s .factor)) (s .first) (endOf (s .last) (untried (fedBy suspect e s) (plainEnd suspect e s calls))) (wordsIn (sweeps call s calls))
+  pub words : HoldsAs (e .listing (s .over)) (e .mark (s .over)) (e .first (s .over)) (endOf (e .last (s .over)) (untried (fedBy suspect e (s .over)) (plainEnd suspect e (s .over) calls))) (wordsIn (sweeps call s calls))
   -- trials add up, to the number of suspects tried
-  pub trials : trialsIn (sweeps call s calls) ≡ plainEnd suspect e s calls .tried
+  pub trials : trialsIn (sweeps call s calls) ≡ plainEnd suspect e (s .over) calls .tried
   -- it is finished exactly when all suspects are tried and a call was accepted
   -- (shut out: one that calls itself finished with nothing tried)
-  pub finished : (stateAfter call s calls .finished ≡ true) ↔ ((1 ≤ acceptedIn (sweeps call s calls)) × (trialsIn (sweeps call s calls) ≡ length (fedBy suspect e s .suspects)))
+  pub finished : (stateAfter call s calls .finished ≡ true) ↔ ((1 ≤ acceptedIn (sweeps call s calls)) × (trialsIn (sweeps call s calls) ≡ length (fedBy suspect e (s .over) .suspects)))
   -- within as many accepted calls as suspects, or one where there are none
-  pub latest : max 1 (length (fedBy suspect e s .suspects)) ≤ acceptedIn (sweeps call s calls) → stateAfter call s calls .finished ≡ true
+  pub latest : max 1 (length (fedBy suspect e (s .over) .suspects)) ≤ acceptedIn (sweeps call s calls) → stateAfter call s calls .finished ≡ true
   -- "Trials are capped"
   -- (shut out: one that lists all in its first call past the cap)
   pub capped : Each (λ s c r. IfAccepted (Capped c) (r .answer)) call s calls
   -- "one search for each suspect tried, one search that finds none for each half completed, and one for the suspect stopped at"
   pub searches : Each (λ s c r. IfAccepted (SearchesRight suspect e s (r .state)) (r .answer)) call s calls
-  -- rounds are the searches' and at most 64 × (trials + 2)
+  -- rounds are the searches' and few: of a sweep at most 64 × (trials + 2)
   -- (shut out: invented rounds)
-  pub rounds : Each (λ s c r. IfAccepted (RoundsRight suspect e B s) (r .answer)) call s calls
+  pub rounds : Each (λ s c r. IfAccepted (RoundsRight suspect e B s (r .state)) (r .answer)) call s calls
   -- the stop rule's least: an accepted call has a cap of at least 1 and room for an entry, so it tries its first suspect
   -- (shut out: one that stops before its first suspect)
   pub ample : Each (λ s c r. IfAccepted (Ample suspect e s c) (r .answer)) call s calls

@@ -20,9 +20,9 @@ use Rattle.quotient.specs.Answer.{divided}
 use Rattle.reading.specs.Reading.{DirectedNumber, applied}
 use Rattle.reading.specs.Divided.{dividedReading}
 use Rattle.words.specs.Words.{unsigned}
-use Rattle.calls.specs.State.{State}
+use Rattle.calls.specs.State.{Range, State}
 use Rattle.calls.specs.Call.{newState, Result, Reply, sweepCall}
-use Rattle.sweep.specs.Engine.{engine}
+use Rattle.sweep.specs.Engine.{range, engine}
 use Rattle.sweep.specs.Answers.{callOf}
 use Rattle.tally.specs.declared.Counts.{Counts}
 use Rattle.tally.specs.Tally.{tallied}
@@ -133,12 +133,12 @@ unfolding dividedReading taken toBits ofBits
 divideReadingTo factor reading out = plainAnswer readingWords (andThen (taken factor factorLength (length out) 2) (λ f. dividedReading f (ofBits binary32 reading)))
 
 -- ---- a new sweep: 0 and the state, or the refusal
-abbrev pub newSweepAnswer : Outcome (State Factor) → Answer
+abbrev pub newSweepAnswer : Outcome (State (Range Factor)) → Answer
 newSweepAnswer o = plainAnswer stateWords o
 
 unfoldable pub newSweepTo : (factor : List ℕ) (first last : ℕ) (out : List ℕ) → Answer
 unfolding taken stateWords
-newSweepTo factor first last out = newSweepAnswer (andThen (taken factor factorLength (length out) stateLength) (λ f. newState engine f first last))
+newSweepTo factor first last out = newSweepAnswer (andThen (taken factor factorLength (length out) stateLength) (λ f. newState engine (range f first last)))
 
 -- ---- a sweep call: 0, the state handed back, the list as it then is, and trials, rounds and place; or the refusal, and nothing written
 pub record SweepWords : Type 0 where
@@ -151,15 +151,15 @@ pub record SweepWords : Type 0 where
 abbrev pub refusedWith : ℕ → (list : List ℕ) → SweepWords
 refusedWith k list = record { number = k; state = []; list = list; counts = [] }
 
-abbrev pub sweepAnswer : Outcome Result → State Factor → List ℕ → SweepWords
+abbrev pub sweepAnswer : Outcome Result → State (Range Factor) → List ℕ → SweepWords
 sweepAnswer (accepted r) s list = record { number = 0; state = stateWords s; list = list; counts = r .trials ∷ r .rounds ∷ r .place ∷ [] }
 sweepAnswer (refused k) s list = refusedWith k list
 
-abbrev pub replyWords : Reply Factor → SweepWords
+abbrev pub replyWords : Reply (Range Factor) → SweepWords
 replyWords r = sweepAnswer (r .answer) (r .state) (r .list)
 
 -- the reply to a call, where its factor is taken
-abbrev pub replyTo : (list : List ℕ) → Outcome Factor → (Factor → Reply Factor) → SweepWords
+abbrev pub replyTo : (list : List ℕ) → Outcome Factor → (Factor → Reply (Range Factor)) → SweepWords
 replyTo list (accepted f) reply = replyWords (reply f)
 replyTo list (refused k) reply = refusedWith k list
 

@@ -16,10 +16,11 @@ use Rattle.factor.specs.declared.Factor.{Factor}
 use Rattle.factor.specs.declared.Description.{Description}
 use Rattle.factor.specs.Precision.{rangeOut}
 use Rattle.factor.specs.SetUp.{setUp, intact}
-use Rattle.calls.specs.State.{State, fresh, Call, termsOf, wordList}
-use Rattle.calls.specs.Call.{newState, Result, Reply, Run, conditions, handed, replied, runOf, sweepCall}
+use Rattle.calls.specs.State.{Range, State, Call, termsOf}
+use Rattle.calls.specs.Engine.{fresh, handed}
+use Rattle.calls.specs.Call.{newState, Result, Reply, Run, conditions, replied, runOf, sweepCall}
 use Rattle.sweep.specs.declared.SweepAnswer.{SweepAnswer}
-use Rattle.sweep.specs.Engine.{engine}
+use Rattle.sweep.specs.Engine.{range, engine}
 use Rattle.sweep.specs.Answers.{callOf, replyOf, codeOf}
 use Rattle.sweep.specs.Demand3.{set-up-begins, Made, replyIn, Kept, askedIn, lastIn, Demand3, demand-3}
 use Rattle.exports.specs.Words.{factorLength, factorFrom, factorWords, stateLength, stateOf, stateFrom, stateWords}
@@ -28,11 +29,11 @@ use Rattle.exports.specs.WordLaws.{Writable, set-up-writable, read-writa
 
 -- ---- one call
 -- on the words of a state, whatever stands behind them, it is the engine's call on that state
-module _ (s : State Factor) (W : Writable (s .factor)) (rest : List ℕ) (cap : ℕ) (list : List ℕ) (free : ℕ) (counts : List ℕ) where
+module _ (s : State (Range Factor)) (W : Writable (s .over .factor)) (rest : List ℕ) (cap : ℕ) (list : List ℕ) (free : ℕ) (counts : List ℕ) where
   abbrev ws : List ℕ
   ws = stateWords s ++ rest
 
-  abbrev reply : Reply Factor
+  abbrev reply : Reply (Range Factor)
   reply = sweepCall engine s (callOf cap list free)
 
   state-taken : 3 ≤ length counts → taken ws stateLength (length counts) 3 ≡ accepted (factorFrom ws)
@@ -43,26 +44,26 @@ module _ (s : State Factor) (W : Writable (s .factor)) (rest : List ℕ) (cap : 
   unfolding sweepTo stateFrom
   call-to room =
       ap (λ (o : Outcome Factor). replyTo list o (λ f. sweepCall engine (stateOf f ws) (callOf cap list free))) (state-taken room)
-      ∙ ap (λ (t : State Factor). replyWords (sweepCall engine t (callOf cap list free))) (state-back s W rest)
+      ∙ ap (λ (t : State (Range Factor)). replyWords (sweepCall engine t (callOf cap list free))) (state-back s W rest)
 
 -- the words that it leaves are those of the state handed back, which is over the same factor
-pub words-left : (s : State Factor) (c : Call) (rest : List ℕ) → let r = sweepCall engine s c in sets (stateWords s ++ rest) 0 (replyWords r .state) ≡ stateWords (r .state) ++ rest
+pub words-left : (s : State (Range Factor)) (c : Call) (rest : List ℕ) → let r = sweepCall engine s c in sets (stateWords s ++ rest) 0 (replyWords r .state) ≡ stateWords (r .state) ++ rest
 unfolding sweepCall stateWords
 words-left s c rest = go (judged (conditions engine s (termsOf c))) (runOf engine s c)
   where
-    go : (v : Refusal) (x : Run) → let r = replied wordList s c v x in sets (stateWords s ++ rest) 0 (replyWords r .state) ≡ stateWords (r .state) ++ rest
+    go : (v : Refusal) (x : Run) → let r = replied engine s c v x in sets (stateWords s ++ rest) 0 (replyWords r .state) ≡ stateWords (r .state) ++ rest
     go (number n) x = refl
     go none x = refl
 
-pub factor-kept : (s : State Factor) (c : Call) → sweepCall engine s c .state .factor ≡ s .factor
+pub factor-kept : (s : State (Range Factor)) (c : Call) → sweepCall engine s c .state .over .factor ≡ s .over .factor
 unfolding sweepCall
 factor-kept s c = go (judged (conditions engine s (termsOf c))) (runOf engine s c)
   where
-    over : (p : Place) → handed s p .factor ≡ s .factor
+    over : (p : Place) → handed engine s p .over .factor ≡ s .over .factor
     over (At X) = refl
     over Nowhere = refl
 
-    go : (v : Refusal) (x : Run) → replied wordList s c v x .state .factor ≡ s .factor
+    go : (v : Refusal) (x : Run) → replied engine s c v x .state .over .factor ≡ s .over .factor
     go (number n) x = refl
     go none x = over (x .left)
 
@@ -107,36 +108,36 @@ answersIn (m ∷ made) = replyWords (replyIn m) ∷ answersIn made
 -- ---- the calls that were made
 
 -- a reply as code gives it
-abbrev codeAnswer : Outcome Result → State Factor → SweepAnswer
+abbrev codeAnswer : Outcome Result → State (Range Factor) → SweepAnswer
 codeAnswer (accepted r) s = SweepAnswer.Accepted (record { state = codeOf s; trials = r .trials; rounds = r .rounds; place = r .place })
 codeAnswer (refused n) s = SweepAnswer.Refused (record { state = codeOf s; number = n })
 
-code-says : (o : Outcome Result) (s : State Factor) (list : List ℕ) → replyOf (codeAnswer o s) list ≡ record { answer = o; state = s; list = list }
+code-says : (o : Outcome Result) (s : State (Range Factor)) (list : List ℕ) → replyOf (codeAnswer o s) list ≡ record { answer = o; state = s; list = list }
 code-says (accepted r) s list = refl
 code-says (refused n) s list = refl
 
 -- the engine's calls on a state
-abbrev madeFrom : State Factor → List Asked → List Made
+abbrev madeFrom : State (Range Factor) → List Asked → List Made
 madeFrom s [] = []
 madeFrom s (a ∷ asked) =
     let r = sweepCall engine s (callIn a) in
     record { asked = callIn a; answer = codeAnswer (r .answer) (r .state); left = r .list } ∷ madeFrom (r .state) asked
 
-says : (s : State Factor) (a : Asked) → let r = sweepCall engine s (callIn a) in replyOf (codeAnswer (r .answer) (r .state)) (r .list) ≡ r
+says : (s : State (Range Factor)) (a : Asked) → let r = sweepCall engine s (callIn a) in replyOf (codeAnswer (r .answer) (r .state)) (r .list) ≡ r
 says s a = let r = sweepCall engine s (callIn a) in code-says (r .answer) (r .state) (r .list)
 
-kept : (s : State Factor) (asked : List Asked) → Kept s (madeFrom s asked)
+kept : (s : State (Range Factor)) (asked : List Asked) → Kept s (madeFrom s asked)
 kept s [] = tt
 kept s (a ∷ asked) =
     let r = sweepCall engine s (callIn a) in
-    (says s a, subst (λ (x : Reply Factor). Kept (x .state) (madeFrom (r .state) asked)) (sym (says s a)) (kept (r .state) asked))
+    (says s a, subst (λ (x : Reply (Range Factor)). Kept (x .state) (madeFrom (r .state) asked)) (sym (says s a)) (kept (r .state) asked))
 
-asked-are : (s : State Factor) (asked : List Asked) → askedIn (madeFrom s asked) ≡ callsIn asked
+asked-are : (s : State (Range Factor)) (asked : List Asked) → askedIn (madeFrom s asked) ≡ callsIn asked
 asked-are s [] = refl
 asked-are s (a ∷ asked) = ap (λ (l : List Call). callIn a ∷ l) (asked-are (sweepCall engine s (callIn a) .state) asked)
 
 -- on the words of a state, calls are answered with the replies of the engine's calls on that state
-pub answers-are : (s : State Factor) → Writable (s .factor) → (rest : List ℕ) (asked : List Asked) → answersTo (stateWords s ++ rest) asked ≡ answersIn (madeFrom s asked)
+pub answers-are : (s : State (Range Factor)) → Writable (s .over .factor) → (rest : List ℕ) (asked : List Asked) → answersTo (stateWords s ++ rest) asked ≡ answersIn (madeFrom s asked)
 answers-are s W rest [] = refl
 answers-are s W rest (a ∷ asked) =
     let r = sweepCall engine s (callIn a) in
@@ -151,7 +152,7 @@ leftTo state [] = state
 leftTo state (a ∷ asked) = leftTo (sets state 0 (sweepTo state (a .cap) (a .list) (a .free) (a .counts) .state)) asked
 
 -- are those of the state that the last of them hands back
-pub left-are : (s : State Factor) → Writable (s .factor) → (rest : List ℕ) (asked : List Asked) → leftTo (stateWords s ++ rest) asked ≡ stateWords (lastIn s (madeFrom s asked)) ++ rest
+pub left-are : (s : State (Range Factor)) → Writable (s .over .factor) → (rest : List ℕ) (asked : List Asked) → leftTo (stateWords s ++ rest) asked ≡ stateWords (lastIn s (madeFrom s asked)) ++ rest
 left-are s W rest [] = refl
 left-are s W rest (a ∷ asked) =
     let r = sweepCall engine s (callIn a) in
@@ -159,7 +160,7 @@ left-are s W rest (a ∷ asked) =
     ap (λ (x : SweepWords). leftTo (sets (stateWords s ++ rest) 0 (x .state)) asked) (call-to s W rest (a .cap) (a .list) (a .free) (a .counts) (a .room))
     ∙ ap (λ (ws : List ℕ). leftTo ws asked) (words-left s (callIn a) rest)
     ∙ left-are (r .state) next rest asked
-    ∙ ap (λ (x : Reply Factor). stateWords (lastIn (x .state) (madeFrom (r .state) asked)) ++ rest) (sym (says s a))
+    ∙ ap (λ (x : Reply (Range Factor)). stateWords (lastIn (x .state) (madeFrom (r .state) asked)) ++ rest) (sym (says s a))
 
 -- ---- a new sweep
 
@@ -185,40 +186,40 @@ unfolding newSweepTo taken factorWords
 begins-to d f e rest first last out inside room =
     let W = set-up-writable d f e in
     let ws = factorWords f ++ rest in
-    ap (λ (o : Outcome Factor). newSweepAnswer (andThen o (λ f. newState engine f first last)) .number)
+    ap (λ (o : Outcome Factor). newSweepAnswer (andThen o (λ f. newState engine (range f first last))) .number)
     (sym (accepts (pass (le-ltb (length ws) 10 (omega arith)) (pass (le-ltb (length out) 14 room) (pass (not-damaged f W rest) end))) (factorFrom ws)))
-    ∙ ap (λ (g : Factor). newSweepAnswer (newState engine g first last) .number) (factor-back f W rest)
-    ∙ ap (λ (o : Outcome (State Factor)). newSweepAnswer o .number) (set-up-begins d f first last e inside)
+    ∙ ap (λ (g : Factor). newSweepAnswer (newState engine (range g first last)) .number) (factor-back f W rest)
+    ∙ ap (λ (o : Outcome (State (Range Factor))). newSweepAnswer o .number) (set-up-begins d f first last e inside)
 
 -- where it is answered with 0, the words were taken and the engine accepted the state
 module _ (factor : List ℕ) (first last : ℕ) (out : List ℕ) (zero : newSweepTo factor first last out .number ≡ 0) where
   abbrev f : Factor
   f = factorFrom factor
 
-  abbrev s : State Factor
-  s = fresh f first last
+  abbrev s : State (Range Factor)
+  s = fresh engine (range f first last)
 
   -- what is answered, where the words are taken or not
   abbrev told : Outcome Factor → Answer
-  told o = newSweepAnswer (andThen o (λ f. newState engine f first last))
+  told o = newSweepAnswer (andThen o (λ f. newState engine (range f first last)))
 
   was-taken : taken factor factorLength (length out) stateLength ≡ accepted f
   unfolding newSweepTo
   was-taken = accepted-at (λ o. told o .number) (λ n. refl) (unfit factor factorLength (length out) stateLength) (omega arith, (omega arith, (omega arith, tt))) f zero
 
-  was-begun : newState engine f first last ≡ accepted s
+  was-begun : newState engine (range f first last) ≡ accepted s
   unfolding newSweepTo
-  was-begun = accepted-at (λ o. newSweepAnswer o .number) (λ n. refl) (engine .newFaults f first last) (omega arith, (omega arith, tt)) s (ap (λ (o : Outcome Factor). told o .number) (sym was-taken) ∙ zero)
+  was-begun = accepted-at (λ o. newSweepAnswer o .number) (λ n. refl) (engine .newFaults (range f first last)) (omega arith, (omega arith, tt)) s (ap (λ (o : Outcome Factor). told o .number) (sym was-taken) ∙ zero)
 
   writable : Writable f
-  writable = read-writable factor (not-false (intact f) (only-accepted (engine .newFaults f first last) s s was-begun .0 .0))
+  writable = read-writable factor (not-false (intact f) (only-accepted (engine .newFaults (range f first last)) s s was-begun .0 .0))
 
   state-words : leaves (newSweepTo factor first last out) out ≡ stateWords s ++ drop stateLength out
   unfolding newSweepTo
   state-words =
       let none = only-accepted (unfit factor factorLength (length out) stateLength) f f was-taken .0 in
       ap (λ (o : Outcome Factor). leaves (told o) out) was-taken
-      ∙ ap (λ (o : Outcome (State Factor)). leaves (newSweepAnswer o) out) was-begun
+      ∙ ap (λ (o : Outcome (State (Range Factor))). leaves (newSweepAnswer o) out) was-begun
       ∙ sets-eq (stateWords s) out 0 (ltb-false (length out) stateLength (none .1 .0))
 
 -- ---- demand 3
@@ -228,12 +229,12 @@ pub record Demand3To (factor : List ℕ) (first last : ℕ) (out : List ℕ) (as
   pub made : List Made
   pub calls : askedIn made ≡ callsIn asked
   pub answers : answersTo (leaves (newSweepTo factor first last out) out) asked ≡ answersIn made
-  pub left : leftTo (leaves (newSweepTo factor first last out) out) asked ≡ stateWords (lastIn (fresh (factorFrom factor) first last) made) ++ drop stateLength out
-  pub demand : Demand3 (fresh (factorFrom factor) first last) made
+  pub left : leftTo (leaves (newSweepTo factor first last out) out) asked ≡ stateWords (lastIn (fresh engine (range (factorFrom factor) first last)) made) ++ drop stateLength out
+  pub demand : Demand3 (fresh engine (range (factorFrom factor) first last)) made
 
 pub demand-3-to : (factor : List ℕ) (first last : ℕ) (out : List ℕ) → newSweepTo factor first last out .number ≡ 0 → (asked : List Asked) → Demand3To factor first last out asked
 demand-3-to factor first last out zero asked =
-    let s = fresh (factorFrom factor) first last in
+    let s = fresh engine (range (factorFrom factor) first last) in
     record {
       made = madeFrom s asked;
       calls = asked-are s asked;

@@ -27,7 +27,8 @@ use Rattle.factor.specs.SetUp.{scaleOut, appliedOf, setUp, intact, Sound}
 use Rattle.factor.specs.SetUpLaws.{setUp-sound, intact-sound}
 use Rattle.factor.specs.Stored.{Storable}
 use Rattle.factor.specs.StoredLaws.{storable}
-use Rattle.calls.specs.State.{State}
+use Rattle.calls.specs.State.{Range, State}
+use Rattle.sweep.specs.Engine.{range}
 use Rattle.exports.specs.Words.{word, flagWord, flagFrom, factorFrom, factorWords, damaged, stateFrom, stateWords}
 
 -- ---- a factor that words hold whole: it is sound, and its floats are of binary32
@@ -123,15 +124,15 @@ module _ (f : Factor) (W : Writable f) where
       }
 
 -- ---- a state over such a factor, likewise
-module _ (s : State Factor) (W : Writable (s .factor)) (rest : List ℕ) where
+module _ (s : State (Range Factor)) (W : Writable (s .over .factor)) (rest : List ℕ) where
   -- the words behind the factor's
   abbrev behind : List ℕ
-  behind = s .first ∷ s .last ∷ s .next ∷ flagWord (s .finished) ∷ rest
+  behind = s .over .first ∷ s .over .last ∷ s .next ∷ flagWord (s .finished) ∷ rest
 
   pub state-not-damaged : damaged (stateWords s ++ rest) ≡ false
   unfolding stateWords
-  state-not-damaged = not-damaged (s .factor) W behind
+  state-not-damaged = not-damaged (s .over .factor) W behind
 
   pub state-back : stateFrom (stateWords s ++ rest) ≡ s
   unfolding stateFrom stateWords
-  state-back = λ i. record { factor = factor-back (s .factor) W behind i; first = s .first; last = s .last; next = s .next; finished = flag-back (s .finished) i }
+  state-back = λ i. record { over = range (factor-back (s .over .factor) W behind i) (s .over .first) (s .over .last); next = s .next; finished = flag-back (s .finished) i }

@@ -7,7 +7,8 @@ use lib.ListN.{getD}
 use lib.Ieee.{binary32, toBits, ofBits}
 use Rattle.factor.specs.declared.Factor.{Factor}
 use Rattle.words.specs.Words.{unsigned, signed, low32, pastHalf}
-use Rattle.calls.specs.State.{State}
+use Rattle.calls.specs.State.{Range, State}
+use Rattle.sweep.specs.Engine.{range}
 
 -- ---- lists of words
 -- the word at i
@@ -61,13 +62,13 @@ abbrev pub stateLength : ℕ
 stateLength = 14
 
 -- the state over a factor, from the words behind the factor's
-abbrev pub stateOf : Factor → List ℕ → State Factor
-stateOf f ws = record { factor = f; first = word ws 10; last = word ws 11; next = word ws 12; finished = flagFrom (word ws 13) }
+abbrev pub stateOf : Factor → List ℕ → State (Range Factor)
+stateOf f ws = record { over = range f (word ws 10) (word ws 11); next = word ws 12; finished = flagFrom (word ws 13) }
 
-unfoldable pub stateFrom : List ℕ → State Factor
+unfoldable pub stateFrom : List ℕ → State (Range Factor)
 unfolding factorFrom
 stateFrom ws = stateOf (factorFrom ws) ws
 
-unfoldable pub stateWords : State Factor → List ℕ
+unfoldable pub stateWords : State (Range Factor) → List ℕ
 unfolding factorWords
-stateWords s = factorWords (s .factor) ++ (s .first ∷ s .last ∷ s .next ∷ flagWord (s .finished) ∷ [])
+stateWords s = factorWords (s .over .factor) ++ (s .over .first ∷ s .over .last ∷ s .next ∷ flagWord (s .finished) ∷ [])

@@ -11,10 +11,9 @@ use Rattle.factor.specs.declared.Factor.{Factor}
 use Rattle.factor.specs.Precision.{leastOf}
 use Rattle.factor.specs.Context.{contextOf, lowerOf, upperOf}
 use Rattle.factor.specs.SetUp.{setUp}
-use Rattle.product.specs.Product.{productBy}
-use Rattle.product.specs.Marks.{markBy}
 use Rattle.suspects.specs.Suspects.{isSuspect}
 use Rattle.calls.specs.Plain.{row, wordsOf}
+use Rattle.sweep.specs.Engine.{markOf}
 use Rattle.frame.specs.declared.Report.{Report}
 use Rattle.frame.specs.Lines.{lineFeed}
 use Rattle.frame.specs.Frame.{frameOf}
@@ -24,10 +23,6 @@ use Rattle.frame.specs.Report.{wordLine, reportLine, refusalLine}
 -- the suspects of the whole range, ascending
 unfoldable pub suspectsOf : Factor → List ℕ
 suspectsOf f = let n = f .precision .bits in row (isSuspect (contextOf f) (lowerOf f) (upperOf f)) (leastOf n) (2 ^ n)
-
--- the mark of a significand's product
-abbrev pub markOf : Factor → ℕ → Mark
-markOf f X = markBy f X (productBy f X)
 
 -- 1 for a wrong one, and for an open one
 abbrev pub isWrong : Mark → ℕ

@@ -9,7 +9,9 @@ use borrow.Author.Tests.{le-ltb}
 use Rattle.marks.specs.declared.Mark.{Mark}
 use Rattle.marks.specs.Answers.{none, judged, Outcome, refused, accepted}
 use Rattle.factor.specs.declared.Factor.{Factor}
-use Rattle.calls.specs.Call.{conditions, handed, Result, Reply, sweepCall}
+use Rattle.calls.specs.State.{Range}
+use Rattle.calls.specs.Engine.{handed}
+use Rattle.calls.specs.Call.{conditions, Result, Reply, sweepCall}
 use Rattle.calls.specs.Plain.{wordsOf}
 use Rattle.calls.specs.ByRow.{headOf, rowRun}
 use Rattle.calls.specs.TrialLaws.{tries-within, words-fit}
@@ -17,11 +19,11 @@ use Rattle.calls.specs.ListLaws.{entries-are, read-back}
 use Rattle.sweep.specs.declared.SweepState.{SweepState}
 use Rattle.sweep.specs.declared.SweepAnswer
 use Rattle.sweep.specs.declared.SweepAnswer.{SweepAnswer}
-use Rattle.sweep.specs.Engine.{engine}
+use Rattle.sweep.specs.Engine.{markOf, engine}
 use Rattle.sweep.specs.Answers.{viewOf, codeOf, callOf, termsBy, replyOf}
 use Rattle.sweep.specs.Demand3.{call-by-row}
 use Rattle.stream.specs.declared.Tally.{Tally}
-use Rattle.stream.specs.Output.{markOf, isWrong, isOpen, counted, odds}
+use Rattle.stream.specs.Output.{isWrong, isOpen, counted, odds}
 use Rattle.stream.specs.SweepLaws.{length-lines, told}
 use Rattle.stream.specs.Step.{listSize, noCap, leftOf, triedBy, triedOf, afterOf, stateAt, tallied, partLines}
 use Rattle.stream.specs.Good.{Going, Counted, addedTo, Addable}
@@ -96,8 +98,8 @@ module _ (s : SweepState) (g : Going s) (list : List ℕ) (size : length list �
   reply-is :
       sweepCall engine (viewOf s) (callOf noCap list 0)
       ≡ record {
-        answer = accepted (record { trials = triedBy s; rounds = rowRun engine (s .factor) (s .last) (s .next) (triedBy s) (leftOf s) .rounds; place = 0 + length (wordsBy s) });
-        state = handed (viewOf s) (headOf (afterOf s));
+        answer = accepted (record { trials = triedBy s; rounds = rowRun engine (viewOf s .over) (s .next) (triedBy s) (leftOf s) .rounds; place = 0 + length (wordsBy s) });
+        state = handed engine (viewOf s) (headOf (afterOf s));
         list = sets list 0 (wordsBy s);
       }
   reply-is = call-by-row (viewOf s) (callOf noCap list 0) ∙ rw (not-refused, size, entries-are (wordsBy s)) refl
@@ -106,17 +108,17 @@ module _ (s : SweepState) (g : Going s) (list : List ℕ) (size : length list �
   pub answered : (a : SweepAnswer) (left : List ℕ) → replyOf a left ≡ sweepCall engine (viewOf s) (callOf noCap list 0) → AnsweredBy s a left
   answered (SweepAnswer.Accepted r) left e =
       let all = e ∙ reply-is in
-      let p : r .place ≡ length (wordsBy s) = ap (λ (x : Reply Factor). resultIn (x .answer) .place) all ∙ omega arith in
-      let l : left ≡ sets list 0 (wordsBy s) = ap (λ (x : Reply Factor). x .list) all in
+      let p : r .place ≡ length (wordsBy s) = ap (λ (x : Reply (Range Factor)). resultIn (x .answer) .place) all ∙ omega arith in
+      let l : left ≡ sets list 0 (wordsBy s) = ap (λ (x : Reply (Range Factor)). x .list) all in
       record {
-        state = ap (λ (x : Reply Factor). codeOf (x .state)) all;
-        trials = ap (λ (x : Reply Factor). resultIn (x .answer) .trials) all;
+        state = ap (λ (x : Reply (Range Factor)). codeOf (x .state)) all;
+        trials = ap (λ (x : Reply (Range Factor)). resultIn (x .answer) .trials) all;
         place = p;
         words = ap (λ (k : ℕ). take k left) p ∙ ap (take (length (wordsBy s))) l ∙ front;
         long = ap length l ∙ length-sets list 0 (wordsBy s) ∙ size;
         fits = few-words;
       }
-  answered (SweepAnswer.Refused r) left e = let z : _≡_ {A = ℕ} 0 1 = cc (ap (λ (x : Reply Factor). x .answer) (e ∙ reply-is)) in omega arith
+  answered (SweepAnswer.Refused r) left e = let z : _≡_ {A = ℕ} 0 1 = cc (ap (λ (x : Reply (Range Factor)). x .answer) (e ∙ reply-is)) in omega arith
 
 -- A part prints at most 576 bytes.
 pub part-short : (s : SweepState) → length (partLines s) ≤ 576

@@ -9,11 +9,11 @@ use Rattle.search.specs.declared.Place.{Place}
 use Rattle.marks.specs.Answers.{Outcome, refused, accepted}
 use Rattle.factor.specs.declared.Factor.{Factor}
 use Rattle.factor.specs.Precision.{leastOf, mostOf}
-use Rattle.calls.specs.Call.{handed}
+use Rattle.calls.specs.Engine.{handed}
 use Rattle.calls.specs.Plain.{row, tries, wordsOf}
 use Rattle.calls.specs.ByRow.{headOf}
 use Rattle.sweep.specs.declared.SweepState.{SweepState}
-use Rattle.sweep.specs.Engine.{suspect}
+use Rattle.sweep.specs.Engine.{markOf, suspect, engine}
 use Rattle.sweep.specs.Answers.{viewOf, codeOf}
 use Rattle.frame.specs.declared.Report.{Report}
 use Rattle.frame.specs.Report.{reportLine, refusalLine}
@@ -21,7 +21,7 @@ use Rattle.stream.specs.declared.Tally.{Tally}
 use Rattle.stream.specs.declared.Task
 use Rattle.stream.specs.declared.Task.{Task}
 use Rattle.stream.specs.declared.Progress.{Progress}
-use Rattle.stream.specs.Output.{mostLines, markOf, isWrong, isOpen, counted, wordLines, judgedLine, tally}
+use Rattle.stream.specs.Output.{mostLines, isWrong, isOpen, counted, wordLines, judgedLine, tally}
 use Rattle.stream.specs.Keep.{kept, upToFeed}
 
 -- ---- a part of a sweep: one call, with no cap that counts and a list of 64 words
@@ -49,7 +49,7 @@ afterOf s = drop (triedBy s) (leftOf s)
 
 -- the state stopped at a suspect, or finished
 abbrev pub stateAt : SweepState → Place → SweepState
-stateAt s p = codeOf (handed (viewOf s) p)
+stateAt s p = codeOf (handed engine (viewOf s) p)
 
 -- the sweep over all significands of a factor, at its beginning
 abbrev pub begunWith : Factor → Tally

@@ -24,11 +24,11 @@ use Rattle.calls.specs.RowLaws.{begins, row-ascends, ascends-few}
 use Rattle.calls.specs.TrialLaws.{tries-within}
 use Rattle.frame.specs.Frame.{frameOf}
 use Rattle.sweep.specs.declared.SweepState.{SweepState}
-use Rattle.sweep.specs.Engine.{suspect}
+use Rattle.sweep.specs.Engine.{markOf, suspect}
 use Rattle.stream.specs.declared.Tally.{Tally}
 use Rattle.stream.specs.declared.Task
 use Rattle.stream.specs.declared.Task.{Task}
-use Rattle.stream.specs.Output.{mostLines, among, suspectsOf, markOf, judgedLine, judgedOutput, lastOutput, lineOutput, output}
+use Rattle.stream.specs.Output.{mostLines, among, suspectsOf, judgedLine, judgedOutput, lastOutput, lineOutput, output}
 use Rattle.stream.specs.PieceLaws.{by-test, reading, reading-all, reading-feed, reading-end, reading-past}
 use Rattle.stream.specs.SweepLaws.{told, sweeping, sweeping-all, sweeping-some, sweeping-none}
 use Rattle.stream.specs.Keep.{kept, upToFeed, Part}

@@ -13,7 +13,8 @@ use Rattle.calls.specs.Plain.{wordsOf}
 use Rattle.calls.specs.TrialLaws.{words-append}
 use Rattle.frame.specs.Report.{reportLine, wordLine}
 use Rattle.frame.specs.ReportLaws.{length-word}
-use Rattle.stream.specs.Output.{suspectsOf, markOf, isWrong, isOpen, counted, wordLines, sweptOutput, odds, tally}
+use Rattle.sweep.specs.Engine.{markOf}
+use Rattle.stream.specs.Output.{suspectsOf, isWrong, isOpen, counted, wordLines, sweptOutput, odds, tally}
 
 -- ---- joined rows
 counted-join : (kind : Mark → ℕ) (mark : ℕ → Mark) (a b : List ℕ) → counted kind mark (a ++ b) ≡ counted kind mark a + counted kind mark b

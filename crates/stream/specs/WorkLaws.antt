@@ -15,10 +15,11 @@ use Rattle.factor.specs.declared.Factor.{Factor}
 use Rattle.calls.specs.Plain.{wordsOf}
 use Rattle.calls.specs.TrialLaws.{tries-full}
 use Rattle.sweep.specs.declared.SweepState.{SweepState}
+use Rattle.sweep.specs.Engine.{markOf}
 use Rattle.stream.specs.declared.Tally.{Tally}
 use Rattle.stream.specs.declared.Task
 use Rattle.stream.specs.declared.Task.{Task}
-use Rattle.stream.specs.Output.{markOf, judgedLine}
+use Rattle.stream.specs.Output.{judgedLine}
 use Rattle.stream.specs.PieceLaws.{by-test}
 use Rattle.stream.specs.SweepLaws.{length-lines}
 use Rattle.stream.specs.Keep.{kept, upToFeed}

@@ -3,7 +3,7 @@ use mathlib.Core.List.{List}
 use Prim.Native.Nat.{ℕ}
 use Rattle.marks.specs.Answers.{number, Outcome, refused, accepted}
 use Rattle.factor.specs.declared.Factor.{Factor}
-use Rattle.calls.specs.State.{State, Call, Terms}
+use Rattle.calls.specs.State.{Range, State, Call, Terms}
 use Rattle.calls.specs.Call.{Result, Reply}
 use Rattle.sweep.specs.declared.SweepState.{SweepState}
 use Rattle.sweep.specs.declared.NewSweep.{NewSweep}
@@ -11,15 +11,15 @@ use Rattle.sweep.specs.declared.Swept.{Swept}
 use Rattle.sweep.specs.declared.SweepAnswer.{SweepAnswer}
 
 -- a state: factor, first, last and next significand, finished mark
-abbrev pub viewOf : SweepState → State Factor
-viewOf s = record { factor = s .factor; first = s .first; last = s .last; next = s .next; finished = s .finished }
+abbrev pub viewOf : SweepState → State (Range Factor)
+viewOf s = record { over = record { factor = s .factor; first = s .first; last = s .last }; next = s .next; finished = s .finished }
 
 -- the state that says so
-abbrev pub codeOf : State Factor → SweepState
-codeOf s = record { factor = s .factor; first = s .first; last = s .last; next = s .next; finished = s .finished }
+abbrev pub codeOf : State (Range Factor) → SweepState
+codeOf s = record { factor = s .over .factor; first = s .over .first; last = s .over .last; next = s .next; finished = s .finished }
 
 -- the answer to a new sweep: a refusal its number, or the state
-abbrev pub newOf : NewSweep → Outcome (State Factor)
+abbrev pub newOf : NewSweep → Outcome (State (Range Factor))
 newOf (NewSweep.Accepted s) = accepted (viewOf s)
 newOf (NewSweep.Refused n) = refused n
 
@@ -36,6 +36,6 @@ abbrev pub resultOf : Swept → Result
 resultOf r = record { trials = r .trials; rounds = r .rounds; place = r .place }
 
 -- the answer to a call, with the caller's list as it then is: a refusal its number and the state, any other the state and trials, rounds and place
-abbrev pub replyOf : SweepAnswer → List ℕ → Reply Factor
+abbrev pub replyOf : SweepAnswer → List ℕ → Reply (Range Factor)
 replyOf (SweepAnswer.Accepted r) list = record { answer = accepted (resultOf r); state = viewOf (r .state); list = list }
 replyOf (SweepAnswer.Refused r) list = record { answer = refused (r .number); state = viewOf (r .state); list = list }

@@ -18,7 +18,8 @@ use Rattle.factor.specs.SetUpLaws.{accepted-intact}
 use Rattle.product.specs.Product.{productBy}
 use Rattle.product.specs.Marks.{markBy, SaysBy}
 use Rattle.suspects.specs.Suspects.{Suspect}
-use Rattle.calls.specs.State.{State, fresh, Call}
+use Rattle.calls.specs.State.{Range, State, Call}
+use Rattle.calls.specs.Engine.{fresh}
 use Rattle.calls.specs.Call.{newState, Reply, sweepCall}
 use Rattle.calls.specs.ByRow.{rowCall}
 use Rattle.calls.specs.Plain.{row, untried, Seen}
@@ -30,19 +31,19 @@ use Rattle.calls.specs.Demand3.{whole-sweep}
 use Rattle.sweep.specs.declared.SweepState.{SweepState}
 use Rattle.sweep.specs.declared.NewSweep.{NewSweep}
 use Rattle.sweep.specs.declared.SweepAnswer.{SweepAnswer}
-use Rattle.sweep.specs.Engine.{suspect, mostRounds, engine}
+use Rattle.sweep.specs.Engine.{suspect, range, markOf, engine, suspectIn, mostIn}
 use Rattle.sweep.specs.EngineLaws.{sound-of, suspect-is, mark-is, lawful}
 use Rattle.sweep.specs.Answers.{viewOf, newOf, replyOf}
 
 -- ---- where calls begin
 
 -- Over every factor that 31 lets through and every range that 17 lets through, a new state is accepted: the one with the first significand as next, and not finished.
-pub begins-always : (f : Factor) (first last : ℕ) → intact f ≡ true → rangeOut (f .precision .bits) first last ≡ false → newState engine f first last ≡ accepted (fresh f first last)
-begins-always f first last whole inside = sym (accepts (pass (ap not whole) (pass inside end)) (fresh f first last))
+pub begins-always : (f : Factor) (first last : ℕ) → intact f ≡ true → rangeOut (f .precision .bits) first last ≡ false → newState engine (range f first last) ≡ accepted (fresh engine (range f first last))
+begins-always f first last whole inside = sym (accepts (pass (ap not whole) (pass inside end)) (fresh engine (range f first last)))
 
 -- 31 lets every factor through that set-up accepted.
 pub set-up-begins : (d : Description) (f : Factor) (first last : ℕ) → setUp d ≡ accepted f → rangeOut (f .precision .bits) first last ≡ false
-    → newState engine f first last ≡ accepted (fresh f first last)
+    → newState engine (range f first last) ≡ accepted (fresh engine (range f first last))
 set-up-begins d f first last given inside = begins-always f first last (accepted-intact d f given) inside
 
 -- ---- calls that were made
@@ -53,11 +54,11 @@ pub record Made : Type 0 where
   pub answer : SweepAnswer
   pub left : List ℕ
 
-abbrev pub replyIn : Made → Reply Factor
+abbrev pub replyIn : Made → Reply (Range Factor)
 replyIn m = replyOf (m .answer) (m .left)
 
 -- each call kept the contract of `sweep_call`, at the state that the one before handed back; nothing is asked of states and calls that do not occur
-abbrev pub Kept : State Factor → List Made → Type 0
+abbrev pub Kept : State (Range Factor) → List Made → Type 0
 Kept s [] = Unit {0}
 Kept s (m ∷ made) = (replyIn m ≡ sweepCall engine s (m .asked)) × Kept (replyIn m .state) made
 
@@ -67,64 +68,64 @@ askedIn [] = []
 askedIn (m ∷ made) = m .asked ∷ askedIn made
 
 -- what was answered
-abbrev pub repliesIn : List Made → List (Reply Factor)
+abbrev pub repliesIn : List Made → List (Reply (Range Factor))
 repliesIn [] = []
 repliesIn (m ∷ made) = replyIn m ∷ repliesIn made
 
 -- what is seen of them, which is compared with the plain sweep
-abbrev pub seenIn : List Made → List (Seen Factor)
+abbrev pub seenIn : List Made → List (Seen (Range Factor))
 seenIn [] = []
 seenIn (m ∷ made) = seen (m .asked) (replyIn m) ∷ seenIn made
 
 -- the state that the last of them handed back
-abbrev pub lastIn : State Factor → List Made → State Factor
+abbrev pub lastIn : State (Range Factor) → List Made → State (Range Factor)
 lastIn s [] = s
 lastIn s (m ∷ made) = lastIn (replyIn m .state) made
 
 -- the replies to a list of calls, each given the state that the one before returned
-abbrev pub repliesBy : (State Factor → Call → Reply Factor) → State Factor → List Call → List (Reply Factor)
+abbrev pub repliesBy : (State (Range Factor) → Call → Reply (Range Factor)) → State (Range Factor) → List Call → List (Reply (Range Factor))
 repliesBy call s [] = []
 repliesBy call s (c ∷ calls) = call s c ∷ repliesBy call (call s c .state) calls
 
 -- ---- demand 3
 
 -- The calls that were made from a state s. What stands in quotes is document 01's.
-pub record Demand3 (s : State Factor) (made : List Made) : Type 0 where
+pub record Demand3 (s : State (Range Factor)) (made : List Made) : Type 0 where
   -- the demand, sentence by sentence, of the calls that were asked
-  pub whole : Whole suspect engine mostRounds (sweepCall engine) s (askedIn made)
+  pub whole : Whole suspectIn engine mostIn (sweepCall engine) s (askedIn made)
   -- it speaks of the calls that were made: of their replies, of what is seen of them, and of the state that the last of them handed back
   pub replies : repliesIn made ≡ repliesBy (sweepCall engine) s (askedIn made)
   pub seen : seenIn made ≡ sweeps (sweepCall engine) s (askedIn made)
   pub last : lastIn s made ≡ stateAfter (sweepCall engine) s (askedIn made)
   -- joined words hold exactly the significands in range that are not right below the first suspect not yet tried (all if none is left), once each, ascending, with marks: an entry is its word
-  pub words : Holds (engine .mark (s .factor)) (s .first) (endOf (s .last) (untried (fedBy suspect engine s) (plainEnd suspect engine s (askedIn made)))) (wordsIn (seenIn made))
+  pub words : Holds (markOf (s .over .factor)) (s .over .first) (endOf (s .over .last) (untried (fedBy suspectIn engine (s .over)) (plainEnd suspectIn engine (s .over) (askedIn made)))) (wordsIn (seenIn made))
   -- the test for a suspect is document 01's definition of one
-  pub suspects : (X : ℕ) → suspect (s .factor) X ≡ true ↔ Suspect (contextOf (s .factor)) (lowerOf (s .factor)) (upperOf (s .factor)) X
+  pub suspects : (X : ℕ) → suspect (s .over .factor) X ≡ true ↔ Suspect (contextOf (s .over .factor)) (lowerOf (s .over .factor)) (upperOf (s .over .factor)) X
   -- "the row of all suspects in range, ascending"
-  pub row : (X : ℕ) → List·Memᴰ X (fedBy suspect engine s .suspects) ↔ ((s .first ≤ X) × (X ≤ s .last) × Suspect (contextOf (s .factor)) (lowerOf (s .factor)) (upperOf (s .factor)) X)
-  pub ascending : Ascends (s .first) (suc (s .last)) (fedBy suspect engine s .suspects)
+  pub row : (X : ℕ) → List·Memᴰ X (fedBy suspectIn engine (s .over) .suspects) ↔ ((s .over .first ≤ X) × (X ≤ s .over .last) × Suspect (contextOf (s .over .factor)) (lowerOf (s .over .factor)) (upperOf (s .over .factor)) X)
+  pub ascending : Ascends (s .over .first) (suc (s .over .last)) (fedBy suspectIn engine (s .over) .suspects)
   -- "Marks are those of demand 2": the mark of the product, which says what it must of every fraction between the ends
-  pub marks : (X : ℕ) → fedBy suspect engine s .mark X ≡ markBy (s .factor) X (productBy (s .factor) X)
-  pub tells : (X : ℕ) → HasBits (s .factor .precision .bits) X → SaysBy (s .factor) X (productBy (s .factor) X) (fedBy suspect engine s .mark X)
+  pub marks : (X : ℕ) → fedBy suspectIn engine (s .over) .mark X ≡ markBy (s .over .factor) X (productBy (s .over .factor) X)
+  pub tells : (X : ℕ) → HasBits (s .over .factor .precision .bits) X → SaysBy (s .over .factor) X (productBy (s .over .factor) X) (fedBy suspectIn engine (s .over) .mark X)
 
 -- Entries are the listed words, so that the joined words themselves hold exactly the significands that are not right, once each, ascending, with their marks.
-pub joined-words : {call : State Factor → Call → Reply Factor} {s : State Factor} {calls : List Call} → Whole suspect engine mostRounds call s calls
-    → Holds (engine .mark (s .factor)) (s .first) (endOf (s .last) (untried (fedBy suspect engine s) (plainEnd suspect engine s calls))) (wordsIn (sweeps call s calls))
+pub joined-words : {call : State (Range Factor) → Call → Reply (Range Factor)} {s : State (Range Factor)} {calls : List Call} → Whole suspectIn engine mostIn call s calls
+    → Holds (markOf (s .over .factor)) (s .over .first) (endOf (s .over .last) (untried (fedBy suspectIn engine (s .over)) (plainEnd suspectIn engine (s .over) calls))) (wordsIn (sweeps call s calls))
 joined-words w = rw (w .words .are ∙ entries-are (w .words .listed)) (w .words .holds)
 
-kept-replies : (s : State Factor) (made : List Made) → Kept s made → repliesIn made ≡ repliesBy (sweepCall engine) s (askedIn made)
+kept-replies : (s : State (Range Factor)) (made : List Made) → Kept s made → repliesIn made ≡ repliesBy (sweepCall engine) s (askedIn made)
 kept-replies s [] k = refl
 kept-replies s (m ∷ made) k = rw (← k .0, kept-replies (replyIn m .state) made (k .1))
 
-kept-seen : (s : State Factor) (made : List Made) → Kept s made → seenIn made ≡ sweeps (sweepCall engine) s (askedIn made)
+kept-seen : (s : State (Range Factor)) (made : List Made) → Kept s made → seenIn made ≡ sweeps (sweepCall engine) s (askedIn made)
 unfolding sweeps
 kept-seen s [] k = refl
 kept-seen s (m ∷ made) k = rw (← k .0, kept-seen (replyIn m .state) made (k .1))
 
-kept-last : (s : State Factor) (made : List Made) → Kept s made → lastIn s made ≡ stateAfter (sweepCall engine) s (askedIn made)
+kept-last : (s : State (Range Factor)) (made : List Made) → Kept s made → lastIn s made ≡ stateAfter (sweepCall engine) s (askedIn made)
 unfolding stateAfter
 kept-last s [] k = refl
-kept-last s (m ∷ made) k = kept-last (replyIn m .state) made (k .1) ∙ ap (λ (r : Reply Factor). stateAfter (sweepCall engine) (r .state) (askedIn made)) (k .0)
+kept-last s (m ∷ made) k = kept-last (replyIn m .state) made (k .1) ∙ ap (λ (r : Reply (Range Factor)). stateAfter (sweepCall engine) (r .state) (askedIn made)) (k .0)
 
 -- the row holds exactly the suspects in document 01's words
 row-is : (f : Factor) → Sound f → (first last X : ℕ)
@@ -136,11 +137,11 @@ row-is f s first last X =
     )
 
 -- Demand 3: `new_state` accepted s, and the calls made from it kept the contract of `sweep_call`.
-pub demand-3 : (f : Factor) (first last : ℕ) (s : SweepState) → newOf (NewSweep.Accepted s) ≡ newState engine f first last → (made : List Made) → Kept (viewOf s) made → Demand3 (viewOf s) made
+pub demand-3 : (f : Factor) (first last : ℕ) (s : SweepState) → newOf (NewSweep.Accepted s) ≡ newState engine (range f first last) → (made : List Made) → Kept (viewOf s) made → Demand3 (viewOf s) made
 demand-3 f first last s q made k =
-    let good = only-accepted (engine .newFaults f first last) (fresh f first last) (viewOf s) (sym q) in
-    let sound : Sound (s .factor) = subst (λ (s : State Factor). Sound (s .factor)) (good .1) (sound-of f (good .0 .0)) in
-    let whole = whole-sweep lawful f first last (viewOf s) (sym q) (askedIn made) in
+    let good = only-accepted (engine .newFaults (range f first last)) (fresh engine (range f first last)) (viewOf s) (sym q) in
+    let sound : Sound (s .factor) = subst (λ (s : State (Range Factor)). Sound (s .over .factor)) (good .1) (sound-of f (good .0 .0)) in
+    let whole = whole-sweep lawful (range f first last) (viewOf s) (sym q) (askedIn made) in
     record {
       whole = whole;
       replies = kept-replies (viewOf s) made k;
@@ -158,5 +159,5 @@ demand-3 f first last s q made k =
 
 -- On every state, also one that no calls lead to, what the searches make of a call is what is read off the row of suspects: answer, state, list and
 -- counts. Its rounds are so given a second time, as a sum over the starts of its searches.
-pub call-by-row : (s : State Factor) (c : Call) → sweepCall engine s c ≡ rowCall suspect engine s c
+pub call-by-row : (s : State (Range Factor)) (c : Call) → sweepCall engine s c ≡ rowCall suspectIn engine s c
 call-by-row = by-row lawful

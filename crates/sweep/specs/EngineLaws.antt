@@ -23,10 +23,11 @@ use Rattle.product.specs.AnswerLaws.{in-range}
 use Rattle.suspects.specs.Suspects.{Suspect}
 use Rattle.suspects.specs.SuspectLaws.{suspect-iff, not-right-suspect}
 use Rattle.suspects.specs.NextLaws as next
-use Rattle.calls.specs.Engine.{Half, low, high, halfOf, Lawful}
+use Rattle.calls.specs.Engine.{Half, low, high, Lawful}
+use Rattle.calls.specs.HalfLaws.{halves-chain, halves-tiled, halves-span, halves-finds}
 use Rattle.calls.specs.RefusalLaws as calls
 use Rattle.calls.specs.ListLaws.{word-laws}
-use Rattle.sweep.specs.Engine.{suspect, findIn, mostRounds, engine}
+use Rattle.sweep.specs.Engine.{suspect, highFrom, findIn, mostRounds, markOf, engine, suspectIn, mostIn}
 
 -- A factor that 31 does not refuse is sound.
 pub sound-of : (f : Factor) → not (intact f) ≡ false → Sound f
@@ -56,7 +57,7 @@ module _ (f : Factor) (s : Sound f) where
   suspect-is = suspect-iff K fine two L U (s .lower-end) (s .upper-end) (s .ordered) (s .same)
 
   -- The mark of a significand in range says what demand 2 has it say of every fraction between the ends.
-  pub mark-is : (X : ℕ) → HasBits n X → SaysBy f X (productBy f X) (engine .mark f X)
+  pub mark-is : (X : ℕ) → HasBits n X → SaysBy f X (productBy f X) (markOf f X)
   mark-is X x = mark-tells f s X x (productBy f X) (two-steps f s X x .bits)
 
   -- A search takes few rounds.
@@ -64,30 +65,40 @@ module _ (f : Factor) (s : Sound f) where
   few low a = omega (arith, s .precision, next.few-low K fine two L U (s .lower-end) (s .upper-end) (s .same) a)
   few high a = omega (arith, s .precision, next.few-high K fine two L U (s .lower-end) (s .upper-end) (s .same) a)
 
-  not-right : (X : ℕ) → HasBits n X → engine .mark f X ≢ Right → suspect f X ≡ true
+  not-right : (X : ℕ) → HasBits n X → markOf f X ≢ Right → suspect f X ≡ true
   not-right X x q =
       let z : ¬ (mark K L U X (product K (partsAt K L) X) ≡ Right) = subst (λ (p : Parts). ¬ (mark K L U X (product K p X) ≡ Right)) (s .parts) q in
       suspect-is X .1
       (not-right-suspect K fine two L U (s .lower-end) (s .upper-end) (s .ordered) (s .same) X (x .least) (x .most) z)
 
 -- The engine is lawful.
-pub lawful : Lawful suspect engine mostRounds
+pub lawful : Lawful suspectIn engine mostIn
 lawful =
     record {
       states = λ s.
-          let r = calls.in-range (rangeOut (s .factor .precision .bits) (s .first) (s .last)) s in (
-            (λ h. let i = r .0 (h .1 .0) in record { sound = (h .0, (i .0, tt)); from = i .1; upto = i .2 }),
-            (λ h. (h .sound .0, (r .1 (h .sound .1 .0, h .from, h .upto), tt))),
+          let r = calls.in-range (rangeOut (s .over .factor .precision .bits) (s .over .first) (s .over .last)) s in (
+            (λ h. let i = r .0 (h .1 .0) in record { sound = (h .0, (i .0, tt)); there = i .1 }),
+            (λ h. (h .sound .0, (r .1 (h .sound .1 .0, h .there), tt))),
           );
-      laws = λ f first last good.
+      laws = λ u good.
+          let f = u .factor in
           let s = sound-of f (good .0) in
-          let r = in-range (f .precision .bits) first last (good .1 .0) in
+          let r = in-range (f .precision .bits) (u .first) (u .last) (good .1 .0) in
           record {
             ordered = r .ordered;
+            begins = calls.between u (u .first) .1 (omega arith, r .ordered);
+            ends = calls.between u (u .last) .1 (r .ordered, omega arith);
+            between = λ X. calls.between u X .0;
+            had = λ X h k t. calls.between u X .1 (h, k);
             lists = word-laws;
             suspected = λ X h k q. not-right f s X (record { least = omega (arith, r .first-bits .least); most = omega (arith, r .last-bits .most) }) q;
-            finds-low = λ a h k i. next.finds-low (contextOf f) (fine f s) (two f s) (lowerOf f) (upperOf f) (s .lower-end) (s .upper-end) (s .same) a _ (omega arith);
-            finds-high = λ a h k i. next.finds-high (contextOf f) (fine f s) (two f s) (lowerOf f) (upperOf f) (s .lower-end) (s .upper-end) (s .same) a (suc last) i;
-            few = λ a h k. few f s (halfOf (engine .firstHigh f) a) a;
+            chain = halves-chain (highFrom f) (u .last) (findIn f);
+            tiled = λ X h k t. halves-tiled (highFrom f) (u .last) (findIn f) X k;
+            finds =
+                halves-finds (highFrom f) (u .last) (findIn f) (suspect f) (u .first) (mostRounds f)
+                (λ a h k i. next.finds-low (contextOf f) (fine f s) (two f s) (lowerOf f) (upperOf f) (s .lower-end) (s .upper-end) (s .same) a _ (omega arith))
+                (λ a h k i. next.finds-high (contextOf f) (fine f s) (two f s) (lowerOf f) (upperOf f) (s .lower-end) (s .upper-end) (s .same) a (suc (u .last)) i)
+                (few f s);
           };
+      spans = λ s h p q. halves-span (highFrom (s .over .factor)) (s .over .last) (findIn (s .over .factor)) (suspectIn (s .over)) (s .next) p q;
     }

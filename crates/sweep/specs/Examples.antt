@@ -18,9 +18,9 @@ use Rattle.product.specs.Product.{product}
 use Rattle.product.specs.Marks.{mark}
 use Rattle.search.specs.Search.{ceilDiv, negMod, test, placeAfter, afterRound, searchWithin, searchWindow, shift, searchFrom}
 use Rattle.suspects.specs.Next.{nextIn, firstHigh}
-use Rattle.calls.specs.State.{State}
-use Rattle.calls.specs.Call.{newState, Reply, ahead, run, sweepCall}
-use Rattle.sweep.specs.Engine.{engine}
+use Rattle.calls.specs.State.{Range, State}
+use Rattle.calls.specs.Call.{newState, Reply, seek, run, sweepCall}
+use Rattle.sweep.specs.Engine.{range, engine}
 use Rattle.sweep.specs.Answers.{callOf}
 
 -- the factors of P1 to P3
@@ -37,23 +37,23 @@ unfolding Ieee.round
 P3 = factorOf (record { minus = false; precision = 4; scale = pos 0; lower = 0x51C71C71C71C71C7; upper = 0x51C71C71C71C71C8 })
 
 -- a state over all significands
-abbrev state : Factor → (next : ℕ) → (finished : Bool) → State Factor
-state f next finished = record { factor = f; first = 8; last = 15; next = next; finished = finished }
+abbrev state : Factor → (next : ℕ) → (finished : Bool) → State (Range Factor)
+state f next finished = record { over = range f 8 15; next = next; finished = finished }
 
-called : State Factor → (cap : ℕ) → List ℕ → (free : ℕ) → Reply Factor
-unfolding sweepCall run ahead firstHigh nextIn ceilDiv negMod test placeAfter afterRound searchWithin searchWindow shift searchFrom decLe decLt ℕ-discrete intact answer setUp appliedOf scaleOf tieRule partsAt rounded nearest product mark Ieee.round Ieee.size Ieee.span Ieee.climb Ieee.toBits
+called : State (Range Factor) → (cap : ℕ) → List ℕ → (free : ℕ) → Reply (Range Factor)
+unfolding sweepCall run seek firstHigh nextIn ceilDiv negMod test placeAfter afterRound searchWithin searchWindow shift searchFrom decLe decLt ℕ-discrete intact answer setUp appliedOf scaleOf tieRule partsAt rounded nearest product mark Ieee.round Ieee.size Ieee.span Ieee.climb Ieee.toBits
 called s cap list free = sweepCall engine s (callOf cap list free)
 
-begun : Factor → (first last : ℕ) → Outcome (State Factor)
+begun : Factor → (first last : ℕ) → Outcome (State (Range Factor))
 unfolding answer intact setUp appliedOf scaleOf tieRule partsAt rounded nearest Ieee.round Ieee.size Ieee.span Ieee.climb Ieee.toBits
-begun f first last = newState engine f first last
+begun f first last = newState engine (range f first last)
 
 -- what an accepted call answers
-abbrev answered : (trials rounds place : ℕ) → State Factor → List ℕ → Reply Factor
+abbrev answered : (trials rounds place : ℕ) → State (Range Factor) → List ℕ → Reply (Range Factor)
 answered t r p s list = record { answer = accepted (record { trials = t; rounds = r; place = p }); state = s; list = list }
 
 -- what a refused one answers
-abbrev declined : (number : ℕ) → State Factor → List ℕ → Reply Factor
+abbrev declined : (number : ℕ) → State (Range Factor) → List ℕ → Reply (Range Factor)
 declined n s list = record { answer = refused n; state = s; list = list }
 
 -- P1: 9 and 14 are tried, and both are right. With a cap of 1 the first call stops at 14, and the second finishes.

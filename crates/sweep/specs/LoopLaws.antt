@@ -17,14 +17,17 @@ use Rattle.search.specs.declared.Found.{Found}
 use Rattle.factor.specs.SetUp.{Sound}
 use Rattle.suspects.specs.declared.Windows.{Windows}
 use Rattle.calls.specs.State.{listed, entries, roomIn, wordList}
-use Rattle.calls.specs.Call.{handed, sweepCall}
+use Rattle.calls.specs.Engine.{handed}
+use Rattle.calls.specs.Call.{sweepCall}
+use Rattle.calls.specs.ByRow.{rowAhead}
+use Rattle.calls.specs.RowLaws.{row-ascends, ascends-few}
 use Rattle.calls.specs.RefusalLaws.{ready}
 use Rattle.calls.specs.ListLaws.{entries-are, room-is}
 use Rattle.calls.specs.LoopLaws.{Looping, loop-start, loop-ready, loop-end, loop-rounds, loop-trial}
 use Rattle.sweep.specs.declared.SweepState.{SweepState}
 use Rattle.sweep.specs.declared.Work.{Work}
 use Rattle.factor.specs.Precision.{mostPrecision}
-use Rattle.sweep.specs.Engine.{windowsOf, mostRounds, engine}
+use Rattle.sweep.specs.Engine.{suspect, windowsOf, mostRounds, markOf, engine, suspectIn}
 use Rattle.sweep.specs.EngineLaws.{sound-of, lawful}
 use Rattle.sweep.specs.Answers.{viewOf, callOf, termsBy}
 use Rattle.sweep.specs.Steps.{mustStop, begunAt, haltedAt, passedAt, withWord, triedAt, stepAt, aheadOf, stepOf, resultIn, Stepping, Taken}
@@ -33,7 +36,7 @@ use Rattle.sweep.specs.StepLaws.{must-stop, may-go, last-short, found-in
 -- The call is done: its answer, its state and the tail are what the call comes to.
 abbrev pub Done : SweepState → (cap : ℕ) → (tail₀ : List ℕ) → Work → (tail : List ℕ) → Type 0
 Done s cap tail₀ w tail =
-    record { answer = accepted (resultIn w); state = handed (viewOf s) (w .left); list = tail } ≡ sweepCall engine (viewOf s) (callOf cap tail₀ 0)
+    record { answer = accepted (resultIn w); state = handed engine (viewOf s) (w .left); list = tail } ≡ sweepCall engine (viewOf s) (callOf cap tail₀ 0)
 
 -- The loop of a call on a tail: it goes on, what is done and what is left to do being what the call does; or it is done.
 pub record Working (s : SweepState) (cap : ℕ) (tail₀ : List ℕ) (w : Work) (tail : List ℕ) : Type 0 where
@@ -52,7 +55,7 @@ work-start {s} {cap} {tail} q e = rw e (record { on = λ g. loop-start lawful q;
 
 -- The factor of a call that is taken is sound.
 pub work-sound : (s : SweepState) (cap size : ℕ) → Taken s cap size → Sound (s .factor)
-work-sound s cap size q = sound-of (s .factor) (ready lawful (viewOf s) (termsBy cap size 0) q .sound .0)
+work-sound s cap size q = sound-of (s .factor) (ready lawful (viewOf s) (termsBy cap size 0) q .stands .sound .0)
 
 module _ {s : SweepState} {cap : ℕ} {tail₀ : List ℕ} {w : Work} {tail : List ℕ} (k : Working s cap tail₀ w tail) (g : w .going ≡ true) where
   l : Looping engine (viewOf s) (callOf cap tail₀ 0) (w .at) (w .trials) (w .rounds) (w .place) tail
@@ -62,19 +65,21 @@ module _ {s : SweepState} {cap : ℕ} {tail₀ : List ℕ} {w : Work} {tail : Li
   found = aheadOf s (w .at)
 
   abbrev mark : ℕ → Mark
-  mark = engine .mark (s .factor)
+  mark = markOf (s .factor)
 
   short : s .last < 2 ^ mostPrecision
-  short = last-short (s .factor) (s .first) (s .last) (loop-ready lawful l .sound)
+  short = last-short (s .factor) (s .first) (s .last) (loop-ready lawful l .stands .sound)
 
   -- A step may be made.
   pub work-steps : {h : Windows} → h ≡ windowsOf (s .factor) → Stepping s h cap (length tail₀) w
   work-steps are =
-      let m : suc (s .last) - s .next + 2 ≤ 2 ^ mostPrecision + 2 = omega (arith, short) in
+      let suspects = ascends-few (s .next) (suc (s .last)) (rowAhead suspectIn engine (viewOf s)) (row-ascends (suspect (s .factor)) (s .next) (suc (s .last))) in
+      let m : length (rowAhead suspectIn engine (viewOf s)) + 3 ≤ 2 ^ mostPrecision + 3 = omega (arith, short) in
       record {
-        sound = loop-ready lawful l .sound;
+        sound = loop-ready lawful l .stands .sound;
         are = are;
         from = l .from;
+        upto = l .upto;
         turns = omega (arith, loop-rounds lawful l, mul-le-mul-left (mostRounds (s .factor)) m);
         capped = l .capped;
         fits = l .fits;
@@ -101,7 +106,7 @@ module _ {s : SweepState} {cap : ℕ} {tail₀ : List ℕ} {w : Work} {tail : Li
   -- X is tried
   module _ {X : ℕ} (q : found .place ≡ At X) (h : ¬ (w .trials ≡ cap)) (i : ¬ (w .place ≡ length tail₀)) where
     inside : (w .at ≤ X) × (X ≤ s .last)
-    inside = found-inside s (loop-ready lawful l .sound) (w .at) (l .from) q
+    inside = found-inside s (loop-ready lawful l .stands .sound) (w .at) (l .from) (l .upto) q
 
     -- the loop goes on past it, its word being written
     past : (m : Mark) → mark X ≡ m

@@ -1,10 +1,12 @@
 -- Laws of a step: the search ahead, what is found, and what is done at it. Assumes nothing.
-use mathlib.Core.Path.{_≡_, refl, sym, ap, _∙_, subst}
+use mathlib.Core.Path.{_≡_, refl, sym, ap, ap₂, _∙_, subst}
 use mathlib.Core.Bool.{Bool, true, false, cond, _||_}
 use mathlib.Core.Logic.{_⊎_, inl, inr}
 use Prim.Native.Nat.{ℕ, suc, _+_, _^_, _≤_, _<_, min, max}
 use native.Mathlib.Omega.{arith}
+use native.Mathlib.Nat.{add-zero}
 use native.Mathlib.Numerals.{add-one}
+use native.Mathlib.Decide.{decLe}
 use lib.Dec.{eqb, ltb}
 use lib.Pow.{pow-mono}
 use borrow.Author.Tests.{eqb-true, eqb-false, lt-ltb, le-ltb}
@@ -24,13 +26,14 @@ use Rattle.suspects.specs.Next.{nextIn, Askable}
 use Rattle.suspects.specs.WindowLaws.{low-askable, high-askable}
 use Rattle.factor.specs.Precision.{mostPrecision}
 use Rattle.product.specs.AnswerLaws.{in-range}
-use Rattle.calls.specs.Engine.{low, high}
-use Rattle.calls.specs.Call.{within, orElse, highStart, ahead}
+use Rattle.calls.specs.Engine.{low, high, lowEnd}
+use Rattle.calls.specs.Call.{within, noneAfter, sought, orElse, seek, ahead}
 use Rattle.calls.specs.RunLaws.{ahead-found}
 use Rattle.sweep.specs.declared.SweepState.{SweepState}
 use Rattle.sweep.specs.declared.Work.{Work}
-use Rattle.sweep.specs.Engine.{windowsOf, mostRounds, engine}
+use Rattle.sweep.specs.Engine.{range, windowsOf, highFrom, findIn, mostRounds, markOf, engine}
 use Rattle.sweep.specs.EngineLaws.{sound-of, few, lawful}
+use Rattle.sweep.specs.Answers.{viewOf}
 use Rattle.sweep.specs.Steps.{cutAt, soughtBefore, aheadIn, Searchable, mustStop, haltedAt, triedAt, stepAt, aheadOf, stepOf, Room, Stepping}
 
 -- ---- a place that is cut
@@ -57,7 +60,7 @@ module _ {h : Windows} (k : Searchable h) where
   sought-few : (s : Window) (a end : ℕ) → nextIn s a .rounds ≤ mostRounds (k .of) → soughtBefore s a end .rounds ≤ mostRounds (k .of)
   sought-few s a end h = go (ltb a end)
     where
-      go : (b : Bool) → cond b (cutAt end (nextIn s a)) (record { place = Nowhere; rounds = 0 }) .rounds ≤ mostRounds (k .of)
+      go : (b : Bool) → cond b (cutAt end (nextIn s a)) (noneAfter 0) .rounds ≤ mostRounds (k .of)
       go true = h
       go false = omega arith
 
@@ -70,7 +73,7 @@ module _ {h : Windows} (k : Searchable h) where
 -- the low half's search, as code has it
 module _ (h : Windows) (last a : ℕ) {end : ℕ} (ends : end ≡ min (h .«first_high») (last + 1)) {lower : Found} (is : lower ≡ soughtBefore (h .low) a end) where
   abbrev upper : Found
-  upper = soughtBefore (h .high) (highStart (h .«first_high») a) (suc last)
+  upper = soughtBefore (h .high) (max a (h .«first_high»)) (suc last)
 
   ahead-by : aheadIn h last a ≡ orElse (lower .place) lower upper
   ahead-by =
@@ -103,19 +106,36 @@ may-go t c p n q = let o = or-false (eqb t c) (eqb p n) q in (eqb-false t c (o .
 -- ---- the step
 
 -- a range that 17 does not refuse ends at a significand of the largest precision at most
-pub last-short : (f : Factor) (first last : ℕ) → NoneHolds (engine .newFaults f first last) → last < 2 ^ mostPrecision
+pub last-short : (f : Factor) (first last : ℕ) → NoneHolds (engine .newFaults (range f first last)) → last < 2 ^ mostPrecision
 last-short f first last good =
     let n : ℕ = f .precision .bits in
     omega (arith, in-range n first last (good .1 .0) .last-bits .most, pow-mono {i = n} {j = mostPrecision} (sound-of f (good .0) .precision .most))
 
 -- a suspect that the search ahead finds lies in the range
-pub found-inside : (s : SweepState) → NoneHolds (engine .newFaults (s .factor) (s .first) (s .last)) → (a : ℕ) → s .first ≤ a → {X : ℕ} → aheadOf s a .place ≡ At X → (a ≤ X) × (X ≤ s .last)
-found-inside s good a from {X} q = ahead-found (lawful .laws (s .factor) (s .first) (s .last) good) a from X q
+pub found-inside : (s : SweepState) → NoneHolds (engine .newFaults (viewOf s .over)) → (a : ℕ) → s .first ≤ a → a ≤ suc (s .last) → {X : ℕ} → aheadOf s a .place ≡ At X → (a ≤ X) × (X ≤ s .last)
+found-inside s good a from upto {X} q = ahead-found (lawful .laws (viewOf s .over) good) a from upto X q
+
+-- nothing follows the last section
+none-follows : (w : Found) (p : Place) → w .place ≡ p → orElse p w (noneAfter 0) ≡ w
+none-follows w (At X) q = refl
+none-follows w Nowhere q = λ i. record { place = sym q i; rounds = add-zero (w .rounds) i }
 
 -- the windows are the factor's, so the search ahead is the engine's
-pub ahead-in : (f : Factor) (last a : ℕ) → aheadIn (windowsOf f) last a ≡ ahead engine f last a
-unfolding ahead
-ahead-in f last a = refl
+pub ahead-in : (f : Factor) (first last a : ℕ) → aheadIn (windowsOf f) last a ≡ ahead engine (range f first last) a
+unfolding seek
+ahead-in f first last a =
+    let upper : Found = sought (record { from = lowEnd h last; end = suc last; find = findIn f high }) a in
+    sym (ap₂ (λ (v w : Found). orElse (v .place) v w) (from-low (omega arith)) (none-follows upper (upper .place) refl ∙ from-high (decLe h last)))
+  where
+    h : ℕ
+    h = highFrom f
+
+    from-low : max a 0 ≡ a → sought (record { from = 0; end = lowEnd h last; find = findIn f low }) a ≡ soughtBefore (windowsOf f .low) a (lowEnd h last)
+    from-low e = ap (λ (z : ℕ). soughtBefore (windowsOf f .low) z (lowEnd h last)) e
+
+    from-high : Dec (h ≤ last) → sought (record { from = lowEnd h last; end = suc last; find = findIn f high }) a ≡ soughtBefore (windowsOf f .high) (max a h) (suc last)
+    from-high (yes k) = let e : lowEnd h last ≡ h = omega arith in ap (λ (z : ℕ). soughtBefore (windowsOf f .high) (max a z) (suc last)) e
+    from-high (no k) = rw (le-ltb (max a (lowEnd h last)) (suc last) (omega arith), le-ltb (max a h) (suc last) (omega arith))
 
 module _ {s : SweepState} {h : Windows} {cap size : ℕ} {w : Work} (k : Stepping s h cap size w) where
   abbrev n : ℕ
@@ -130,20 +150,20 @@ module _ {s : SweepState} {h : Windows} {cap size : ℕ} {w : Work} (k : Steppin
   -- the step, from what the search ahead found
   module _ {found : Found} (is : found ≡ aheadIn h (s .last) (w .at)) where
     abbrev mark : ℕ → Mark
-    mark = engine .mark (s .factor)
+    mark = markOf (s .factor)
 
     abbrev stop : Bool
     stop = mustStop (w .trials) cap (w .place) size
 
     step-ahead : found ≡ aheadOf s (w .at)
-    step-ahead = is ∙ ap (λ (h : Windows). aheadIn h (s .last) (w .at)) (k .are) ∙ ahead-in (s .factor) (s .last) (w .at)
+    step-ahead = is ∙ ap (λ (h : Windows). aheadIn h (s .last) (w .at)) (k .are) ∙ ahead-in (s .factor) (s .first) (s .last) (w .at)
 
     -- the rounds can be counted
     pub step-rounds : w .rounds + found .rounds < 2 ^ wordBits
     step-rounds = rw step-ahead (k .turns)
 
     step-found : {X : ℕ} → found .place ≡ At X → (w .at ≤ X) × (X ≤ s .last)
-    step-found q = found-inside s (k .sound) (w .at) (k .from) (ap (λ (w : Found). w .place) (sym step-ahead) ∙ q)
+    step-found q = found-inside s (k .sound) (w .at) (k .from) (k .upto) (ap (λ (w : Found). w .place) (sym step-ahead) ∙ q)
 
     pub found-bits : {X : ℕ} → found .place ≡ At X → HasBits n X
     found-bits q =

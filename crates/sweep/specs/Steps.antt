@@ -1,7 +1,7 @@
 -- Definitions: a step of a sweep call, and what the functions that make it may be asked. Assumes nothing.
 use mathlib.Core.Path.{_≡_}
 use mathlib.Core.Bool.{Bool, true, false, cond, _||_}
-use Prim.Native.Nat.{ℕ, suc, _+_, _*_, _^_, _≤_, _<_}
+use Prim.Native.Nat.{ℕ, suc, _+_, _*_, _^_, _≤_, _<_, max}
 use lib.Dec.{eqb, ltb}
 use Rattle.wide.specs.Value.{wordBits}
 use Rattle.marks.specs.declared.Mark.{Mark}
@@ -17,10 +17,10 @@ use Rattle.suspects.specs.declared.Windows.{Windows}
 use Rattle.suspects.specs.Next.{nextIn}
 use Rattle.factor.specs.Precision.{mostPrecision}
 use Rattle.calls.specs.Engine.{lowEnd}
-use Rattle.calls.specs.Call.{Result, conditions, within, orElse, highStart, ahead}
+use Rattle.calls.specs.Call.{Result, conditions, within, noneAfter, orElse, ahead}
 use Rattle.sweep.specs.declared.SweepState.{SweepState}
 use Rattle.sweep.specs.declared.Work.{Work}
-use Rattle.sweep.specs.Engine.{windowsOf, engine}
+use Rattle.sweep.specs.Engine.{windowsOf, markOf, engine}
 use Rattle.sweep.specs.Answers.{viewOf, termsBy}
 
 -- ---- searches
@@ -31,13 +31,13 @@ cutAt end f = record { place = within end (f .place); rounds = f .rounds }
 
 -- the search in the window of a half, from a on, where the half's part of the range ends before the end
 abbrev pub soughtBefore : Window → (a end : ℕ) → Found
-soughtBefore w a end = cond (ltb a end) (cutAt end (nextIn w a)) (record { place = Nowhere; rounds = 0 })
+soughtBefore w a end = cond (ltb a end) (cutAt end (nextIn w a)) (noneAfter 0)
 
 -- the first suspect of the range from a on, with the rounds of the searches that lead to it
 abbrev pub aheadIn : Windows → (last a : ℕ) → Found
 aheadIn h last a =
     let lower = soughtBefore (h .low) a (lowEnd (h .«first_high») last) in
-    orElse (lower .place) lower (soughtBefore (h .high) (highStart (h .«first_high») a) (suc last))
+    orElse (lower .place) lower (soughtBefore (h .high) (max a (h .«first_high»)) (suc last))
 
 -- the windows are those of a sound factor
 pub record Searchable (h : Windows) : Type 0 where
@@ -80,13 +80,13 @@ stepAt mark stop w n Nowhere = haltedAt w n Nowhere
 
 -- the search ahead
 abbrev pub aheadOf : SweepState → (a : ℕ) → Found
-aheadOf s a = ahead engine (s .factor) (s .last) a
+aheadOf s a = ahead engine (viewOf s .over) a
 
 -- the step of a call
 abbrev pub stepOf : SweepState → (cap size : ℕ) → Work → Work
 stepOf s cap size w =
     let found = aheadOf s (w .at) in
-    stepAt (engine .mark (s .factor)) (mustStop (w .trials) cap (w .place) size) w (w .rounds + found .rounds) (found .place)
+    stepAt (markOf (s .factor)) (mustStop (w .trials) cap (w .place) size) w (w .rounds + found .rounds) (found .place)
 
 -- what a call answers as numbers, once it is done
 abbrev pub resultIn : Work → Result
@@ -102,9 +102,10 @@ pub record Room (w : Work) (X : ℕ) : Type 0 where
 
 -- a step may be made: a new state over the factor and the range is not refused, the windows are those of the factor, and the counts fit
 pub record Stepping (s : SweepState) (h : Windows) (cap size : ℕ) (w : Work) : Type 0 where
-  pub sound : NoneHolds (engine .newFaults (s .factor) (s .first) (s .last))
+  pub sound : NoneHolds (engine .newFaults (viewOf s .over))
   pub are : h ≡ windowsOf (s .factor)
   pub from : s .first ≤ w .at
+  pub upto : w .at ≤ suc (s .last)
   pub turns : w .rounds + aheadOf s (w .at) .rounds < 2 ^ wordBits
   pub capped : w .trials ≤ cap
   pub fits : w .place ≤ size

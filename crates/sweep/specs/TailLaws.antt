@@ -10,8 +10,9 @@ use borrow.Rule.Slice.PartMut.{putMid, midOf}
 use Rattle.marks.specs.Answers.{none, First, Outcome, refused, accepted}
 use Rattle.marks.specs.AnswerLaws.{pass, end, judged-none}
 use Rattle.factor.specs.declared.Factor.{Factor}
-use Rattle.calls.specs.State.{entries, wordList}
-use Rattle.calls.specs.Call.{Result, Reply, conditions, Run, run, runOf, handed, replied, sweepCall}
+use Rattle.calls.specs.State.{Range, entries, wordList}
+use Rattle.calls.specs.Engine.{handed}
+use Rattle.calls.specs.Call.{Result, Reply, conditions, Run, run, runOf, replied, sweepCall}
 use Rattle.calls.specs.RefusalLaws.{ready}
 use Rattle.calls.specs.ListLaws.{put-tail}
 use Rattle.sweep.specs.declared.SweepState.{SweepState}
@@ -30,7 +31,7 @@ movedAnswer free (refused n) = refused n
 movedAnswer free (accepted r) = accepted (record { trials = r .trials; rounds = r .rounds; place = free + r .place })
 
 -- a reply on the tail as one on the whole list, into which the tail comes back
-abbrev pub moved : List ℕ → (free : ℕ) → Reply Factor → Reply Factor
+abbrev pub moved : List ℕ → (free : ℕ) → Reply (Range Factor) → Reply (Range Factor)
 moved list free r = record { answer = movedAnswer free (r .answer); state = r .state; list = putMid free (length list - free) list (r .list) }
 
 pub lent-length : (list : List ℕ) (free : ℕ) → length (lent list free) ≡ length list - free
@@ -55,12 +56,12 @@ module _ (s : SweepState) (cap : ℕ) (list : List ℕ) (free : ℕ) (q : First 
   tail-moved =
       let size : length (lent list free) - 0 ≡ length list - free = omega (arith, lent-length list free) in
       let same : runOf engine (viewOf s) (callOf cap (lent list free) 0) ≡ runOf engine (viewOf s) (callOf cap list free) =
-      ap (λ (z : ℕ). run engine (s .factor) (s .last) cap (z / 1) (s .next)) size in
+      ap (λ (z : ℕ). run engine (viewOf s .over) cap (z / 1) (s .next)) size in
       rw (q .is, tail-taken, same) (whole (runOf engine (viewOf s) (callOf cap list free)))
     where
-      whole : (r : Run) → moved list free (replied wordList (viewOf s) (callOf cap (lent list free) 0) none r) ≡ replied wordList (viewOf s) (callOf cap list free) none r
+      whole : (r : Run) → moved list free (replied engine (viewOf s) (callOf cap (lent list free) 0) none r) ≡ replied engine (viewOf s) (callOf cap list free) none r
       whole r =
           let words : List ℕ = entries wordList (r .words) in
           let place : free + (0 + length words) ≡ free + length words = omega arith in
           let written = put-tail list (sets (lent list free) 0 words) words free refl in
-          λ i. record { answer = accepted (record { trials = r .trials; rounds = r .rounds; place = place i }); state = handed (viewOf s) (r .left); list = written i }
+          λ i. record { answer = accepted (record { trials = r .trials; rounds = r .rounds; place = place i }); state = handed engine (viewOf s) (r .left); list = written i }

@@ -16,8 +16,8 @@ ghost use Rattle.wide.specs.Value.{wordBits, halfWord};
 ghost use Rattle.suspects.specs.Next.{Askable};
 ghost use Rattle.marks.specs.Answers.{refusalOf, First};
 ghost use Rattle.calls.specs.Call.{newState, conditions, sweepCall};
-ghost use Rattle.calls.specs.Call;
-ghost use Rattle.sweep.specs.Engine.{stateOut, engine};
+ghost use Rattle.calls.specs.Engine;
+ghost use Rattle.sweep.specs.Engine.{range, stateOut, engine};
 ghost use Rattle.sweep.specs.Answers.{viewOf, newOf, callOf, termsBy, resultOf, replyOf};
 ghost use Rattle.sweep.specs.Steps.{cutAt, soughtBefore, aheadIn, Searchable, mustStop, begunAt, haltedAt, withWord, triedAt, stepOf, resultIn, Room, Stepping, Taken};
 
@@ -70,7 +70,7 @@ struct Work {
 
 // A new sweep over a range: 31 by the factor, then 17 by the range.
 pub fn new_state(f: Factor, first: u64, last: u64) -> NewSweep
-    ensures { λ r. ⌜ newOf r ≡ newState engine f first last ⌝ }
+    ensures { λ r. ⌜ newOf r ≡ newState engine (range f first last) ⌝ }
 {
     if !factor::is_intact(f) {
         return NewSweep::Refused(31);
@@ -302,7 +302,7 @@ fn step(s: SweepState, windows: Windows, cap: u64, size: usize, w: Work) -> Work
 
 // The state that a call hands back: stopped at a suspect, or finished.
 fn handed(s: SweepState, left: Place) -> SweepState
-    ensures { λ r. ⌜ viewOf r ≡ Call.handed (viewOf s) left ⌝ }
+    ensures { λ r. ⌜ viewOf r ≡ Engine.handed engine (viewOf s) left ⌝ }
 {
     let mut t = s;
     match left {
@@ -320,7 +320,7 @@ fn handed(s: SweepState, left: Place) -> SweepState
 
 // What an accepted call answers, once it is done.
 fn ended(s: SweepState, w: Work) -> Swept
-    ensures { λ r. ⌜ (viewOf (r .state) ≡ Call.handed (viewOf s) (w .left)) × (resultOf r ≡ resultIn w) ⌝ }
+    ensures { λ r. ⌜ (viewOf (r .state) ≡ Engine.handed engine (viewOf s) (w .left)) × (resultOf r ≡ resultIn w) ⌝ }
 {
     let left = w.left;
     Swept {

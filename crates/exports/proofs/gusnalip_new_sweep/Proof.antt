@@ -2,7 +2,7 @@
 use mathlib.Core.Path.{_≡_, refl, ap, _∙_}
 use Rattle.calls.specs.Call.{newState}
 use Rattle.sweep.specs.declared.NewSweep.{NewSweep}
-use Rattle.sweep.specs.Engine.{engine}
+use Rattle.sweep.specs.Engine.{range, engine}
 use Rattle.sweep.specs.Answers.{newOf}
 use Rattle.exports.specs.Answers.{Answer, newSweepTo, newSweepAnswer}
 use Rattle.exports.specs.AnswerLaws.{enough, answered, not-taken, gives}
@@ -19,7 +19,7 @@ unfolding newSweepTo
 answer s =
     let told = s .before .before in
     let a = told .before .before .before .before .before .args in
-    answered newSweepAnswer (λ f. newState engine f (a .first) (a .last)) (told .before .before .take-factor .ensures) (told .f .given .1) (s .new-state .ensures)
+    answered newSweepAnswer (λ f. newState engine (range f (a .first) (a .last))) (told .before .before .take-factor .ensures) (told .f .given .1) (s .new-state .ensures)
 
 put-state-requires : tie.Need-put-state-requires
 put-state-requires c κs = let told = c .before .before .before .before .before .before in enough (told .before .before .take-factor .ensures) (told .f .given .1) .roomy
@@ -39,7 +39,7 @@ returns-3 c =
     let told = c .before in
     let take = told .before .before in
     let a = take .before .before .before .args in
-    gives _ (refl, refl) (not-taken newSweepAnswer (λ f. newState engine f (a .first) (a .last)) (take .take-factor .ensures) (told .k2 .given .1))
+    gives _ (refl, refl) (not-taken newSweepAnswer (λ f. newState engine (range f (a .first) (a .last))) (take .take-factor .ensures) (told .k2 .given .1))
 
 pub gusnalip-new-sweep-spec : {M : Type 1} → statement M
 gusnalip-new-sweep-spec =

@@ -7,7 +7,7 @@ use lib.ListN.{length, length-set}
 use borrow.Author.Needs.{needs}
 use Rattle.marks.specs.Answers.{Outcome}
 use Rattle.factor.specs.declared.Factor.{Factor}
-use Rattle.calls.specs.State.{State}
+use Rattle.calls.specs.State.{Range, State}
 use Rattle.calls.specs.Call.{sweepCall}
 use Rattle.sweep.specs.declared.SweepAnswer.{SweepAnswer}
 use Rattle.sweep.specs.Engine.{engine}
@@ -36,7 +36,7 @@ answer c =
     let start = f .before .before .before .before .before .before .before in
     let a = start .args in
     ap (asked start) (sym (f .before .before .take-factor .ensures) ∙ ap takenOf (f .f .given .1))
-    ∙ ap replyWords (sym (c .sweep-call .ensures ∙ ap (λ (s : State Factor). sweepCall engine s (callOf (a .cap) (a .list .now) (a .free))) (of .state-of .ensures)))
+    ∙ ap replyWords (sym (c .sweep-call .ensures ∙ ap (λ (s : State (Range Factor)). sweepCall engine s (callOf (a .cap) (a .list .now) (a .free))) (of .state-of .ensures)))
 
 -- the lists are long enough
 lists : (c : tie.After-f) → let a = c .before .before .before .before .before .before .before .args in Enough (a .state .now) 14 (length (a .counts .now)) 3
