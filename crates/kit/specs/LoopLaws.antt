@@ -1,34 +1,13 @@
 -- Laws of loops over the factors of a kit, over any list of which the first n count. Assumes nothing.
 use mathlib.Core.Path.{_≡_, refl, sym, ap, _∙_}
 use mathlib.Core.Bool.{Bool, true, false, _||_, or-false}
-use mathlib.Core.List.{List, [], _∷_, map}
-use Prim.Native.Nat.{ℕ, suc, _+_, _≤_, _<_}
+use mathlib.Core.List.{List, [], _∷_}
+use Prim.Native.Nat.{ℕ, _+_, _≤_, _<_}
 use native.Mathlib.Omega.{arith}
 use native.Mathlib.Numerals.{add-one}
 use lib.ListN.{length, getD, take, drop, length-take, drop-of-length-le}
 use lib.Seq.{drop-cons, getD-take}
-use lib.IntN.{pos}
-use lib.Ieee.{nan}
-use Rattle.factor.specs.declared.Factor.{Factor}
 use Rattle.calls.specs.Kit.{anyOf, twoAlike}
-
--- ---- arrays of factors
--- what a read past an array of factors would give
-abbrev pub noFactor : Factor
-noFactor =
-    record {
-      minus = false;
-      precision = record { bits = 0 };
-      lower = 0;
-      upper = 0;
-      parts = record { high = 0; low = pos 0; places = 0 };
-      applied = record { high = nan; low = nan; scale = pos 0 };
-    }
-
--- the length of a list is kept
-pub map-length : {A B : Type 0} (g : A → B) (l : List A) → length (map g l) ≡ length l
-map-length g [] = refl
-map-length g (x ∷ l) = ap suc (map-length g l)
 
 -- ---- places
 module _ {F : Type 0} (xs : List F) (n i : ℕ) where

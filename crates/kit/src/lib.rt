@@ -25,7 +25,7 @@ pub struct KitState {
     pub finished: bool,
 }
 
-// Whether two factors are alike in sign, precision, scale and ends. The ends differ most often.
+// Whether two factors are alike in sign, precision, scale and ends. The lower ends, which differ most often, are read first.
 fn is_alike(f: Factor, g: Factor) -> bool
     ensures { λ r. ⌜ r ≡ alike f g ⌝ }
 {
@@ -42,13 +42,13 @@ fn any_faulty(k: Kit) -> bool
     requires { ⌜ k .count ≤ 96 ⌝ }
     ensures { λ r. ⌜ r ≡ anyOf faulty (inKit (kitOf k)) ⌝ }
 {
-    let mut i = 0;
-    while i < k.count {
-        let f = k.factors[i];
+    let mut at = 0;
+    while at < k.count {
+        let f = k.factors[at];
         if !factor::is_intact(f) {
             return true;
         }
-        i += 1;
+        at += 1;
     }
     false
 }

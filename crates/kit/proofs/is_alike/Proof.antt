@@ -1,13 +1,8 @@
 -- `kit::is_alike` meets its contract: where the lower ends are the same, the rest decides. Assumes nothing.
-use mathlib.Core.Path.{_≡_, sym, ap, _∙_}
-use mathlib.Core.Bool.{Bool, _&&_, Bool·beq}
-use lib.Dec.{eqb}
 use mir.Syntax.{w32}
-use mir.Val.{SFits, ofZ}
+use mir.Val.{SFits}
 use borrow.Author.Needs.{needs}
 use borrow.Author.Tests.{eq-eqb, ne-eqb}
-use Rattle.factor.specs.declared.Factor.{Factor}
-use Rattle.factor.specs.SetUp.{sameZ}
 use Rattle.factor.proofs.Same.{same-bits}
 use Rattle.kit.specs.AlikeLaws.{alike-rest, alike-apart}
 use Rattle.kit.proofs.is_alike.Statement.{statement}

@@ -1,12 +1,12 @@
 -- `kit::two_alike` meets its contract: no factor before i is like a later one, and the one at i is like none before j. Assumes nothing.
 use mathlib.Core.Path.{_≡_, sym, _∙_}
-use Prim.Native.Nat.{ℕ, _+_, _≤_, _-_}
+use Prim.Native.Nat.{_+_, _-_}
 use native.Mathlib.Omega.{arith}
-use lib.ListN.{length, take, drop}
+use lib.ListN.{length, drop, length-map}
 use Rattle.calls.specs.Kit.{twoAlike, inKit}
 use Rattle.kit.specs.Engine.{alike}
-use Rattle.kit.specs.Answers.{kitOf}
-use Rattle.kit.specs.LoopLaws.{noFactor, map-length, Seeking, seek-hit, seek-miss, Pairing, pair, pair-seek, pair-next, pair-end}
+use Rattle.kit.specs.Answers.{kitOf, noFactor}
+use Rattle.kit.specs.LoopLaws.{Seeking, seek-hit, seek-miss, Pairing, pair, pair-seek, pair-next, pair-end}
 use Rattle.kit.proofs.two_alike.Statement.{statement}
 use Rattle.kit.proofs.two_alike.Tie as tie
 
@@ -24,7 +24,7 @@ abbrev μ-loop : tie.MeasureT-loop
 
 -- the array has its length
 long : (c : tie.Start Inv-loop2 μ-loop2 Inv-loop μ-loop) → length (c .args .t1 .factors) ≡ 96
-long c = sym (map-length _ (c .args .t1 .factors)) ∙ c .good .0 .1 .1 .0 .1 .0 .1
+long c = sym (length-map (c .args .t1 .factors) _) ∙ c .good .0 .1 .1 .0 .1 .0 .1
 
 loop-holds : tie.Need-loop-holds Inv-loop2 μ-loop2 Inv-loop μ-loop
 loop-holds c = pair (omega (arith, long c))
@@ -39,7 +39,7 @@ add-j : tie.Need-add-j Inv-loop2 μ-loop2 Inv-loop μ-loop
 add-j c = omega arith
 
 loop2-holds : tie.Need-loop2-holds Inv-loop2 μ-loop2 Inv-loop μ-loop
-loop2-holds c = pair-seek (c .before .before .loop .inv) noFactor (c .before .loop-test .taken)
+loop2-holds c = pair-seek (c .before .before .loop .inv) noFactor (omega (arith, c .before .loop-test .taken))
 
 mul-g : tie.Need-mul-g Inv-loop2 μ-loop2 Inv-loop μ-loop
 mul-g c = omega arith
@@ -50,7 +50,7 @@ element-copy-out-g c = omega arith
 returns : tie.Need-returns Inv-loop2 μ-loop2 Inv-loop μ-loop
 returns c =
     let test = c .before .before .before in
-    seek-hit (test .before .loop2 .inv) noFactor (test .loop2-test .taken) (sym (c .before .is-alike .ensures) ∙ c .if1 .taken)
+    seek-hit (test .before .loop2 .inv) noFactor (omega (arith, test .loop2-test .taken)) (sym (c .before .is-alike .ensures) ∙ c .if1 .taken)
 
 add-j-2 : tie.Need-add-j-2 Inv-loop2 μ-loop2 Inv-loop μ-loop
 add-j-2 c = omega arith
@@ -61,7 +61,7 @@ loop2-less c = omega arith
 loop2-again : tie.Need-loop2-again Inv-loop2 μ-loop2 Inv-loop μ-loop
 loop2-again c =
     let test = c .before .before .before in
-    seek-miss (test .before .loop2 .inv) noFactor (test .loop2-test .taken) (sym (c .before .is-alike .ensures) ∙ c .if1 .left)
+    seek-miss (test .before .loop2 .inv) noFactor (omega (arith, test .loop2-test .taken)) (sym (c .before .is-alike .ensures) ∙ c .if1 .left)
 
 add-i : tie.Need-add-i Inv-loop2 μ-loop2 Inv-loop μ-loop
 add-i c = omega arith
@@ -70,10 +70,10 @@ loop-less : tie.Need-loop-less Inv-loop2 μ-loop2 Inv-loop μ-loop
 loop-less c = omega arith
 
 loop-again : tie.Need-loop-again Inv-loop2 μ-loop2 Inv-loop μ-loop
-loop-again c = pair-next (c .before .loop2 .inv) (c .loop2-test .left)
+loop-again c = pair-next (c .before .loop2 .inv) (omega (arith, c .loop2-test .left))
 
 returns-2 : tie.Need-returns-2 Inv-loop2 μ-loop2 Inv-loop μ-loop
-returns-2 c = pair-end (c .before .loop .inv) (c .loop-test .left)
+returns-2 c = pair-end (c .before .loop .inv) (omega (arith, c .loop-test .left))
 
 pub two-alike-spec : {M : Type 1} → statement M
 two-alike-spec =
