@@ -28,15 +28,15 @@ pub record Section : Type 0 where
 pub data Half : Type 0 where
   low high : Half
 
--- Where the low half's part of a range ends: before the first high significand, or past the last of the range.
-abbrev pub lowEnd : (firstHigh last : ℕ) → ℕ
-lowEnd firstHigh last = min firstHigh (suc last)
+-- Where the low half's part of a range ends: before the first high significand, or past the last of the range; at its first, where all of it is high.
+abbrev pub lowEnd : (firstHigh first last : ℕ) → ℕ
+lowEnd firstHigh first last = max first (min firstHigh (suc last))
 
--- Both halves of the significands up to the last of a range: "Low X are searched before high X".
-abbrev pub halves : (firstHigh last : ℕ) → (Half → ℕ → Found) → List Section
-halves firstHigh last find =
-    record { from = 0; end = lowEnd firstHigh last; find = find low }
-    ∷ record { from = lowEnd firstHigh last; end = suc last; find = find high }
+-- Both halves of a range: "Low X are searched before high X".
+abbrev pub halves : (firstHigh first last : ℕ) → (Half → ℕ → Found) → List Section
+halves firstHigh first last find =
+    record { from = first; end = lowEnd firstHigh first last; find = find low }
+    ∷ record { from = lowEnd firstHigh first last; end = suc last; find = find high }
     ∷ []
 
 -- Where the search of a section starts, on the way from a on: at the larger of a and its first significand.
@@ -122,10 +122,10 @@ abbrev pub InSome : ℕ → List Section → Type 0
 InSome X [] = ⊥
 InSome X (s ∷ l) = ((s .from ≤ X) × (X < s .end)) ⊎ InSome X l
 
--- A section's search from one of its significands on, not before the first of all, finds the least suspect, as far as the section goes, in at most B rounds.
-pub record Finds (suspect : ℕ → Bool) (first B : ℕ) (s : Section) : Type 0 where
-  pub least : (a : ℕ) → first ≤ a → s .from ≤ a → a < s .end → LeastFrom suspect (s .end) a (s .find a .place)
-  pub few : (a : ℕ) → first ≤ a → s .from ≤ a → a < s .end → s .find a .rounds ≤ B
+-- A section's search from one of its significands on finds the least suspect, as far as the section goes, in at most B rounds.
+pub record Finds (suspect : ℕ → Bool) (B : ℕ) (s : Section) : Type 0 where
+  pub least : (a : ℕ) → s .from ≤ a → a < s .end → LeastFrom suspect (s .end) a (s .find a .place)
+  pub few : (a : ℕ) → s .from ≤ a → a < s .end → s .find a .rounds ≤ B
 
 -- ---- what is asked of engines
 
@@ -143,9 +143,9 @@ pub record Laws {U : Type 0} (suspect : ℕ → Bool) (e : Engine U) (u : U) (B 
   -- "every X that is not right is a suspect"
   pub suspected : (X : ℕ) → e .first u ≤ X → X ≤ e .last u → e .mark u X ≢ Right → suspect X ≡ true
   -- the sections follow one another, every suspect lies in one, and each is searched as it must be
-  pub chain : Chain 0 (suc (e .last u)) (e .sections u)
+  pub chain : Chain (e .first u) (suc (e .last u)) (e .sections u)
   pub tiled : (X : ℕ) → e .first u ≤ X → X ≤ e .last u → suspect X ≡ true → InSome X (e .sections u)
-  pub finds : AllOf (Finds suspect (e .first u) B) (e .sections u)
+  pub finds : AllOf (Finds suspect B) (e .sections u)
 
 -- A place is a suspect from a to the last, or none.
 abbrev pub AtSuspect : (ℕ → Bool) → (a last : ℕ) → Place → Type 0

@@ -15,7 +15,7 @@ use Rattle.calls.specs.Call.{ahead, Run, stopped, tried, searched, run}
 use Rattle.calls.specs.Plain.{row, notRight, tries, wordsOf}
 use Rattle.calls.specs.ByRow.{headOf, legs, trail, roundsIn, rowRun}
 use Rattle.calls.specs.TrialLaws.{listed-length, no-cap, no-place}
-use Rattle.calls.specs.RowLaws.{row-ascends, begins, first-suspect}
+use Rattle.calls.specs.RowLaws.{begins, first-suspect}
 use Rattle.calls.specs.SearchLaws.{rowIn, rows-whole, seek-is, searches-few, rounds-append, trail-few}
 
 module _ {U : Type 0} {suspect : ℕ → Bool} {e : Engine U} {u : U} {B : ℕ} (laws : Laws suspect e u B) where
@@ -38,7 +38,7 @@ module _ {U : Type 0} {suspect : ℕ → Bool} {e : Engine U} {u : U} {B : ℕ} 
   -- The searches from a on lead to the first suspect from a on, and are those on the way to it.
   pub ahead-is : (a : ℕ) → first ≤ a → a ≤ suc last → ahead e u a ≡ to a (rowFrom a)
   ahead-is a h k =
-      seek-is suspect first B (e .sections u) 0 (suc last) a (laws .chain) (laws .finds) h
+      seek-is suspect B (e .sections u) first (suc last) a (laws .chain) (laws .finds)
       ∙ ap (to a) (rows-whole suspect (e .sections u) first last (laws .chain) (laws .tiled) a h k)
 
   -- A suspect that is found lies from a on, up to the last.
@@ -98,6 +98,6 @@ module _ {U : Type 0} {suspect : ℕ → Bool} {e : Engine U} {u : U} {B : ℕ} 
   rounds-few a k h i fits =
       omega (
         arith,
-        trail-few suspect first (suc last) B (e .sections u) a k (rowFrom a) (laws .finds) h (row-ascends suspect a (suc last)),
+        trail-few suspect B (e .sections u) a k (rowFrom a) (laws .finds),
         mul-le-mul-left B (searches-few suspect (e .sections u) first last (laws .chain) (laws .tiled) k a h i fits),
       )

@@ -18,7 +18,6 @@ use Rattle.calls.specs.Engine.{Section, startIn, past, stopsAt, once, pa
 use Rattle.calls.specs.Call.{within, noneAfter, sought, orElse, seek}
 use Rattle.calls.specs.Plain.{keep, row}
 use Rattle.calls.specs.ByRow.{headOf, legs, trail, roundsIn, closing, closings, searchesOf}
-use Rattle.calls.specs.Whole.{Ascends}
 use Rattle.calls.specs.RowLaws.{row-empty, row-at, row-none, row-skip, row-split, row-clear, first-suspect, begins}
 
 -- ---- places and ends
@@ -39,6 +38,13 @@ pub passed-few : (l : List Section) (a : ℕ) (p : Place) → passed l a p ≤ l
 unfolding passed
 passed-few [] a p = omega arith
 passed-few (s ∷ l) a p = omega (arith, passed-few l a p, once-few (past (s .end) p && ltb (startIn s a) (s .end)))
+
+-- The section that the stop lies in is not passed.
+pub passed-in : (l : List Section) (a X : ℕ) → InSome X l → suc (passed l a (At X)) ≤ length l
+unfolding passed
+passed-in [] a X i = absurd i
+passed-in (s ∷ l) a X (inl i) = rw (lt-leb (s .end) X (i .1)) (omega (arith, passed-few l a (At X)))
+passed-in (s ∷ l) a X (inr i) = omega (arith, passed-in l a X i, once-few (past (s .end) (At X) && ltb (startIn s a) (s .end)))
 
 -- ---- sections that follow one another
 
@@ -116,11 +122,11 @@ module _ (suspect : ℕ → Bool) where
       go (no k) = rw (le-ltb X end (omega arith), row-none suspect a end (λ Y u v. l .2 Y u (omega arith) v))
 
   -- The searches from a on lead to the first of the row, and are those on the way to it.
-  pub seek-is : (first B : ℕ) (l : List Section) (c b a : ℕ) → Chain c b l → AllOf (Finds suspect first B) l → first ≤ a
+  pub seek-is : (B : ℕ) (l : List Section) (c b a : ℕ) → Chain c b l → AllOf (Finds suspect B) l
       → seek l a ≡ record { place = headOf (rowIn suspect l a); rounds = roundsIn (legs l a (headOf (rowIn suspect l a))) }
   unfolding seek rowIn legs roundsIn
-  seek-is first B [] c b a q f h = refl
-  seek-is first B (s ∷ l) c b a q f h = go (decLt (startIn s a) (s .end)) (seek-is first B l (s .end) b a (q .2) (f .1) h)
+  seek-is B [] c b a q f = refl
+  seek-is B (s ∷ l) c b a q f = go (decLt (startIn s a) (s .end)) (seek-is B l (s .end) b a (q .2) (f .1))
     where
       -- the rest of the sections, which lies past this one
       rest : List ℕ
@@ -147,7 +153,7 @@ module _ (suspect : ℕ → Bool) where
       go (yes k) ih =
           rw (
             lt-ltb (startIn s a) (s .end) k,
-            within-head (s .end) (startIn s a) (s .find (startIn s a) .place) (f .0 .least (startIn s a) (omega arith) (omega arith) k),
+            within-head (s .end) (startIn s a) (s .find (startIn s a) .place) (f .0 .least (startIn s a) (omega arith) k),
             ih,
           )
           (found (row suspect (startIn s a) (s .end)) refl)
@@ -258,7 +264,7 @@ module _ (suspect : ℕ → Bool) where
 
 -- ---- all searches of a call
 
-module _ (suspect : ℕ → Bool) (sections : List Section) (first last : ℕ) (chain : Chain 0 (suc last) sections)
+module _ (suspect : ℕ → Bool) (sections : List Section) (first last : ℕ) (chain : Chain first (suc last) sections)
     (tiled : (X : ℕ) → first ≤ X → X ≤ last → suspect X ≡ true → InSome X sections) where
   -- the suspects from a on
   abbrev rowFrom : ℕ → List ℕ
@@ -267,7 +273,7 @@ module _ (suspect : ℕ → Bool) (sections : List Section) (first last : ℕ) (
   -- They are those of the sections.
   pub rows-whole : (a : ℕ) → first ≤ a → a ≤ suc last → rowIn suspect sections a ≡ rowFrom a
   rows-whole a h k =
-      rows-are suspect sections 0 a (suc last) chain k (λ X u v t. tiled X (omega arith) (omega arith) t)
+      rows-are suspect sections first a (suc last) chain k (λ X u v t. tiled X (omega arith) (omega arith) t)
       ∙ ap (λ (z : ℕ). rowFrom z) (omega arith)
 
   abbrev Counted : (a k : ℕ) → List ℕ → Type 0
@@ -277,7 +283,7 @@ module _ (suspect : ℕ → Bool) (sections : List Section) (first last : ℕ) (
   none-tried : (a : ℕ) → first ≤ a → a ≤ suc last → length (legs sections a (headOf (rowFrom a))) ≡ searchesOf suspect sections a 0 (headOf (rowFrom a))
   none-tried a h k =
       subst (λ (r : List ℕ). length (legs sections a (headOf r)) ≡ 0 + once (stopsAt (headOf r)) + closings suspect sections a (headOf r)) (rows-whole a h k)
-      (legs-are suspect sections 0 (suc last) a chain ∙ ap (λ (z : ℕ). z + closings suspect sections a (headOf (rowIn suspect sections a))) (sym (zero-add _)))
+      (legs-are suspect sections first (suc last) a chain ∙ ap (λ (z : ℕ). z + closings suspect sections a (headOf (rowIn suspect sections a))) (sym (zero-add _)))
 
   -- what is left past x lies past it
   rest-past : (x k : ℕ) → past (suc x) (headOf (drop k (rowFrom (suc x)))) ≡ true
@@ -326,10 +332,10 @@ unfolding roundsIn
 rounds-append [] l = sym (zero-add (roundsIn l))
 rounds-append (w ∷ k) l = omega (arith, rounds-append k l)
 
-legs-few : (suspect : ℕ → Bool) (first B : ℕ) (l : List Section) (a : ℕ) (p : Place) → AllOf (Finds suspect first B) l → first ≤ a → Few B (legs l a p)
+legs-few : (suspect : ℕ → Bool) (B : ℕ) (l : List Section) (a : ℕ) (p : Place) → AllOf (Finds suspect B) l → Few B (legs l a p)
 unfolding legs roundsIn
-legs-few suspect first B [] a p f h = omega arith
-legs-few suspect first B (s ∷ l) a p f h = go (decLt (startIn s a) (s .end)) (past (s .end) p) (legs-few suspect first B l a p (f .1) h)
+legs-few suspect B [] a p f = omega arith
+legs-few suspect B (s ∷ l) a p f = go (decLt (startIn s a) (s .end)) (past (s .end) p) (legs-few suspect B l a p (f .1))
   where
     more : (w : Found) (l : List Found) → w .rounds ≤ B → Few B l → Few B (w ∷ l)
     more w l i k = omega (arith, mul-suc B (length l))
@@ -341,13 +347,13 @@ legs-few suspect first B (s ∷ l) a p f h = go (decLt (startIn s a) (s .end)) (
     go : Dec (startIn s a < s .end) → (t : Bool) → Few B (legs l a p) → Few B (keep (ltb (startIn s a) (s .end)) (s .find (startIn s a)) (cond t (legs l a p) []))
     go (no k) t ih = rw (le-ltb (startIn s a) (s .end) (omega arith)) (cut t ih)
     go (yes k) t ih =
-        rw (lt-ltb (startIn s a) (s .end) k) (more (s .find (startIn s a)) (cond t (legs l a p) []) (f .0 .few (startIn s a) (omega arith) (omega arith) k) (cut t ih))
+        rw (lt-ltb (startIn s a) (s .end) k) (more (s .find (startIn s a)) (cond t (legs l a p) []) (f .0 .few (startIn s a) (omega arith) k) (cut t ih))
 
 -- They are few of all searches of a call too.
-pub trail-few : (suspect : ℕ → Bool) (first b B : ℕ) (l : List Section) (a k : ℕ) (r : List ℕ) → AllOf (Finds suspect first B) l → first ≤ a → Ascends a b r → Few B (trail l a k r)
+pub trail-few : (suspect : ℕ → Bool) (B : ℕ) (l : List Section) (a k : ℕ) (r : List ℕ) → AllOf (Finds suspect B) l → Few B (trail l a k r)
 unfolding trail
-trail-few suspect first b B l a k [] f h q = legs-few suspect first B l a Nowhere f h
-trail-few suspect first b B l a zero (x ∷ r) f h q = legs-few suspect first B l a (At x) f h
-trail-few suspect first b B l a (suc k) (x ∷ r) f h q =
+trail-few suspect B l a k [] f = legs-few suspect B l a Nowhere f
+trail-few suspect B l a zero (x ∷ r) f = legs-few suspect B l a (At x) f
+trail-few suspect B l a (suc k) (x ∷ r) f =
     rw (rounds-append (legs l a (At x)) (trail l (suc x) k r), length-append (legs l a (At x)) (trail l (suc x) k r), mul-add B)
-    (omega (arith, legs-few suspect first B l a (At x) f h, trail-few suspect first b B l (suc x) k r f (omega (arith, q .0)) (q .2)))
+    (omega (arith, legs-few suspect B l a (At x) f, trail-few suspect B l (suc x) k r f))

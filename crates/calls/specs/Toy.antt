@@ -15,7 +15,7 @@ use Rattle.search.specs.declared.Place.the-variants.{At, Nowhere}
 use Rattle.search.specs.declared.Found.{Found}
 use Rattle.search.specs.Finds.{LeastFrom}
 use Rattle.calls.specs.State.{Range, State, inRange, outOfRange, Call, Listing, wordList}
-use Rattle.calls.specs.Engine.{Half, low, high, lowEnd, halves, Engine, fresh, handed, ListingLaws, Lawful}
+use Rattle.calls.specs.Engine.{Half, low, high, halves, Engine, fresh, handed, ListingLaws, Lawful}
 use Rattle.calls.specs.Call.{newState, seek, run, sweepCall}
 use Rattle.calls.specs.Plain.{row, tries, wordsOf, Fed, begun, plainCall, Seen, stateOf, plains}
 use Rattle.calls.specs.ByRow.{closings, searchesOf}
@@ -53,7 +53,7 @@ toyBy l =
       last = λ r. r .last;
       has = inRange;
       mark = λ r. toyMark (r .factor);
-      sections = λ r. halves 100 (r .last) (toyFind (r .factor));
+      sections = λ r. halves 100 (r .first) (r .last) (toyFind (r .factor));
       beyond = λ s t. 2;
     }
 
@@ -116,11 +116,11 @@ toy-lawful {l} lists =
             had = λ X h k t. between r X .1 (h, k);
             lists = lists;
             suspected = λ X h k q. suspected X (suspectIn r X) q;
-            chain = halves-chain 100 (r .last) (toyFind (r .factor));
-            tiled = λ X h k t. halves-tiled 100 (r .last) (toyFind (r .factor)) X k;
-            finds = halves-finds 100 (r .last) (toyFind (r .factor)) (suspectIn r) (r .first) 4 (λ a h k i. least (r .factor) (lowEnd 100 (r .last)) a) (λ a h k i. least (r .factor) (suc (r .last)) a) few;
+            chain = halves-chain 100 (r .first) (r .last) o (toyFind (r .factor));
+            tiled = λ X h k t. halves-tiled 100 (r .first) (r .last) o (toyFind (r .factor)) X h k;
+            finds = halves-finds 100 (r .first) (r .last) o (toyFind (r .factor)) (suspectIn r) 4 (λ a end h k i. least (r .factor) end a) (λ a h k i. least (r .factor) (suc (r .last)) a) few;
           };
-      spans = λ s h p q. halves-span 100 (s .over .last) (toyFind (s .over .factor)) (suspectIn (s .over)) (s .next) p q;
+      spans = λ s h p q. let i = between (s .over) (s .next) .0 (h .there) in halves-span 100 (s .over .first) (s .over .last) (omega arith) (toyFind (s .over .factor)) (suspectIn (s .over)) (s .next) p (i .0) q;
     }
 
 -- Demand 3 holds of it, however its lists are kept.

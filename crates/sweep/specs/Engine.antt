@@ -60,7 +60,7 @@ engine =
       last = λ r. r .last;
       has = inRange;
       mark = λ r. markOf (r .factor);
-      sections = λ r. halves (highFrom (r .factor)) (r .last) (findIn (r .factor));
+      sections = λ r. halves (highFrom (r .factor)) (r .first) (r .last) (findIn (r .factor));
       beyond = λ s t. 2;
     }
 

@@ -92,13 +92,15 @@ lawful =
             had = λ X h k t. calls.between u X .1 (h, k);
             lists = word-laws;
             suspected = λ X h k q. not-right f s X (record { least = omega (arith, r .first-bits .least); most = omega (arith, r .last-bits .most) }) q;
-            chain = halves-chain (highFrom f) (u .last) (findIn f);
-            tiled = λ X h k t. halves-tiled (highFrom f) (u .last) (findIn f) X k;
+            chain = halves-chain (highFrom f) (u .first) (u .last) (r .ordered) (findIn f);
+            tiled = λ X h k t. halves-tiled (highFrom f) (u .first) (u .last) (r .ordered) (findIn f) X h k;
             finds =
-                halves-finds (highFrom f) (u .last) (findIn f) (suspect f) (u .first) (mostRounds f)
-                (λ a h k i. next.finds-low (contextOf f) (fine f s) (two f s) (lowerOf f) (upperOf f) (s .lower-end) (s .upper-end) (s .same) a _ (omega arith))
+                halves-finds (highFrom f) (u .first) (u .last) (r .ordered) (findIn f) (suspect f) (mostRounds f)
+                (λ a end h k i. next.finds-low (contextOf f) (fine f s) (two f s) (lowerOf f) (upperOf f) (s .lower-end) (s .upper-end) (s .same) a end i)
                 (λ a h k i. next.finds-high (contextOf f) (fine f s) (two f s) (lowerOf f) (upperOf f) (s .lower-end) (s .upper-end) (s .same) a (suc (u .last)) i)
                 (few f s);
           };
-      spans = λ s h p q. halves-span (highFrom (s .over .factor)) (s .over .last) (findIn (s .over .factor)) (suspectIn (s .over)) (s .next) p q;
+      spans = λ s h p q.
+          let i = calls.between (s .over) (s .next) .0 (h .there) in
+          halves-span (highFrom (s .over .factor)) (s .over .first) (s .over .last) (omega arith) (findIn (s .over .factor)) (suspectIn (s .over)) (s .next) p (i .0) q;
     }

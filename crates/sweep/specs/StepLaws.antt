@@ -6,7 +6,7 @@ use Prim.Native.Nat.{ℕ, suc, _+_, _^_, _≤_, _<_, min, max}
 use native.Mathlib.Omega.{arith}
 use native.Mathlib.Nat.{add-zero}
 use native.Mathlib.Numerals.{add-one}
-use native.Mathlib.Decide.{decLe}
+use native.Mathlib.Decide.{decLe, decLt}
 use lib.Dec.{eqb, ltb}
 use lib.Pow.{pow-mono}
 use borrow.Author.Tests.{eqb-true, eqb-false, lt-ltb, le-ltb}
@@ -120,22 +120,26 @@ none-follows : (w : Found) (p : Place) → w .place ≡ p → orElse p w (noneAf
 none-follows w (At X) q = refl
 none-follows w Nowhere q = λ i. record { place = sym q i; rounds = add-zero (w .rounds) i }
 
--- the windows are the factor's, so the search ahead is the engine's
-pub ahead-in : (f : Factor) (first last a : ℕ) → aheadIn (windowsOf f) last a ≡ ahead engine (range f first last) a
+-- the windows are the factor's, so the search ahead from a significand of a range on is the engine's
+pub ahead-in : (f : Factor) (first last a : ℕ) → first ≤ a → aheadIn (windowsOf f) last a ≡ ahead engine (range f first last) a
 unfolding seek
-ahead-in f first last a =
-    let upper : Found = sought (record { from = lowEnd h last; end = suc last; find = findIn f high }) a in
-    sym (ap₂ (λ (v w : Found). orElse (v .place) v w) (from-low (omega arith)) (none-follows upper (upper .place) refl ∙ from-high (decLe h last)))
+ahead-in f first last a from =
+    let upper : Found = sought (record { from = lowEnd h first last; end = suc last; find = findIn f high }) a in
+    sym (ap₂ (λ (v w : Found). orElse (v .place) v w) (from-low (decLt a (min h (suc last))) (omega arith)) (none-follows upper (upper .place) refl ∙ from-high (decLe h last)))
   where
     h : ℕ
     h = highFrom f
 
-    from-low : max a 0 ≡ a → sought (record { from = 0; end = lowEnd h last; find = findIn f low }) a ≡ soughtBefore (windowsOf f .low) a (lowEnd h last)
-    from-low e = ap (λ (z : ℕ). soughtBefore (windowsOf f .low) z (lowEnd h last)) e
+    from-low : Dec (a < min h (suc last)) → max a first ≡ a
+        → sought (record { from = first; end = lowEnd h first last; find = findIn f low }) a ≡ soughtBefore (windowsOf f .low) a (min h (suc last))
+    from-low (yes k) e =
+        let g : lowEnd h first last ≡ min h (suc last) = omega arith in
+        λ i. soughtBefore (windowsOf f .low) (e i) (g i)
+    from-low (no k) e = rw (le-ltb (max a first) (lowEnd h first last) (omega arith), le-ltb a (min h (suc last)) (omega arith))
 
-    from-high : Dec (h ≤ last) → sought (record { from = lowEnd h last; end = suc last; find = findIn f high }) a ≡ soughtBefore (windowsOf f .high) (max a h) (suc last)
-    from-high (yes k) = let e : lowEnd h last ≡ h = omega arith in ap (λ (z : ℕ). soughtBefore (windowsOf f .high) (max a z) (suc last)) e
-    from-high (no k) = rw (le-ltb (max a (lowEnd h last)) (suc last) (omega arith), le-ltb (max a h) (suc last) (omega arith))
+    from-high : Dec (h ≤ last) → sought (record { from = lowEnd h first last; end = suc last; find = findIn f high }) a ≡ soughtBefore (windowsOf f .high) (max a h) (suc last)
+    from-high (yes k) = let e : max a (lowEnd h first last) ≡ max a h = omega arith in ap (λ (z : ℕ). soughtBefore (windowsOf f .high) z (suc last)) e
+    from-high (no k) = rw (le-ltb (max a (lowEnd h first last)) (suc last) (omega arith), le-ltb (max a h) (suc last) (omega arith))
 
 module _ {s : SweepState} {h : Windows} {cap size : ℕ} {w : Work} (k : Stepping s h cap size w) where
   abbrev n : ℕ
@@ -156,7 +160,7 @@ module _ {s : SweepState} {h : Windows} {cap size : ℕ} {w : Work} (k : Steppin
     stop = mustStop (w .trials) cap (w .place) size
 
     step-ahead : found ≡ aheadOf s (w .at)
-    step-ahead = is ∙ ap (λ (h : Windows). aheadIn h (s .last) (w .at)) (k .are) ∙ ahead-in (s .factor) (s .first) (s .last) (w .at)
+    step-ahead = is ∙ ap (λ (h : Windows). aheadIn h (s .last) (w .at)) (k .are) ∙ ahead-in (s .factor) (s .first) (s .last) (w .at) (k .from)
 
     -- the rounds can be counted
     pub step-rounds : w .rounds + found .rounds < 2 ^ wordBits

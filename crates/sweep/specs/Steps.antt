@@ -1,7 +1,7 @@
 -- Definitions: a step of a sweep call, and what the functions that make it may be asked. Assumes nothing.
 use mathlib.Core.Path.{_≡_}
 use mathlib.Core.Bool.{Bool, true, false, cond, _||_}
-use Prim.Native.Nat.{ℕ, suc, _+_, _*_, _^_, _≤_, _<_, max}
+use Prim.Native.Nat.{ℕ, suc, _+_, _*_, _^_, _≤_, _<_, min, max}
 use lib.Dec.{eqb, ltb}
 use Rattle.wide.specs.Value.{wordBits}
 use Rattle.marks.specs.declared.Mark.{Mark}
@@ -16,7 +16,6 @@ use Rattle.suspects.specs.declared.Window.{Window}
 use Rattle.suspects.specs.declared.Windows.{Windows}
 use Rattle.suspects.specs.Next.{nextIn}
 use Rattle.factor.specs.Precision.{mostPrecision}
-use Rattle.calls.specs.Engine.{lowEnd}
 use Rattle.calls.specs.Call.{Result, conditions, within, noneAfter, orElse, ahead}
 use Rattle.sweep.specs.declared.SweepState.{SweepState}
 use Rattle.sweep.specs.declared.Work.{Work}
@@ -36,7 +35,7 @@ soughtBefore w a end = cond (ltb a end) (cutAt end (nextIn w a)) (noneAfter 0)
 -- the first suspect of the range from a on, with the rounds of the searches that lead to it
 abbrev pub aheadIn : Windows → (last a : ℕ) → Found
 aheadIn h last a =
-    let lower = soughtBefore (h .low) a (lowEnd (h .«first_high») last) in
+    let lower = soughtBefore (h .low) a (min (h .«first_high») (suc last)) in
     orElse (lower .place) lower (soughtBefore (h .high) (max a (h .«first_high»)) (suc last))
 
 -- the windows are those of a sound factor
