@@ -3,10 +3,11 @@ use mathlib.Core.Path.{_≡_, refl, sym, ap, _∙_}
 use mathlib.Core.Bool.{Bool, true, false, true≢false}
 use mathlib.Core.Logic.{_≢_}
 use mathlib.Core.List.{List, [], _∷_}
-use Prim.Native.Nat.{ℕ, _*_, _≤_}
+use Prim.Native.Nat.{ℕ, suc, _+_, _*_, _≤_}
 use native.Mathlib.Omega.{arith}
 use native.Mathlib.Nat.{zero-add, mul-one}
-use lib.ListN.{length, take}
+use lib.ListN.{length, take, drop}
+use lib.Seq.{drop-length}
 use Rattle.marks.specs.declared.Mark.{Mark}
 use Rattle.marks.specs.declared.Mark.the-variants.{Right, Open, Wrong}
 use Rattle.marks.specs.Answers.{NoneHolds, accepted}
@@ -14,9 +15,10 @@ use Rattle.marks.specs.AnswerLaws.{only-accepted}
 use Rattle.calls.specs.State.{State, Call, Listing, entries}
 use Rattle.calls.specs.Engine.{Engine, fresh, Laws, Lawful}
 use Rattle.calls.specs.Call.{ReplyOf, newState, sweepCall}
-use Rattle.calls.specs.Plain.{wordsOf, Fed, Plain, begun, untried, stateOf, plains, plainAfter}
-use Rattle.calls.specs.Whole.{sweeps, stateAfter, Each, trialsIn, wordsIn, acceptedIn, endOf, fedBy, Whole}
+use Rattle.calls.specs.Plain.{span, wordsOf, Fed, Plain, begun, untried, moved, stateOf, plainNext, plains, plainAfter}
+use Rattle.calls.specs.Whole.{sweeps, stateAfter, Each, trialsIn, wordsIn, acceptedIn, endOf, fedBy, plainEnd, Whole}
 use Rattle.calls.specs.CallLaws.{list-kept, capped, searches-right, rounds-right, ample}
+use Rattle.calls.specs.RefusalLaws.{triedBy, plain-reply}
 use Rattle.calls.specs.SameLaws.{sweeps-same, after-same}
 use Rattle.calls.specs.SumLaws.{trials-add, words-join}
 use Rattle.calls.specs.FinishLaws.{AllRoomy, Count, counted, closes}
@@ -111,3 +113,36 @@ module _ {U : Type 0} {suspect : U → ℕ → Bool} {e : Engine U} {B : U → �
   whole-sweep u s q calls =
       let good = only-accepted (e .newFaults u) (fresh e u) s q in
       rw (← good .1) (from-fresh u (good .0) calls)
+
+-- Where a sweep is finished, its joined words are the entries of all its significands that are not right.
+pub finished-words : {U : Type 0} {suspect : U → ℕ → Bool} {e : Engine U} {B : U → ℕ} {call : State U → Call → ReplyOf (State U)} {s : State U} {calls : List Call} → Whole suspect e B call s calls
+    → stateAfter call s calls .finished ≡ true → wordsIn (sweeps call s calls) ≡ entries (e .listing (s .over)) (wordsOf (e .mark (s .over)) (span (e .first (s .over)) (suc (e .last (s .over)))))
+finished-words {U} {suspect} {e} {B} {call} {s} {calls} whole h =
+    let row : List ℕ = fedBy suspect e (s .over) .suspects in
+    let used : drop (plainEnd suspect e (s .over) calls .tried) row ≡ [] =
+    ap (λ (n : ℕ). drop n row) (sym (whole .trials) ∙ whole .finished .0 h .1) ∙ drop-length row in
+    whole .words .are
+    ∙ ap (entries (e .listing (s .over)))
+    (whole .words .holds .are ∙ ap (λ (l : List ℕ). wordsOf (e .mark (s .over)) (span (e .first (s .over)) (endOf (e .last (s .over)) l))) used)
+
+-- It stands at the last significand.
+module _ {U : Type 0} (w : Fed U) where
+  ends-last : (last t : ℕ) (l : List ℕ) → moved last t l .finished ≡ true → moved last t l .next ≡ last
+  ends-last last t [] h = refl
+  ends-last last t (x ∷ l) h = absurd (true≢false (sym h))
+
+  plain-ends : (calls : List Call) (p : Plain) → (p .finished ≡ true → p .next ≡ w .last) → plainAfter w p calls .finished ≡ true → plainAfter w p calls .next ≡ w .last
+  unfolding plainAfter
+  plain-ends [] p q = q
+  plain-ends (c ∷ cs) p q =
+      plain-ends cs (plainNext w p c .plain)
+      (plain-reply w p c (λ r. r .plain .finished ≡ true → r .plain .next ≡ w .last) (λ n. q)
+      (λ t. ends-last (w .last) (p .tried + triedBy w p c) (drop (triedBy w p c) (untried w p))))
+
+pub finished-next : {U : Type 0} {suspect : U → ℕ → Bool} {e : Engine U} {B : U → ℕ} → Lawful suspect e B → (u : U) → NoneHolds (e .newFaults u) → (calls : List Call)
+    → stateAfter (sweepCall e) (fresh e u) calls .finished ≡ true → stateAfter (sweepCall e) (fresh e u) calls .next ≡ e .last u
+finished-next {U} {suspect} {e} {B} lawful u sound calls h =
+    let w = fedBy suspect e u in
+    let same = after-same lawful u sound calls in
+    ap (λ (s : State U). s .next) same
+    ∙ plain-ends w calls (begun w) (λ z. absurd (true≢false (sym z))) (sym (ap (λ (s : State U). s .finished) same) ∙ h)

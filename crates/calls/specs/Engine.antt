@@ -13,7 +13,7 @@ use Rattle.search.specs.declared.Place.{Place}
 use Rattle.search.specs.declared.Place.the-variants.{At, Nowhere}
 use Rattle.search.specs.declared.Found.{Found}
 use Rattle.search.specs.Finds.{LeastFrom}
-use Rattle.calls.specs.State.{State, Terms, Listing}
+use Rattle.calls.specs.State.{State, Terms, tailTerms, Listing}
 
 -- ---- sections
 
@@ -104,6 +104,8 @@ pub record ListingLaws (l : Listing) : Type 0 where
   pub tells : (v w : ℕ) → l .entry v ≡ l .entry w → v ≡ w
   -- a call that is not refused has a cap of at least 1 and room for an entry
   pub takes : (t : Terms) → NoneHolds (l .refuses t) → (0 < t .cap) × (l .places ≤ t .size - t .free)
+  -- nor is the same one on the free tail of its list
+  pub tails : (t : Terms) → NoneHolds (l .refuses t) → NoneHolds (l .refuses (tailTerms t))
 
 -- ---- what is asked of sections
 

@@ -1,4 +1,4 @@
--- The theory of sweep calls, over any engine: of factors and ranges, or of kits. Definitions: State, Engine, Call, Plain, ByRow, Whole and Kit. Laws: the others, of which LoopLaws has what a loop over a call's steps wants. Demand 3 stands in Whole, its proof in Demand3. Examples: Toy.
+-- The theory of sweep calls, over any engine: of factors and ranges, or of kits. Definitions: State, Engine, Call, Plain, ByRow, Whole and Kit. Laws: the others, of which LoopLaws has what a loop over a call's steps wants. Demand 3 stands in Whole, its proof in Demand3, and Made takes it to calls that were made. Examples: Toy and KitToy.
 pub mod State
 pub mod Engine
 pub mod Call
@@ -18,6 +18,13 @@ pub mod SameLaws
 pub mod SumLaws
 pub mod FinishLaws
 pub mod Demand3
+pub mod Made
 pub mod LoopLaws
+pub mod TailLaws
 pub mod Kit
+pub mod KitLaws
+pub mod KitRows
+pub mod KitDemand
+pub mod KitLoop
 pub mod Toy
+pub mod KitToy

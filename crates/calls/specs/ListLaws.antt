@@ -4,7 +4,7 @@ use mathlib.Core.List.{List, [], _∷_, _++_, append-assoc, append-nil}
 use Prim.Native.Nat.{ℕ, suc, _+_, _-_, _*_, _/_, _≤_}
 use native.Mathlib.Omega.{arith}
 use native.Mathlib.Nat.{add-zero, add-suc, zero-mul, suc-mul, le-add-right, div-one, le-div-iff-mul-le, add-mul-div-right}
-use borrow.Author.Tests.{eqb-false, leb-false}
+use borrow.Author.Tests.{eqb-false, leb-false, lt-leb}
 use borrow.Rule.Slice.PartMut.{putMid, midOf}
 use lib.Dec.{eqb, leb}
 use lib.ListN.{length, set, take, drop, length-append, length-drop, take-append-drop}
@@ -50,6 +50,7 @@ word-laws =
       long = λ w. refl;
       tells = λ v w e. cc;
       takes = λ t h. (omega (arith, eqb-false (t .cap) 0 (h .0)), omega (arith, leb-false (t .size) (t .free) (h .1 .0)));
+      tails = λ t h. (h .0, (lt-leb (t .size - t .free) 0 (omega (arith, leb-false (t .size) (t .free) (h .1 .0))), tt));
     }
 
 -- Document 01's entries are the listed words themselves.

@@ -5,7 +5,7 @@ use mathlib.Core.Logic.{_⊎_, inl, inr, ⊎-map}
 use mathlib.Core.List.{List, [], _++_}
 use Prim.Native.Nat.{ℕ, zero, suc, _+_, _-_, _*_, _≤_, _<_}
 use native.Mathlib.Omega.{arith}
-use native.Mathlib.Nat.{zero-add, sub-zero, mul-le-mul-left}
+use native.Mathlib.Nat.{zero-add, add-assoc, sub-zero, mul-le-mul-left}
 use native.Mathlib.Numerals.{add-one}
 use lib.ListN.{length, drop, length-append}
 use lib.Seq.{sets, length-sets}
@@ -15,7 +15,7 @@ use Rattle.search.specs.declared.Place.the-variants.{At, Nowhere}
 use Rattle.search.specs.declared.Found.{Found}
 use Rattle.calls.specs.State.{State, Call, termsOf, listed, Listing, entries, roomIn}
 use Rattle.calls.specs.Engine.{stopsAt, once, passed, Engine, handed, Laws, Lawful}
-use Rattle.calls.specs.Call.{conditions, ahead, Run, stopped, searched, run, runOf, sweepCall}
+use Rattle.calls.specs.Call.{conditions, ahead, Run, stopped, tried, met, searched, run, runOf, sweepCall}
 use Rattle.calls.specs.Plain.{tries}
 use Rattle.calls.specs.ByRow.{headOf, rowAhead}
 use Rattle.calls.specs.SearchLaws.{once-few, passed-few}
@@ -66,6 +66,22 @@ unfolding run
 run-rounds e u zero room a = omega arith
 run-rounds e u (suc cap) zero a = omega arith
 run-rounds e u (suc cap) (suc room) a = omega arith
+
+-- A run whose rounds are n more.
+abbrev pub laterBy : ℕ → Run → Run
+laterBy n r = record { trials = r .trials; rounds = n + r .rounds; words = r .words; left = r .left }
+
+sums : (w : Found) (go : ℕ → Run) (n : ℕ) → searched (record { place = w .place; rounds = n + w .rounds }) go ≡ laterBy n (searched w go)
+sums w go n = let r = met (w .place) go in λ i. record { trials = r .trials; rounds = add-assoc n (w .rounds) (r .rounds) i; words = r .words; left = r .left }
+
+-- Where the searches from a lead on to b after n rounds, so does the run.
+pub run-passes : {U : Type 0} (e : Engine U) (u : U) (cap room a b n : ℕ) → ahead e u a ≡ record { place = ahead e u b .place; rounds = n + ahead e u b .rounds }
+    → run e u cap room a ≡ laterBy n (run e u cap room b)
+unfolding run
+run-passes e u zero room a b n q = rw q (sums (ahead e u b) stopped n)
+run-passes e u (suc cap) zero a b n q = rw q (sums (ahead e u b) stopped n)
+run-passes e u (suc cap) (suc room) a b n q =
+    rw q (sums (ahead e u b) (λ X. tried (e .mark u X) X (run e u cap (suc room - length (listed (e .mark u X) X)) (suc X))) n)
 
 module _ {U : Type 0} {suspect : U → ℕ → Bool} {e : Engine U} {B : U → ℕ} (lawful : Lawful suspect e B) where
   -- It begins at the next significand, with nothing done.
@@ -118,6 +134,29 @@ module _ {U : Type 0} {suspect : U → ℕ → Bool} {e : Engine U} {B : U → �
         let m : runOf e s c .left ≡ p = g .stops ∙ rw r q in
         let v : sets (c .list) (c .free) (entries lists (runOf e s c .words)) ≡ list = g .writes ∙ rw r refl in
         rw (l .accepts, t, n, k, m, v)
+
+    -- Where the searches from a lead on to b after n rounds, the loop may go on from b.
+    pub loop-pass : (b n : ℕ) → e .first u ≤ b → b ≤ suc (e .last u) → ahead e u a ≡ record { place = ahead e u b .place; rounds = n + ahead e u b .rounds }
+        → Looping e s c b trials (rounds + n) place list
+    loop-pass b n from upto q =
+        let r = run-passes e u (c .cap - trials) room a b n q in
+        let g = l .going in
+        record {
+          accepts = l .accepts;
+          from = from;
+          upto = upto;
+          capped = l .capped;
+          fits = l .fits;
+          long = l .long;
+          going =
+              record {
+                tried = g .tried ∙ rw r refl;
+                turned = g .turned ∙ rw r (omega arith);
+                stops = g .stops ∙ rw r refl;
+                writes = g .writes ∙ rw r refl;
+                ends = g .ends ∙ rw r refl;
+              };
+        }
 
     -- The rounds so far and those of this step are at most B for each suspect from the next significand on, for each section, and one more, whatever the cap.
     pub loop-rounds : rounds + w .rounds ≤ B u * (length (rowAhead suspect e s) + suc (length (e .sections u)))

@@ -10,10 +10,12 @@ use borrow.Author.Tests.{le-leb, le-ltb, leb-true, ltb-false}
 use lib.Dec.{leb, ltb}
 use lib.ListN.{length}
 use Rattle.marks.specs.Answers.{Refusal, number, none, judged, refused}
+use Rattle.search.specs.declared.Place.{Place}
+use Rattle.search.specs.declared.Place.the-variants.{At, Nowhere}
 use Rattle.marks.specs.AnswerLaws.{judged-none, none-holds, and-true, or-false}
 use Rattle.calls.specs.State.{Range, State, inRange, outOfRange, Call, Terms, termsOf, Listing, roomIn}
-use Rattle.calls.specs.Engine.{Engine, ListingLaws, Standing, Lawful}
-use Rattle.calls.specs.Call.{conditions, sweepCall}
+use Rattle.calls.specs.Engine.{Engine, handed, ListingLaws, Standing, Lawful}
+use Rattle.calls.specs.Call.{Run, conditions, replied, runOf, sweepCall}
 use Rattle.calls.specs.Plain.{tries, Fed, Plain, untried, PlainReply, plainReplied, plainRefusal, plainCall, plainNext}
 
 -- What a call has that neither 33 nor the conditions on calls refuse: room for an entry.
@@ -83,3 +85,26 @@ pub call-refused : {U : Type 0} (e : Engine U) (s : State U) (c : Call) (n : ℕ
     → record { answer = refused n; state = s; list = c .list } ≡ sweepCall e s c
 unfolding sweepCall
 call-refused e s c n q = rw q
+
+module _ {U : Type 0} (e : Engine U) (s : State U) (c : Call) where
+  -- A refused call hands back the state and the list as they were given.
+  pub refused-same : (n : ℕ) → sweepCall e s c .answer ≡ refused n → (sweepCall e s c .state ≡ s) × (sweepCall e s c .list ≡ c .list)
+  unfolding sweepCall
+  refused-same n = go (judged (conditions e s (termsOf c))) (runOf e s c)
+    where
+      go : (v : Refusal) (r : Run) → replied e s c v r .answer ≡ refused n → (replied e s c v r .state ≡ s) × (replied e s c v r .list ≡ c .list)
+      go (number m) r q = (refl, refl)
+      go none r q = let z : _≡_ {A = ℕ} 0 1 = cc in absurd (omega arith)
+
+  -- Every call hands back a state over the same.
+  pub over-kept : sweepCall e s c .state .over ≡ s .over
+  unfolding sweepCall
+  over-kept = go (judged (conditions e s (termsOf c))) (runOf e s c)
+    where
+      over : (p : Place) → handed e s p .over ≡ s .over
+      over (At X) = refl
+      over Nowhere = refl
+
+      go : (v : Refusal) (r : Run) → replied e s c v r .state .over ≡ s .over
+      go (number n) r = refl
+      go none r = over (r .left)

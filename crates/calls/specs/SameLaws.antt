@@ -9,7 +9,7 @@ use lib.Seq.{drop-drop}
 use Rattle.marks.specs.Answers.{Refusal, number, none, judged, NoneHolds}
 use Rattle.marks.specs.AnswerLaws.{pass-all}
 use Rattle.calls.specs.State.{State, Call, termsOf, entries, roomIn}
-use Rattle.calls.specs.Engine.{Engine, fresh, handed, Laws, Lawful}
+use Rattle.calls.specs.Engine.{Engine, fresh, handed, Laws, Standing, Lawful}
 use Rattle.calls.specs.Call.{conditions, replied, sweepCall}
 use Rattle.calls.specs.Plain.{row, tries, wordsOf, Fed, Plain, begun, untried, moved, plainReplied, plainRefusal, plainCall, Seen, stateOf, plainNext, plains, plainAfter}
 use Rattle.calls.specs.ByRow.{headOf, rowRun}
@@ -113,3 +113,13 @@ module _ {U : Type 0} {suspect : U → ℕ → Bool} {e : Engine U} {B : U → �
   -- The state after calls from a new state is the plain sweep's.
   pub after-same : (calls : List Call) → stateAfter (sweepCall e) (fresh e u) calls ≡ stateOf w (plainAfter w (begun w) calls)
   after-same calls = afters calls (begun w) reached-begun
+
+  reached-after : (calls : List Call) (p : Plain) → Led p → Led (plainAfter w p calls)
+  unfolding plainAfter
+  reached-after [] p r = r
+  reached-after (c ∷ cs) p r = reached-after cs (plainNext w p c .plain) (reached-next p r c)
+
+  -- It is over what the new one is over, and no condition on states refuses it.
+  pub after-stands : (calls : List Call) → (stateAfter (sweepCall e) (fresh e u) calls .over ≡ u) × Standing e (stateAfter (sweepCall e) (fresh e u) calls)
+  after-stands calls =
+      rw (after-same calls) (refl, record { sound = sound; there = reached-after calls (begun w) reached-begun .there })

@@ -49,7 +49,7 @@ passed-in (s ∷ l) a X (inr i) = omega (arith, passed-in l a X i, once-few (pas
 -- ---- sections that follow one another
 
 -- They end before the end.
-chain-ends : (l : List Section) (a b : ℕ) → Chain a b l → a ≤ b
+pub chain-ends : (l : List Section) (a b : ℕ) → Chain a b l → a ≤ b
 chain-ends [] a b c = c
 chain-ends (s ∷ l) a b c = omega (arith, c .0, c .1, chain-ends l (s .end) b (c .2))
 

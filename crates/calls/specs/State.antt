@@ -48,6 +48,10 @@ pub record Terms : Type 0 where
 abbrev pub termsOf : Call → Terms
 termsOf c = record { cap = c .cap; width = c .width; size = length (c .list); free = c .free }
 
+-- Those of the same call on the free tail of its list.
+abbrev pub tailTerms : Terms → Terms
+tailTerms t = record { cap = t .cap; width = t .width; size = t .size - t .free; free = 0 }
+
 -- ---- words
 
 -- "X is listed if open or wrong, as 2X, plus 1 for open."

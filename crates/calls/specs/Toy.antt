@@ -5,7 +5,7 @@ use mathlib.Core.Logic.{_≢_}
 use mathlib.Core.List.{List, [], _∷_}
 use Prim.Native.Nat.{ℕ, suc, _+_, _-_, _*_, _/_, _%_, _≤_}
 use native.Mathlib.Omega.{arith}
-use borrow.Author.Tests.{eq-eqb, ne-eqb, eqb-false, ltb-false}
+use borrow.Author.Tests.{eq-eqb, ne-eqb, eqb-false, le-ltb, ltb-false}
 use lib.Dec.{eqb, ltb, leb}
 use Rattle.marks.specs.declared.Mark.{Mark}
 use Rattle.marks.specs.declared.Mark.the-variants.{Right, Open, Wrong}
@@ -79,6 +79,7 @@ two-laws =
       long = λ w. refl;
       tells = λ v w e. let a : v / 2 ≡ w / 2 = cc in let b : v % 2 ≡ w % 2 = cc in omega arith;
       takes = λ t h. (omega (arith, eqb-false (t .cap) 0 (h .1 .0)), ltb-false (t .size - t .free) 2 (h .1 .1 .0));
+      tails = λ t h. (h .0, (h .1 .0, (le-ltb (t .size - t .free - 0) 2 (omega (arith, ltb-false (t .size - t .free) 2 (h .1 .1 .0))), tt)));
     }
 
 least : (f end a : ℕ) → LeastFrom (toySuspect f) end a (At (a + (6 * (a + f)) % 7))
@@ -93,7 +94,7 @@ suspected X true q = refl
 suspected X false q = absurd (q refl)
 
 -- whether a significand is a suspect of what is swept
-abbrev suspectIn : Range ℕ → ℕ → Bool
+abbrev pub suspectIn : Range ℕ → ℕ → Bool
 suspectIn r X = toySuspect (r .factor) X
 
 -- The laws hold of it, with at most 4 rounds a search.
@@ -132,10 +133,10 @@ pairs-whole = whole-sweep (toy-lawful two-laws)
 
 -- ---- calls over 81 to 127 for the factor 2, with the suspects 82, 89, 96, 103, 110, 117 and 124, of which 89 and 103 are wrong and 117 is open
 
-abbrev asked : (cap : ℕ) → List ℕ → (free : ℕ) → Call
+abbrev pub asked : (cap : ℕ) → List ℕ → (free : ℕ) → Call
 asked cap list free = record { cap = cap; width = 32; list = list; free = free }
 
-abbrev ranged : (f first last : ℕ) → Range ℕ
+abbrev pub ranged : (f first last : ℕ) → Range ℕ
 ranged f first last = record { factor = f; first = first; last = last }
 
 abbrev before : ℕ → State (Range ℕ)

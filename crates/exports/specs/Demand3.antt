@@ -10,15 +10,14 @@ use lib.Dec.{ltb}
 use borrow.Author.Tests.{ltb-false, lt-ltb, le-ltb, not-false}
 use Rattle.marks.specs.Answers.{Refusal, number, none, judged, Outcome, refused, accepted, unless, answer, andThen}
 use Rattle.marks.specs.AnswerLaws.{pass, stop, end, refuses, accepts, only-accepted}
-use Rattle.search.specs.declared.Place.{Place}
-use Rattle.search.specs.declared.Place.the-variants.{At, Nowhere}
 use Rattle.factor.specs.declared.Factor.{Factor}
 use Rattle.factor.specs.declared.Description.{Description}
 use Rattle.factor.specs.Precision.{rangeOut}
 use Rattle.factor.specs.SetUp.{setUp, intact}
 use Rattle.calls.specs.State.{Range, State, Call, termsOf}
-use Rattle.calls.specs.Engine.{fresh, handed}
+use Rattle.calls.specs.Engine.{fresh}
 use Rattle.calls.specs.Call.{newState, Result, Reply, Run, conditions, replied, runOf, sweepCall}
+use Rattle.calls.specs.RefusalLaws.{over-kept}
 use Rattle.sweep.specs.declared.SweepAnswer.{SweepAnswer}
 use Rattle.sweep.specs.Engine.{range, engine}
 use Rattle.sweep.specs.Answers.{callOf, replyOf, codeOf}
@@ -56,16 +55,7 @@ words-left s c rest = go (judged (conditions engine s (termsOf c))) (runOf engin
     go none x = refl
 
 pub factor-kept : (s : State (Range Factor)) (c : Call) → sweepCall engine s c .state .over .factor ≡ s .over .factor
-unfolding sweepCall
-factor-kept s c = go (judged (conditions engine s (termsOf c))) (runOf engine s c)
-  where
-    over : (p : Place) → handed engine s p .over .factor ≡ s .over .factor
-    over (At X) = refl
-    over Nowhere = refl
-
-    go : (v : Refusal) (x : Run) → replied engine s c v x .state .over .factor ≡ s .over .factor
-    go (number n) x = refl
-    go none x = over (x .left)
+factor-kept s c = ap (λ (r : Range Factor). r .factor) (over-kept engine s c)
 
 -- a call without room for its counts is none: it is answered with 255 and leaves all as it was
 pub no-room-to : (state : List ℕ) (cap : ℕ) (list : List ℕ) (free : ℕ) (counts : List ℕ) → length counts < 3 → sweepTo state cap list free counts ≡ refusedWith 255 list

@@ -29,6 +29,19 @@ pub pass-all : (k l : List (ℕ × Bool)) → NoneHolds k → judged (k ++ l) �
 pass-all [] l h = refl
 pass-all (t ∷ k) l h = pass (h .0) (record { is = pass-all k l (h .1) }) .is
 
+pub pass-first : {v : Refusal} (k l : List (ℕ × Bool)) → NoneHolds k → First l v → First (k ++ l) v
+pass-first k l h r = record { is = pass-all k l h ∙ r .is }
+
+-- a refusal by the first conditions is that of all
+pub stop-first : {n : ℕ} (k l : List (ℕ × Bool)) → First k (number n) → First (k ++ l) (number n)
+unfolding judged
+stop-first {n} [] l r = let q = r .is in let z : _≡_ {A = ℕ} 0 1 = cc in absurd (omega arith)
+stop-first {n} (t ∷ k) l r = record { is = go (t .1) (r .is) (λ q. stop-first k l (record { is = q }) .is) }
+  where
+    go : (b : Bool) → cond b (number (t .0)) (judged k) ≡ number n → (judged k ≡ number n → judged (k ++ l) ≡ number n) → cond b (number (t .0)) (judged (k ++ l)) ≡ number n
+    go true q ih = q
+    go false q ih = ih q
+
 -- ---- from the refusal to the answer
 pub refuses : {A : Type 0} {l : List (ℕ × Bool)} {n : ℕ} → First l (number n) → (a : A) → refused n ≡ answer l a
 unfolding answer
@@ -79,8 +92,11 @@ module _ {l : List (ℕ × Bool)} {v : Judgement} (is : First l (refusalOf v)) w
   pub judged-passed : v ≡ Judgement.Passed → NoneHolds l
   judged-passed e = none-holds l (is .is ∙ ap refusalOf e)
 
+  pub judged-number : {n : ℕ} → v ≡ Judgement.Refused n → First l (number n)
+  judged-number e = record { is = is .is ∙ ap refusalOf e }
+
   pub judged-refused : {A : Type 0} {n : ℕ} → v ≡ Judgement.Refused n → (a : A) → refused n ≡ answer l a
-  judged-refused e a = refuses (record { is = is .is ∙ ap refusalOf e }) a
+  judged-refused e a = refuses (judged-number e) a
 
 -- none of two lists holds
 pub none-apart : (k l : List (ℕ × Bool)) → NoneHolds (k ++ l) → NoneHolds k × NoneHolds l
@@ -109,15 +125,15 @@ unfolding answer judged
 only-refused n true a e = refl
 only-refused n false a e = let z : _≡_ {A = ℕ} 0 1 = cc in absurd (omega arith)
 
+-- a refusal that is answered is that of the first condition that holds
+refused-is : {A : Type 0} {n : ℕ} (r : Refusal) (a : A) → refused n ≡ unless r a → r ≡ number n
+refused-is {A} {n} (number k) a q = let e : k ≡ n = cc in ap number e
+refused-is {A} {n} none a q = let z : _≡_ {A = ℕ} 0 1 = cc in absurd (omega arith)
+
 -- a refusal by the first conditions is that of all, whatever the value
 pub refused-first : {A B : Type 0} (k l : List (ℕ × Bool)) (a : A) (b : B) (n : ℕ) → refused n ≡ answer k a → refused n ≡ answer (k ++ l) b
-unfolding answer judged
-refused-first {A} {B} [] l a b n q = let z : _≡_ {A = ℕ} 0 1 = cc in absurd (omega arith)
-refused-first {A} {B} (t ∷ k) l a b n q = go (t .1) q (refused-first k l a b n)
-  where
-    go : (c : Bool) → refused n ≡ unless (cond c (number (t .0)) (judged k)) a → (refused n ≡ answer k a → refused n ≡ answer (k ++ l) b) → refused n ≡ unless (cond c (number (t .0)) (judged (k ++ l))) b
-    go true q ih = let e : n ≡ t .0 = cc in ap refused e
-    go false q ih = ih q
+unfolding answer
+refused-first k l a b n q = refuses (stop-first k l (record { is = refused-is (judged k) a q })) b
 
 -- ---- a value in the case of its mark
 pub of-mark : {A : Type 0} {m k : Mark} → m ≡ k → (a : A) → _≡_ {A = Outcome (Marked A)} (accepted (record { mark = k; value = a })) (accepted (record { mark = m; value = a }))

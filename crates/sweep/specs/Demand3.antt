@@ -3,7 +3,7 @@
 use mathlib.Core.Path.{_≡_, refl, sym, ap, _∙_, subst}
 use mathlib.Core.Bool.{true, false, not}
 use mathlib.Core.Logic.{_↔_}
-use mathlib.Core.List.{List, [], _∷_, List·Memᴰ}
+use mathlib.Core.List.{List, List·Memᴰ}
 use Prim.Native.Nat.{ℕ, suc, _≤_}
 use native.Mathlib.Omega.{arith}
 use Rattle.marks.specs.Answers.{accepted}
@@ -23,11 +23,13 @@ use Rattle.calls.specs.Engine.{fresh}
 use Rattle.calls.specs.Call.{newState, Reply, sweepCall}
 use Rattle.calls.specs.ByRow.{rowCall}
 use Rattle.calls.specs.Plain.{row, untried, Seen}
-use Rattle.calls.specs.Whole.{seen, sweeps, stateAfter, wordsIn, endOf, Ascends, Holds, fedBy, plainEnd, Whole}
+use Rattle.calls.specs.Whole.{sweeps, stateAfter, wordsIn, endOf, Ascends, Holds, fedBy, plainEnd, Whole}
 use Rattle.calls.specs.RowLaws.{row-ascends, row-exactly}
 use Rattle.calls.specs.ListLaws.{entries-are}
 use Rattle.calls.specs.CallLaws.{by-row}
 use Rattle.calls.specs.Demand3.{whole-sweep}
+use Rattle.calls.specs.Made as calls
+use Rattle.calls.specs.Made.{repliesBy}
 use Rattle.sweep.specs.declared.SweepState.{SweepState}
 use Rattle.sweep.specs.declared.NewSweep.{NewSweep}
 use Rattle.sweep.specs.declared.SweepAnswer.{SweepAnswer}
@@ -54,38 +56,28 @@ pub record Made : Type 0 where
   pub answer : SweepAnswer
   pub left : List ℕ
 
+abbrev asked : Made → Call
+asked m = m .asked
+
 abbrev pub replyIn : Made → Reply (Range Factor)
 replyIn m = replyOf (m .answer) (m .left)
 
--- each call kept the contract of `sweep_call`, at the state that the one before handed back; nothing is asked of states and calls that do not occur
+-- each call kept the contract of `sweep_call`, at the state that the one before handed back
 abbrev pub Kept : State (Range Factor) → List Made → Type 0
-Kept s [] = Unit {0}
-Kept s (m ∷ made) = (replyIn m ≡ sweepCall engine s (m .asked)) × Kept (replyIn m .state) made
+Kept = calls.Kept asked replyIn (sweepCall engine)
 
--- what was asked
+-- what was asked, what was answered, what is seen of them, and the state that the last of them handed back
 abbrev pub askedIn : List Made → List Call
-askedIn [] = []
-askedIn (m ∷ made) = m .asked ∷ askedIn made
+askedIn = calls.askedIn asked replyIn
 
--- what was answered
 abbrev pub repliesIn : List Made → List (Reply (Range Factor))
-repliesIn [] = []
-repliesIn (m ∷ made) = replyIn m ∷ repliesIn made
+repliesIn = calls.repliesIn asked replyIn
 
--- what is seen of them, which is compared with the plain sweep
 abbrev pub seenIn : List Made → List (Seen (Range Factor))
-seenIn [] = []
-seenIn (m ∷ made) = seen (m .asked) (replyIn m) ∷ seenIn made
+seenIn = calls.seenIn asked replyIn
 
--- the state that the last of them handed back
 abbrev pub lastIn : State (Range Factor) → List Made → State (Range Factor)
-lastIn s [] = s
-lastIn s (m ∷ made) = lastIn (replyIn m .state) made
-
--- the replies to a list of calls, each given the state that the one before returned
-abbrev pub repliesBy : (State (Range Factor) → Call → Reply (Range Factor)) → State (Range Factor) → List Call → List (Reply (Range Factor))
-repliesBy call s [] = []
-repliesBy call s (c ∷ calls) = call s c ∷ repliesBy call (call s c .state) calls
+lastIn = calls.lastIn asked replyIn
 
 -- ---- demand 3
 
@@ -113,20 +105,6 @@ pub joined-words : {call : State (Range Factor) → Call → Reply (Range Factor
     → Holds (markOf (s .over .factor)) (s .over .first) (endOf (s .over .last) (untried (fedBy suspectIn engine (s .over)) (plainEnd suspectIn engine (s .over) calls))) (wordsIn (sweeps call s calls))
 joined-words w = rw (w .words .are ∙ entries-are (w .words .listed)) (w .words .holds)
 
-kept-replies : (s : State (Range Factor)) (made : List Made) → Kept s made → repliesIn made ≡ repliesBy (sweepCall engine) s (askedIn made)
-kept-replies s [] k = refl
-kept-replies s (m ∷ made) k = rw (← k .0, kept-replies (replyIn m .state) made (k .1))
-
-kept-seen : (s : State (Range Factor)) (made : List Made) → Kept s made → seenIn made ≡ sweeps (sweepCall engine) s (askedIn made)
-unfolding sweeps
-kept-seen s [] k = refl
-kept-seen s (m ∷ made) k = rw (← k .0, kept-seen (replyIn m .state) made (k .1))
-
-kept-last : (s : State (Range Factor)) (made : List Made) → Kept s made → lastIn s made ≡ stateAfter (sweepCall engine) s (askedIn made)
-unfolding stateAfter
-kept-last s [] k = refl
-kept-last s (m ∷ made) k = kept-last (replyIn m .state) made (k .1) ∙ ap (λ (r : Reply (Range Factor)). stateAfter (sweepCall engine) (r .state) (askedIn made)) (k .0)
-
 -- the row holds exactly the suspects in document 01's words
 row-is : (f : Factor) → Sound f → (first last X : ℕ)
     → List·Memᴰ X (row (suspect f) first (suc last)) ↔ ((first ≤ X) × (X ≤ last) × Suspect (contextOf f) (lowerOf f) (upperOf f) X)
@@ -144,10 +122,10 @@ demand-3 f first last s q made k =
     let whole = whole-sweep lawful (range f first last) (viewOf s) (sym q) (askedIn made) in
     record {
       whole = whole;
-      replies = kept-replies (viewOf s) made k;
-      seen = kept-seen (viewOf s) made k;
-      last = kept-last (viewOf s) made k;
-      words = rw (kept-seen (viewOf s) made k) (joined-words whole);
+      replies = calls.kept-replies asked replyIn (sweepCall engine) (viewOf s) made k;
+      seen = calls.kept-seen asked replyIn (sweepCall engine) (viewOf s) made k;
+      last = calls.kept-last asked replyIn (sweepCall engine) (viewOf s) made k;
+      words = rw (calls.kept-seen asked replyIn (sweepCall engine) (viewOf s) made k) (joined-words whole);
       suspects = suspect-is (s .factor) sound;
       row = row-is (s .factor) sound (s .first) (s .last);
       ascending = row-ascends (suspect (s .factor)) (s .first) (suc (s .last));

@@ -24,15 +24,15 @@ use Rattle.sweep.specs.Engine.{range, engine}
 use Rattle.sweep.specs.Answers.{callOf}
 
 -- the factors of P1 to P3
-P1 : Factor
+unfoldable pub P1 : Factor
 unfolding Ieee.round
 P1 = factorOf (record { minus = false; precision = 4; scale = pos 0; lower = 3 * 2 ^ 61; upper = 3 * 2 ^ 61 })
 
-P2 : Factor
+unfoldable pub P2 : Factor
 unfolding Ieee.round
 P2 = factorOf (record { minus = false; precision = 4; scale = pos 0; lower = 0x4BFFFC0000000000; upper = 0x4BFFFC0000000000 })
 
-P3 : Factor
+unfoldable pub P3 : Factor
 unfolding Ieee.round
 P3 = factorOf (record { minus = false; precision = 4; scale = pos 0; lower = 0x51C71C71C71C71C7; upper = 0x51C71C71C71C71C8 })
 
@@ -86,7 +86,7 @@ P3-whole = refl
 -- ---- refusals, state before input, the smaller number first
 
 -- the parts of another factor
-abbrev damaged : Factor
+abbrev pub damaged : Factor
 damaged = record { minus = false; precision = P1 .precision; lower = P1 .lower; upper = P1 .upper; parts = P2 .parts; applied = P1 .applied }
 
 new-31 : begun damaged 15 8 ≡ refused 31

@@ -6,6 +6,5 @@ pub mod Answers
 pub mod Steps
 pub mod StepLaws
 pub mod LoopLaws
-pub mod TailLaws
 pub mod Demand3
 pub mod Examples

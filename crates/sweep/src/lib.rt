@@ -56,16 +56,16 @@ pub enum SweepAnswer {
     Refused(SweepRefusal),
 }
 
-// What a call has done so far: where it goes on, its trials and rounds, and the next free place. Its last step says whether it goes on, which word to write where the place
+// What a call has done so far: where it goes on, its trials and rounds, and the next free place, counted in entries. Its last step says whether it goes on, which word to list where the place
 // has moved, and where it stopped.
-struct Work {
-    at: u64,
-    trials: u64,
-    rounds: u64,
-    place: usize,
-    going: bool,
-    word: u64,
-    left: Place,
+pub struct Work {
+    pub at: u64,
+    pub trials: u64,
+    pub rounds: u64,
+    pub place: usize,
+    pub going: bool,
+    pub word: u64,
+    pub left: Place,
 }
 
 // A new sweep over a range: 31 by the factor, then 17 by the range.
@@ -217,7 +217,7 @@ fn must_stop(trials: u64, cap: u64, place: usize, size: usize) -> bool
 }
 
 // Nothing is done yet.
-fn begun(s: SweepState) -> Work
+pub fn begun(s: SweepState) -> Work
     ensures { λ r. ⌜ r ≡ begunAt (s .next) ⌝ }
 {
     Work {
@@ -280,8 +280,8 @@ fn tried(w: Work, rounds: u64, x: u64, mark: Mark) -> Work
     }
 }
 
-// A step: the next suspect and its trial, or where the call stops, or the end.
-fn step(s: SweepState, windows: Windows, cap: u64, size: usize, w: Work) -> Work
+// A step: the next suspect and its trial, or where the call stops, or the end. The size is how many entries there is room for.
+pub fn step(s: SweepState, windows: Windows, cap: u64, size: usize, w: Work) -> Work
     requires { ⌜ Stepping s windows cap size w ⌝ }
     ensures { λ r. ⌜ r ≡ stepOf s cap size w ⌝ }
 {

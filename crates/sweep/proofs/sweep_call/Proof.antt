@@ -7,10 +7,11 @@ use borrow.Author.Needs.{needs}
 use Rattle.marks.specs.Answers.{none, First}
 use Rattle.calls.specs.Call.{conditions}
 use Rattle.calls.specs.RefusalLaws.{call-refused}
+use Rattle.calls.specs.TailLaws.{moved, lent-length, tail-free, tail-taken, tail-moved}
 use Rattle.sweep.specs.declared.SweepAnswer.{SweepAnswer}
 use Rattle.sweep.specs.Engine.{engine}
+use Rattle.sweep.specs.EngineLaws.{lawful}
 use Rattle.sweep.specs.Answers.{viewOf, callOf, termsBy, replyOf}
-use Rattle.sweep.specs.TailLaws.{moved, lent-length, tail-free, tail-taken, tail-moved}
 use Rattle.sweep.proofs.sweep_call.Statement.{statement}
 use Rattle.sweep.proofs.sweep_call.Tie as tie
 
@@ -24,7 +25,7 @@ short c = search needs
 
 -- a place is free
 free : (c : tie.After-enum-told) → let a = c .before .before .before .before .args in a .free < length (a .list .now)
-free c = let a = c .before .before .before .before .args in tail-free (a .state) (a .cap) (a .list .now) (a .free) (taken c)
+free c = let a = c .before .before .before .before .args in omega (arith, tail-free lawful (viewOf (a .state)) (callOf (a .cap) (a .list .now) (a .free)) (taken c .is))
 
 mul-sweep-on : tie.Need-mul-sweep-on
 mul-sweep-on c = let place = free c in search needs
@@ -38,7 +39,7 @@ part-sweep-on-start c = let place = free c in search needs
 sweep-on-requires : tie.Need-sweep-on-requires
 sweep-on-requires c κs =
     let a = c .before .before .before .before .before .args in
-    tail-taken (a .state) (a .cap) (a .list .now) (a .free) (taken (c .before))
+    tail-taken lawful (viewOf (a .state)) (callOf (a .cap) (a .list .now) (a .free)) (taken (c .before) .is)
 
 add-moved : tie.Need-add-moved
 add-moved c =
@@ -60,7 +61,7 @@ returns-2 c =
     let on = c .before .before .before in
     let told = on .before .before in
     let a = told .before .before .before .before .args in
-    ap (moved (a .list .now) (a .free)) (on .sweep-on .ensures .0) ∙ tail-moved (a .state) (a .cap) (a .list .now) (a .free) (taken told)
+    ap (moved (a .list .now) (a .free)) (on .sweep-on .ensures .0) ∙ tail-moved lawful (viewOf (a .state)) (callOf (a .cap) (a .list .now) (a .free)) (taken told .is)
 
 pub sweep-call-spec : {M : Type 1} → statement M
 sweep-call-spec =
