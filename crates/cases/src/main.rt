@@ -13,8 +13,14 @@
 //   0B X (16)                       multiplies the significand X in one step
 //   0C R (8)                        multiplies the reading with these bits in one step
 //   0D A (16) B (16)                the tally of the significands from A to B in one step: right, wrong and open, 8 digits each
+//   0E P (2)                        the factor comes to place P of the kit
+//   0F W (4) V (16)                 word W of the kit's state becomes V
+//   10                              forms the kit
+//   11                              a new kit sweep; if accepted it is the kit's state
+//   12 C (16) Z (2) P (16)          a kit call: cap C, the list's first Z words, first free place P
+//   13 E (16)                       whether the kit is clean, its calls having written E entries: 01 clean, 02 not clean, 03 not finished
 //
-// The factor and the state are the exported words, at first all 0. A refusal is two decimal digits, and so is a mark: 01 right, 02 open, 03 wrong. A product, a quotient and a reading's answer end in the direction: 01 below, 02 equal, 03 above; those of significands then in the sign, 00 plus or 01 minus. Any other line is answered with 24.
+// The factor, the state and the kit's state are the exported words, at first all 0. A refusal is two decimal digits, and so is a mark: 01 right, 02 open, 03 wrong. A product, a quotient and a reading's answer end in the direction: 01 below, 02 equal, 03 above; those of significands then in the sign, 00 plus or 01 minus. Any other line is answered with 24.
 use exports::TakenFactor;
 use factor::Factor;
 use frame::Field;
@@ -140,10 +146,13 @@ fn arguments(line: &[u8], kind: u64) -> Numbers {
     match kind {
         1 => fields(line, 8, 8, 8, 16, 16),
         2 | 5 => fields(line, 2, 16, 0, 0, 0),
-        3 | 9 | 11 => fields(line, 16, 0, 0, 0, 0),
+        3 | 9 | 11 | 19 => fields(line, 16, 0, 0, 0, 0),
         4 | 8 | 10 | 12 => fields(line, 8, 0, 0, 0, 0),
         6 | 13 => fields(line, 16, 16, 0, 0, 0),
-        7 => fields(line, 16, 2, 16, 0, 0),
+        7 | 18 => fields(line, 16, 2, 16, 0, 0),
+        14 => fields(line, 2, 0, 0, 0, 0),
+        15 => fields(line, 4, 16, 0, 0, 0),
+        16 | 17 => fields(line, 0, 0, 0, 0, 0),
         _ => Numbers {
             good: false,
             a: 0,
@@ -389,9 +398,107 @@ fn fill(list: &mut [u32; 64], v: u32) {
     put_outcome(0);
 }
 
+// ---- kits
+// A word of the state comes to a word of the kit's state.
+fn copy_word(state: &[u64; 14], i: usize, kit: &mut [u64; 964], at: usize) {
+    if i < 14 {
+        if at < 964 {
+            kit[at] = state[i];
+        }
+    }
+}
+
+// The ten words of the factor come to a place of the kit.
+fn place_factor(state: &[u64; 14], kit: &mut [u64; 964], place: u64) {
+    if 95 < place {
+        not_a_line();
+        return;
+    }
+    put_outcome(0);
+    let at = 10 * (place as usize);
+    let mut i: usize = 0;
+    while i < 10 {
+        copy_word(state, i, kit, at + i + 1);
+        i += 1;
+    }
+}
+
+fn change_kit(kit: &mut [u64; 964], number: u64, v: u64) {
+    if 963 < number {
+        not_a_line();
+        return;
+    }
+    put_outcome(0);
+    kit[number as usize] = v;
+}
+
+fn form_kit(kit: &[u64; 964]) {
+    put_outcome(exports::gusnalip_form_kit(kit));
+}
+
+fn put_kit_state(kit: &[u64; 964]) {
+    put_field(16, kit[961]);
+    put_field(16, kit[962]);
+    put_field(2, (kit[963] != 0) as u64);
+}
+
+fn new_kit(given: [u64; 964], kit: &mut [u64; 964]) {
+    put_outcome(exports::gusnalip_new_kit_sweep(&given, kit));
+    put_kit_state(kit);
+}
+
+// A kit call with what it answers, then the kit's state and the list.
+fn kit_call(kit: &mut [u64; 964], cap: u64, list: &mut [u32], free: usize) {
+    let mut counts = [0u64; 3];
+    let number = exports::gusnalip_kit_sweep(kit, cap, list, free, &mut counts);
+    put_outcome(number);
+    if number == 0 {
+        put_counts(&counts);
+    }
+    put_kit_state(kit);
+    put_words(list);
+}
+
+// The same on the list's first words.
+fn kit_call_on(kit: &mut [u64; 964], cap: u64, list: &mut [u32], n: usize, free: usize) {
+    if list.len() < n {
+        not_a_line();
+        return;
+    }
+    kit_call(kit, cap, &mut list[..n], free);
+}
+
+fn kit_clean(kit: &[u64; 964], entries: u64) {
+    put_outcome(exports::gusnalip_kit_clean(kit, entries));
+}
+
+// The answer to a line of a kit's kind.
+fn answer_kit(
+    state: &[u64; 14],
+    list: &mut [u32; 64],
+    kit: &mut [u64; 964],
+    kind: u64,
+    n: Numbers,
+) {
+    match kind {
+        14 => place_factor(state, kit, n.a),
+        15 => change_kit(kit, n.a, n.b),
+        16 => form_kit(kit),
+        17 => new_kit(*kit, kit),
+        18 => kit_call_on(kit, n.a, list, n.b as usize, n.c as usize),
+        _ => kit_clean(kit, n.a),
+    }
+}
+
 // ---- lines
 // The answer to a line by its kind and what it says.
-fn answer(state: &mut [u64; 14], list: &mut [u32; 64], kind: u64, n: Numbers) {
+fn answer(
+    state: &mut [u64; 14],
+    list: &mut [u32; 64],
+    kit: &mut [u64; 964],
+    kind: u64,
+    n: Numbers,
+) {
     if !n.good {
         not_a_line();
         return;
@@ -409,14 +516,15 @@ fn answer(state: &mut [u64; 14], list: &mut [u32; 64], kind: u64, n: Numbers) {
         10 => divide_reading(state, words::low_half(n.a)),
         11 => multiply_once(state, n.a),
         12 => read_once(state, words::low_half(n.a)),
-        _ => tally(state, n.a, n.b),
+        13 => tally(state, n.a, n.b),
+        _ => answer_kit(state, list, kit, kind, n),
     }
 }
 
-fn answer_line(state: &mut [u64; 14], list: &mut [u32; 64], line: &[u8]) {
+fn answer_line(state: &mut [u64; 14], list: &mut [u32; 64], kit: &mut [u64; 964], line: &[u8]) {
     io::write_all(1, line);
     let kind = kind_of(line);
-    answer(state, list, kind, arguments(line, kind));
+    answer(state, list, kit, kind, arguments(line, kind));
     put_byte(LINE_FEED);
 }
 
@@ -430,11 +538,12 @@ fn last_line(line: &[u8]) {
 fn run(input: &[u8]) {
     let mut state = [0u64; 14];
     let mut list = [4294967295u32; 64];
+    let mut kit = [0u64; 964];
     let mut from: usize = 0;
     let mut i: usize = 0;
     while i < input.len() {
         if input[i] == LINE_FEED {
-            answer_line(&mut state, &mut list, &input[from..i]);
+            answer_line(&mut state, &mut list, &mut kit, &input[from..i]);
             from = i + 1;
         }
         i += 1;

@@ -5,6 +5,11 @@ use factor::Factor;
 use factor::Parts;
 use factor::Precision;
 use factor::SetUp;
+use kit::Kit;
+use kit::KitAnswer;
+use kit::KitState;
+use kit::Verdict;
+use marks::Judgement;
 use product::Device;
 use product::ProductAnswer;
 use product::SignedProduct;
@@ -20,12 +25,16 @@ use tally::Counts;
 use tally::TallyAnswer;
 ghost use mathlib.Core.Path.{_≡_};
 ghost use Prim.Native.Nat.{_≤_};
-ghost use lib.ListN.{length};
+ghost use lib.ListN.{length, take, drop};
 ghost use lib.Seq.{sets};
+ghost use mathlib.Core.List.{[], _∷_};
 ghost use Rattle.product.specs.declared.Device.{Device};
 ghost use Rattle.reading.specs.Reading.{outcomeOf as readingSays};
 ghost use Rattle.sweep.specs.Answers.{viewOf};
-ghost use Rattle.exports.specs.Words.{flagFrom, factorFrom, factorWords, damaged, stateOf, stateWords};
+ghost use Rattle.marks.specs.Answers.{refusalOf, First};
+ghost use Rattle.kit.specs.Answers.{kitOf, viewOf as kitView};
+ghost use Rattle.exports.specs.Kits.{anyDamaged, kitFrom, kitStateOf, behindKit, kitUnfit, formTo, newKitTo, kitSweepTo, cleanTo};
+ghost use Rattle.exports.specs.Words.{flagWord, flagFrom, factorFrom, factorWords, damaged, stateOf, stateWords};
 ghost use Rattle.exports.specs.Answers.{taken, takenOf, leaves, setUpTo, directionNumber, productWords, quotientWords, readingWords, multiplyTo, readingAnswer, readTo, tallyWords, tallyTo, divideTo, divideReadingTo, newSweepTo, sweepTo};
 
 // So many words have a factor, a product, a quotient, what a reading is answered with, a tally, a sweep's state, and what a sweep call counts.
@@ -42,6 +51,13 @@ const TALLY_WORDS: usize = 3;
 const STATE_WORDS: usize = 14;
 
 const COUNT_WORDS: usize = 3;
+
+// A kit has so many places, of so many words with its number; so many words has a kit sweep's state.
+const KIT_PLACES: usize = 96;
+
+const KIT_WORDS: usize = 961;
+
+const KIT_STATE_WORDS: usize = 964;
 
 // What is answered where a list is too short, and where words are damaged.
 const TOO_SHORT: u32 = 255;
@@ -420,5 +436,184 @@ pub extern "C" fn gusnalip_sweep(
             SweepAnswer::Refused(r) => r.number,
         },
         TakenFactor::Refused(k) => k,
+    }
+}
+
+// A kit from its words: the number, and every place, be it counted or not.
+fn kit_from(words: &[u64]) -> Kit
+    requires { ⌜ 961 ≤ length (now words) ⌝ }
+    ensures { λ r. ⌜ kitOf r ≡ kitFrom (now (words .entry)) ⌝ }
+{
+    let first = factor_from(&words[1..]);
+    let mut factors = [first; KIT_PLACES];
+    let mut i = 1;
+    while i < KIT_PLACES {
+        factors[i] = factor_from(&words[1 + FACTOR_WORDS * i..]);
+        i += 1;
+    }
+    Kit {
+        factors,
+        count: words[0] as usize,
+    }
+}
+
+// Whether the words of one of so many factors of a kit are damaged.
+fn any_damaged(words: &[u64], count: usize) -> bool
+    requires { ⌜ (961 ≤ length (now words)) × (count ≤ 96) ⌝ }
+    ensures { λ r. ⌜ r ≡ anyDamaged count (drop 1 (now (words .entry))) ⌝ }
+{
+    let mut i = 0;
+    while i < count {
+        if is_damaged(&words[1 + FACTOR_WORDS * i..]) {
+            return true;
+        }
+        i += 1;
+    }
+    false
+}
+
+// Whether a kit in a caller's words, of which so many are due, is taken, for an answer that needs so much room: 255 where either is too short, 42 by the number, 31 where words of a factor that is counted are damaged.
+fn take_kit(words: &[u64], due: usize, room: usize, needed: usize) -> Judgement
+    requires { ⌜ 961 ≤ due ⌝ }
+    ensures { λ r. ⌜ First (kitUnfit (now (words .entry)) due room needed) (refusalOf r) ⌝ }
+{
+    if words.len() < due {
+        return Judgement::Refused(TOO_SHORT);
+    }
+    if room < needed {
+        return Judgement::Refused(TOO_SHORT);
+    }
+    let count = words[0] as usize;
+    if (count == 0) | (KIT_PLACES < count) {
+        return Judgement::Refused(42);
+    }
+    if any_damaged(words, count) {
+        return Judgement::Refused(DAMAGED);
+    }
+    Judgement::Passed
+}
+
+// A kit sweep's state over a kit, from the words behind the kit's.
+fn kit_state_of(kit: Kit, words: &[u64]) -> KitState
+    requires { ⌜ 964 ≤ length (now words) ⌝ }
+    ensures { λ r. ⌜ kitView r ≡ kitStateOf (kitOf kit) (now (words .entry)) ⌝ }
+{
+    KitState {
+        kit,
+        place: words[961] as usize,
+        next: words[962],
+        finished: words[963] != 0,
+    }
+}
+
+// The words of a kit as they were given.
+fn copy_kit(kit: &[u64], out: &mut [u64])
+    requires { ⌜ (961 ≤ length (now kit)) × (961 ≤ length (now out)) ⌝ }
+    ensures { λ _. ⌜ now (out .exit) ≡ sets (now (out .entry)) 0 (take 961 (now (kit .entry))) ⌝ }
+{
+    let mut i = 0;
+    while i < KIT_WORDS {
+        out[i] = kit[i];
+        i += 1;
+    }
+}
+
+// The words behind a kit's: place, next significand and finished mark.
+fn put_behind(place: usize, next: u64, finished: bool, out: &mut [u64])
+    requires { ⌜ 964 ≤ length (now out) ⌝ }
+    ensures { λ _. ⌜ now (out .exit) ≡ sets (now (out .entry)) 961 (place ∷ next ∷ flagWord finished ∷ []) ⌝ }
+{
+    out[961] = place as u64;
+    out[962] = next;
+    out[963] = finished as u64;
+}
+
+// Forms a kit: 0, or the refusal 42, 31 or 43; 255 where the list is too short.
+#[no_mangle]
+pub extern "C" fn gusnalip_form_kit(kit: &[u64]) -> u32
+    ensures { λ r. ⌜ r ≡ formTo (now (kit .entry)) ⌝ }
+{
+    match take_kit(kit, KIT_WORDS, 0, 0) {
+        Judgement::Refused(k) => k,
+        Judgement::Passed => match kit::kit_check(kit_from(kit)) {
+            Judgement::Refused(k) => k,
+            Judgement::Passed => 0,
+        },
+    }
+}
+
+// A new kit sweep: 0 and the state's 964 words, or the refusal 42, 31 or 43; 255 where a list is too short.
+#[no_mangle]
+pub extern "C" fn gusnalip_new_kit_sweep(kit: &[u64], out: &mut [u64]) -> u32
+    ensures { λ r. ⌜ r ≡ newKitTo (now (kit .entry)) (now (out .entry)) .number ⌝ }
+    ensures { λ _. ⌜ now (out .exit) ≡ leaves (newKitTo (now (kit .entry)) (now (out .entry))) (now (out .entry)) ⌝ }
+{
+    match take_kit(kit, KIT_WORDS, out.len(), KIT_STATE_WORDS) {
+        Judgement::Refused(k) => k,
+        Judgement::Passed => {
+            let begun = kit::new_state(kit_from(kit));
+            let verdict = begun.verdict;
+            match verdict {
+                Judgement::Refused(k) => k,
+                Judgement::Passed => {
+                    let s = begun.state;
+                    copy_kit(kit, out);
+                    put_behind(s.place, s.next, s.finished, out);
+                    0
+                }
+            }
+        }
+    }
+}
+
+// A kit call: 0 with the three words behind the kit's, entries in the list, and trials, rounds and the next first free place; or the refusal, with nothing written; 255 where the state or the counts have too few words.
+#[no_mangle]
+pub extern "C" fn gusnalip_kit_sweep(
+    state: &mut [u64],
+    cap: u64,
+    list: &mut [u32],
+    free: usize,
+    counts: &mut [u64],
+) -> u32
+    ensures { λ r. ⌜ r ≡ kitSweepTo (now (state .entry)) cap (now (list .entry)) free (now (counts .entry)) .number ⌝ }
+    ensures { λ _. ⌜ now (state .exit) ≡ sets (now (state .entry)) 961 (kitSweepTo (now (state .entry)) cap (now (list .entry)) free (now (counts .entry)) .state) ⌝ }
+    ensures { λ _. ⌜ now (list .exit) ≡ kitSweepTo (now (state .entry)) cap (now (list .entry)) free (now (counts .entry)) .list ⌝ }
+    ensures { λ _. ⌜ now (counts .exit) ≡ sets (now (counts .entry)) 0 (kitSweepTo (now (state .entry)) cap (now (list .entry)) free (now (counts .entry)) .counts) ⌝ }
+{
+    match take_kit(state, KIT_STATE_WORDS, counts.len(), COUNT_WORDS) {
+        Judgement::Refused(k) => k,
+        Judgement::Passed => {
+            let r = kit::kit_call(kit_state_of(kit_from(state), state), cap, list, free);
+            let answer = r.answer;
+            match answer {
+                KitAnswer::Refused(k) => k,
+                KitAnswer::Accepted(c) => {
+                    let s = r.state;
+                    put_behind(s.place, s.next, s.finished, state);
+                    counts[0] = c.trials;
+                    counts[1] = c.rounds;
+                    counts[2] = c.place as u64;
+                    0
+                }
+            }
+        }
+    }
+}
+
+// Whether a kit is clean, by its state and how many entries its calls wrote since the new one: 1 clean, 2 not clean, 3 not finished, or the refusal 42, 31, 43 or 32; 255 where the list is too short.
+#[no_mangle]
+pub extern "C" fn gusnalip_kit_clean(state: &[u64], entries: u64) -> u32
+    ensures { λ r. ⌜ r ≡ cleanTo (now (state .entry)) entries ⌝ }
+{
+    match take_kit(state, KIT_STATE_WORDS, 0, 0) {
+        Judgement::Refused(k) => k,
+        Judgement::Passed => {
+            match kit::kit_verdict(kit_state_of(kit_from(state), state), entries) {
+                Verdict::Clean => 1,
+                Verdict::NotClean => 2,
+                Verdict::Unfinished => 3,
+                Verdict::Refused(k) => k,
+            }
+        }
     }
 }

@@ -8,10 +8,10 @@ use Rattle.cases.proofs.run.Statement.{statement}
 use Rattle.cases.proofs.run.Tie as tie
 
 abbrev Inv-loop : tie.InvT-loop
-Inv-loop input state₀ list₀ from₀ i₀ state list from i = (from ≤ i) × (i ≤ length input)
+Inv-loop input state₀ list₀ kit₀ from₀ i₀ state list kit from i = (from ≤ i) × (i ≤ length input)
 
 abbrev μ-loop : tie.MeasureT-loop
-μ-loop input state₀ list₀ from₀ i₀ state list from i = length input - i
+μ-loop input state₀ list₀ kit₀ from₀ i₀ state list kit from i = length input - i
 
 loop-less : tie.Need-loop-less Inv-loop μ-loop
 loop-less c = omega arith
