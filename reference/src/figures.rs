@@ -1,15 +1,17 @@
-//! Document 01's example and figures, those of quotients, of the one-step device, of zeros, of directions and of factors below zero, and the
-//! reference's methods held against each other.
+//! Document 01's example and figures, those of quotients, of the one-step device, of zeros, of directions, of factors below zero and of kits,
+//! and the reference's methods held against each other.
 
 use crate::directions::{all_places, of_one_step, of_product, of_quotient, places};
 use crate::factor::{greatest, least, parts, set_up, Factor};
+use crate::kit::{self, is_clean, most_rounds, told, Kit, Told, KIT_STATE_WORDS, KIT_WORDS, PLACES};
 use crate::onestep::{self, count, count_by_values, multiply_once, near_ties, product_once, read_once, tally, Tally};
 use crate::product::{multiply, product, Mark, Product};
 use crate::quotient::{divide, divide_reading, is_nearest, machine, near_midpoints, quotient, Quotient};
-use crate::random::{given, Given, Random, KINDS, KNOWN};
+use crate::random::{self, given, Given, Random, KINDS, KNOWN};
 use crate::reading::{self, number, read, Number};
 use crate::rounding::Direction;
-use crate::sweep::{call, new_state, Plain, State};
+use crate::sweep::{call, new_state, Counts, Halves, Plain, State};
+use crate::words::FACTOR_WORDS;
 use crate::{frame, search, suspects};
 use std::collections::BTreeMap;
 use std::io::{self, Write};
@@ -103,10 +105,13 @@ pub fn selftest(output: &mut dyn Write) -> io::Result<()> {
     readings_below_zero();
     frames_below_zero();
     signs_of_every_precision();
+    kit_of_examples();
+    kits_refused();
+    kits_of_many_factors();
     methods();
     writeln!(
         output,
-        "selftest: document 01's example and figures stand, those of quotients, of the one-step device, of zeros, of directions and of factors below zero too, and the methods agree"
+        "selftest: document 01's example and figures stand, those of quotients, of the one-step device, of zeros, of directions, of factors below zero and of kits too, and the methods agree"
     )
 }
 
@@ -791,6 +796,201 @@ fn check_mirrored(random: &mut Random, factor: &Factor) {
             assert_eq!(divide_reading(&opposite, reading), due, "{factor:X?} {reading:X}");
         }
     }
+}
+
+/// Document 01's three examples as a kit.
+pub fn example_kit() -> Kit {
+    let ends = [(3 << 61, 3 << 61), (0x4BFFFC0000000000, 0x4BFFFC0000000000), (0x51C71C71C71C71C7, 0x51C71C71C71C71C8)];
+    Kit { factors: ends.map(|(lower, upper)| accepted(4, lower, upper)).to_vec() }
+}
+
+/// W6's figure: one call with cap 100 and 8 places, or 3 of which the last is left as it was; and the rest of the sweep then.
+fn kit_of_examples() {
+    let words = example_kit().words();
+    let begun = kit::new_state(&words).expect("a good kit");
+    assert_eq!((&begun[..KIT_WORDS], &begun[KIT_WORDS..]), (&words[..], &[0, 8, 0][..]));
+    assert_eq!(told(&begun, 0), Ok(Told::Unfinished));
+    let mut state = begun.clone();
+    let mut list = [7; 8];
+    assert_eq!(kit::call(&mut state, 100, &mut list, 0), Ok(Counts { trials: 4, rounds: 3, place: 4 }));
+    assert_eq!(list, [1, 16, 2, 19, 7, 7, 7, 7]);
+    assert_eq!((&state[..KIT_WORDS], &state[KIT_WORDS..]), (&words[..], &[2, 15, 1][..]));
+    assert_eq!((told(&state, 2), told(&state, 0)), (Ok(Told::NotClean), Ok(Told::Clean)));
+    let mut state = begun;
+    let mut list = [7; 3];
+    assert_eq!(kit::call(&mut state, 100, &mut list, 0), Ok(Counts { trials: 3, rounds: 1, place: 2 }));
+    assert_eq!(list, [1, 16, 7]);
+    assert_eq!((&state[..KIT_WORDS], &state[KIT_WORDS..]), (&words[..], &[2, 9, 0][..]));
+    assert_eq!(told(&state, 1), Ok(Told::Unfinished));
+    assert_eq!(kit::call(&mut state, 100, &mut list, 2), Err(44));
+    assert_eq!(kit::call(&mut state, 1, &mut list, 1), Ok(Counts { trials: 1, rounds: 2, place: 3 }));
+    assert_eq!((list, &state[KIT_WORDS..]), ([1, 2, 19], &[2, 15, 1][..]));
+    assert_eq!(kit::call(&mut state, 0, &mut list, 9), Err(33));
+    // 3/2 alone is clean, and so is it beside itself below zero.
+    let factors = example_kit().factors;
+    assert!(!is_clean(&example_kit()) && is_clean(&Kit { factors: vec![factors[0], factors[0].opposite()] }));
+    assert!([1, 2].into_iter().all(|place| !is_clean(&Kit { factors: vec![factors[place]] })));
+}
+
+/// The refusals 42, 31, 43, 32, 33, 18 and 44 in their order: each where it and all after it hold.
+fn kits_refused() {
+    let good = example_kit();
+    let mut state = kit::new_state(&good.words()).expect("a good kit");
+    let refused = |state: &[u64], cap: u64, length: usize, free: u64| {
+        let (mut there, mut list) = (state.to_vec(), vec![7; length]);
+        let answer = kit::call(&mut there, cap, &mut list, free).map(|counts| counts.place);
+        assert!(answer.is_ok() || (there == state && list == vec![7; length]));
+        answer
+    };
+    // With room for one entry 44 does not hold, with one place fewer it does; and past the list's end.
+    for (length, free, due) in
+        [(2, 0, Ok(2)), (2, 1, Err(44)), (9, 8, Err(44)), (9, 9, Err(44)), (9, u64::MAX, Err(44))]
+    {
+        assert_eq!(refused(&state, 100, length, free), due);
+    }
+    for (length, free) in [(0, 0), (1, 0), (0, 1), (1, u64::MAX)] {
+        assert_eq!(refused(&state, 100, length, free), Err(44));
+    }
+    assert_eq!(refused(&state, 0, 1, 0), Err(18));
+    state[KIT_WORDS + 2] = 1 << 63;
+    assert_eq!((refused(&state, 0, 1, 0), told(&state, 1)), (Err(33), Ok(Told::NotClean)));
+    for (place, next) in [(3, 8), (u64::MAX, 8), (0, 7), (0, 16), (2, u64::MAX), (95, 0)] {
+        (state[KIT_WORDS], state[KIT_WORDS + 1]) = (place, next);
+        assert_eq!((refused(&state, 0, 1, 0), told(&state, 1)), (Err(32), Err(32)));
+    }
+    // Past the number anything may stand, also the same again; counted, it is refused.
+    let at = |place: usize| 1 + place * FACTOR_WORDS;
+    state.copy_within(at(0)..at(1), at(3));
+    let formed = |state: &[u64]| (Kit::form(state).map(|kit| kit.factors.len()), kit::new_state(state).map(|_| ()));
+    assert_eq!(formed(&state), (Ok(3), Ok(())));
+    state[0] = 4;
+    assert_eq!(formed(&state), (Err(43), Err(43)));
+    assert_eq!((refused(&state, 0, 1, 0), told(&state, 1)), (Err(43), Err(43)));
+    for (word, due) in [(0, Ok(4)), (1, Err(31)), (2, Err(31)), (5, Err(31)), (9, Err(31))] {
+        let mut state = state.clone();
+        state[at(3) + word] ^= 1 << 32;
+        assert_eq!(formed(&state), (due, due.map(|_| ())));
+        state[at(1) + 4] += 1;
+        assert_eq!((refused(&state, 0, 1, 0), told(&state, 1)), (Err(31), Err(31)));
+        for number in [0, 97, u64::MAX, 1 << 32 | 3] {
+            state[0] = number;
+            assert_eq!(formed(&state), (Err(42), Err(42)));
+            assert_eq!((refused(&state, 0, 1, 0), told(&state, 1)), (Err(42), Err(42)));
+        }
+    }
+}
+
+/// The row of all suspects: by trying every significand, or by searches where they are too many.
+fn row_of(factor: &Factor) -> Vec<u64> {
+    if factor.bits <= 14 {
+        return all_suspects(factor);
+    }
+    let (mut row, halves) = (Vec::new(), Halves::new(factor, greatest(factor.bits)));
+    let mut from = least(factor.bits);
+    while let Some(x) = halves.suspect_from(factor, from, &mut 0) {
+        row.push(x);
+        from = x + 1;
+    }
+    row
+}
+
+/// For kits of many kinds, from a new state to the finish: a call by searches is the plain kit sweep's; joined calls list what the separate
+/// sweeps list, in kit order, their trials and rounds adding up to those of the separate ones; the finish comes with the last suspect at the
+/// latest, and then the kit is clean exactly if nothing was listed.
+fn kits_of_many_factors() {
+    let mut random = Random::new(15);
+    let (mut clean, mut full) = (0, 0);
+    for i in 0..600 {
+        let number = if i % 20 == 0 { PLACES } else { random.one_of(&[1, 1, 2, 3, 4, 7, 20]) };
+        let kit = random::kit(&mut random, number);
+        let listed = check_kit(&mut random, &kit);
+        if kit.factors.iter().all(|factor| factor.bits <= 17) {
+            assert_eq!(is_clean(&kit), listed == 0, "{kit:X?}");
+            (clean, full) = (clean + (listed == 0) as u32, full + (listed > 0) as u32);
+        }
+    }
+    assert!(clean > 50 && full > 50, "{clean} {full}");
+    // At 24 bits, by every significand's test for a suspect: 1/pi and the square root of 2 are clean.
+    let known = |index: usize| {
+        let (_, scale, lower, upper) = KNOWN[index];
+        set_up(false, 24, scale, lower, upper).expect("an accepted factor")
+    };
+    let kit = Kit { factors: vec![known(0), known(3), known(0).opposite()] };
+    assert_eq!((is_clean(&kit), check_kit(&mut random, &kit)), (true, 0));
+}
+
+/// How many entries were listed in all.
+fn check_kit(random: &mut Random, kit: &Kit) -> u64 {
+    let mut words = kit.words();
+    let past = 1 + kit.factors.len() * FACTOR_WORDS;
+    words[past..].fill_with(|| random.any_size());
+    assert_eq!(Kit::form(&words).as_ref(), Ok(kit));
+    let begun = kit::new_state(&words).expect("a good kit");
+    let (mut state, mut plain) = (begun.clone(), kit::Plain::with(kit, row_of));
+    assert_eq!(begun.len(), KIT_STATE_WORDS);
+    let (mut joined, mut sum, mut calls) = (Vec::new(), Counts { trials: 0, rounds: 0, place: 0 }, 0);
+    loop {
+        let cap = random.one_of(&[0, 1, 2, 5, 100, u64::MAX]);
+        let length = random.one_of(&[0, 1, 2, 3, 3, 4, 5, 8, 9, 100]);
+        let free = random.one_of(&[0, 0, 0, 1, 2, length, length + 1, u64::MAX]);
+        let mut list = vec![7; length as usize];
+        let before = state.clone();
+        let answer = kit::call(&mut state, cap, &mut list, free);
+        let due = plain.call(cap, length, free);
+        assert_eq!((&state[..KIT_WORDS], &state[KIT_WORDS..]), (&words[..], &plain.position()[..]));
+        match due {
+            Err(refusal) => {
+                assert_eq!((answer, &state), (Err(refusal), &before));
+                assert_eq!(list, vec![7; length as usize]);
+                if refusal == 33 {
+                    break;
+                }
+            }
+            Ok(due) => {
+                let counts = answer.expect("an accepted call");
+                assert_eq!((counts.trials, counts.place), (due.trials, due.place));
+                assert!(counts.rounds <= most_rounds(counts.trials, before[KIT_WORDS], state[KIT_WORDS]));
+                let mut whole = vec![7; length as usize];
+                whole[free as usize..counts.place as usize].copy_from_slice(&due.words);
+                assert_eq!(list, whole);
+                joined.extend(due.words);
+                (sum.trials, sum.rounds, calls) = (sum.trials + counts.trials, sum.rounds + counts.rounds, calls + 1);
+                sum.place += counts.place - free;
+            }
+        }
+        let entries = sum.place / 2;
+        let due = match state[KIT_WORDS + 2] {
+            0 => Told::Unfinished,
+            _ if entries == 0 => Told::Clean,
+            _ => Told::NotClean,
+        };
+        assert_eq!(told(&state, entries), Ok(due));
+    }
+    assert!(calls <= plain.row().len().max(1), "{kit:X?}");
+    let (entries, due) = separately(kit);
+    assert_eq!((&joined, sum), (&entries, due), "{kit:X?}");
+    // In one call, with room for one entry more.
+    let (mut state, mut list) = (begun, vec![7; entries.len() + 3]);
+    assert_eq!(kit::call(&mut state, u64::MAX, &mut list, 0), Ok(due), "{kit:X?}");
+    assert_eq!((&list[..entries.len()], &list[entries.len()..]), (&entries[..], &[7; 3][..]));
+    assert_eq!(state[KIT_WORDS..], plain.position());
+    sum.place / 2
+}
+
+/// What the factors' own sweeps list, as entries, with all their trials and rounds added up.
+fn separately(kit: &Kit) -> (Vec<u32>, Counts) {
+    let (mut entries, mut sum) = (Vec::new(), Counts { trials: 0, rounds: 0, place: 0 });
+    for (place, factor) in kit.factors.iter().enumerate() {
+        let mut state = new_state(factor, least(factor.bits), greatest(factor.bits)).expect("a good range");
+        while !state.finished {
+            let mut list = [0; 10];
+            let counts = call(&mut state, 1000, &mut list, 0).expect("an accepted call");
+            entries.extend(list[..counts.place as usize].iter().flat_map(|&word| [place as u32, word]));
+            (sum.trials, sum.rounds) = (sum.trials + counts.trials, sum.rounds + counts.rounds);
+        }
+    }
+    sum.place = entries.len() as u64;
+    (entries, sum)
 }
 
 /// For many factors of small precision and of both signs: what is not right is a suspect, both rows are one, the search finds the row, the

@@ -13,6 +13,7 @@ mod factor;
 mod faults;
 mod figures;
 mod frame;
+mod kit;
 #[cfg(engine)]
 mod lean;
 mod lines;

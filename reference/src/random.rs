@@ -1,6 +1,7 @@
 //! Pseudo-random numbers, the same in every run, and factors of many kinds and of both signs.
 
 use crate::factor::{self, Factor, Refusal};
+use crate::kit::Kit;
 
 pub struct Random {
     state: u64,
@@ -133,6 +134,55 @@ pub fn given(random: &mut Random, bits: u32, kind: u64) -> Given {
         return Given { minus, bits, scale, lower, upper };
     }
     Given { minus, bits, scale, lower, upper }
+}
+
+/// A kit of so many factors, no two alike. Most are of small precision, whose rows are short; the others have few suspects. Some differ from
+/// one before in its sign, scale, precision or an end alone.
+pub fn kit(random: &mut Random, number: usize) -> Kit {
+    let mut factors: Vec<Factor> = Vec::new();
+    while factors.len() < number {
+        let given = if random.below(4) == 0 && !factors.is_empty() {
+            let factor = random.one_of(&factors);
+            like(random, factor)
+        } else {
+            small_or_rare(random)
+        };
+        match given.set_up() {
+            Ok(factor) if !factors.contains(&factor) => factors.push(factor),
+            _ => continue,
+        }
+    }
+    Kit { factors }
+}
+
+fn small_or_rare(random: &mut Random) -> Given {
+    match random.below(16) {
+        0 => {
+            let (bits, kind) = (random.one_of(&[24, 24, 14, 17, 20, 23]), random.one_of(&[1, 2, 3, 5, 6, 7, 8]));
+            given(random, bits, kind)
+        }
+        1 => {
+            let (bits, kind) = (random.from_to(9, 13) as u32, random.below(KINDS));
+            given(random, bits, kind)
+        }
+        _ => {
+            let (bits, kind) = (random.from_to(4, 8) as u32, random.below(KINDS - 1));
+            given(random, bits, kind)
+        }
+    }
+}
+
+/// All but one of what a factor is told apart by.
+fn like(random: &mut Random, factor: Factor) -> Given {
+    let Factor { minus, bits, scale, lower, upper, .. } = factor;
+    let same = Given { minus: minus as u32, bits, scale, lower, upper };
+    match random.below(6) {
+        0 | 1 => Given { minus: !minus as u32, ..same },
+        2 => Given { scale: random.from_to(0, 200) as i32 - 100, ..same },
+        3 => Given { bits: random.from_to(4, 8) as u32, ..same },
+        4 => Given { lower: lower - 1, ..same },
+        _ => Given { upper: upper + 1, ..same },
+    }
 }
 
 /// The factors that document 01's readers know: 1/pi, pi, ln 2, the square root of 2, 2.54 and 4/3, each between two ends.

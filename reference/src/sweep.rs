@@ -52,7 +52,7 @@ pub fn call(state: &mut State, cap: u64, list: &mut [u32], place: u64) -> Result
     if place >= list.len() as u64 {
         return Err(19);
     }
-    let halves = Halves { low_end: factor.first_high().min(state.last + 1), last: state.last };
+    let halves = Halves::new(&factor, state.last);
     let mut counts = Counts { trials: 0, rounds: 0, place };
     let mut from = state.next;
     while let Some(x) = halves.suspect_from(&factor, from, &mut counts.rounds) {
@@ -73,13 +73,18 @@ pub fn call(state: &mut State, cap: u64, list: &mut [u32], place: u64) -> Result
 }
 
 /// The low significands of a range are those below `low_end`, the high ones go on to `last`.
-struct Halves {
+pub struct Halves {
     low_end: u64,
     last: u64,
 }
 
 impl Halves {
-    fn suspect_from(&self, factor: &Factor, from: u64, rounds: &mut u64) -> Option<u64> {
+    pub fn new(factor: &Factor, last: u64) -> Halves {
+        Halves { low_end: factor.first_high().min(last + 1), last }
+    }
+
+    /// The first suspect at or after `from`, with the rounds of the searches that this takes.
+    pub fn suspect_from(&self, factor: &Factor, from: u64, rounds: &mut u64) -> Option<u64> {
         let mut search = |low: bool, start: u64, end: u64| {
             if start >= end {
                 return None;
