@@ -2,6 +2,7 @@
 
 use crate::factor::{set_up, Factor, Refusal};
 use crate::frame::{fields, for_lines};
+use crate::kit::{self, Kit, KIT_STATE_WORDS, KIT_WORDS, PLACES};
 use crate::onestep::{multiply_once, read_once, tally};
 use crate::product::{multiply, Mark, Product};
 use crate::quotient::{divide, divide_reading, Quotient};
@@ -13,11 +14,12 @@ use std::io::{self, BufRead, Write};
 
 struct Cases {
     state: [u64; STATE_WORDS],
+    kit: Vec<u64>,
     list: [u32; 64],
 }
 
 pub fn cases(input: &mut dyn BufRead, output: &mut dyn Write) -> io::Result<()> {
-    let mut cases = Cases { state: [0; STATE_WORDS], list: [u32::MAX; 64] };
+    let mut cases = Cases { state: [0; STATE_WORDS], kit: vec![0; KIT_STATE_WORDS], list: [u32::MAX; 64] };
     for_lines(input, u64::MAX, |_, line, ended| {
         let answer = if ended { cases.answer(line) } else { None };
         output.write_all(line)?;
@@ -40,6 +42,11 @@ impl Cases {
             b"09" | b"0B" => &[2, 16],
             b"0A" | b"0C" => &[2, 8],
             b"0D" => &[2, 16, 16],
+            b"0E" => &[2, 2],
+            b"0F" => &[2, 4, 16],
+            b"10" | b"11" => &[2],
+            b"12" => &[2, 16, 2, 16],
+            b"13" => &[2, 16],
             _ => return None,
         };
         let f = fields(line, widths)?;
@@ -115,10 +122,7 @@ impl Cases {
                 };
                 let [first, last, next, finished] = [10, 11, 12, 13].map(|word| self.state[word]);
                 answer += &format!(" {:016X} {:016X} {:016X} {:02X}", first, last, next, (finished != 0) as u32);
-                for word in list {
-                    answer += &format!(" {word:08X}");
-                }
-                answer
+                answer + &words_of(list)
             }
             8 => {
                 self.list = [f[1] as u32; 64];
@@ -136,11 +140,58 @@ impl Cases {
             },
             11 => marked_product(from_words(&self.state).and_then(|factor| multiply_once(&factor, f[1]))),
             12 => marked_reading(from_words(&self.state).and_then(|factor| read_once(&factor, f[1] as u32))),
-            _ => match from_words(&self.state).and_then(|factor| tally(&factor, f[1], f[2])) {
+            13 => match from_words(&self.state).and_then(|factor| tally(&factor, f[1], f[2])) {
                 Err(refusal) => refused(refusal),
                 Ok(tally) => format!("00 {:08X} {:08X} {:08X}", tally.right, tally.wrong, tally.open),
             },
+            14 => {
+                if f[1] >= PLACES as u64 {
+                    return None;
+                }
+                let at = 1 + f[1] as usize * FACTOR_WORDS;
+                self.kit[at..at + FACTOR_WORDS].copy_from_slice(&self.state[..FACTOR_WORDS]);
+                "00".to_string()
+            }
+            15 => {
+                *self.kit.get_mut(f[1] as usize)? = f[2];
+                "00".to_string()
+            }
+            16 => refused(Kit::form(&self.kit).err().unwrap_or(0)),
+            17 => {
+                let outcome = match kit::new_state(&self.kit) {
+                    Err(refusal) => refusal,
+                    Ok(state) => {
+                        self.kit = state;
+                        0
+                    }
+                };
+                refused(outcome) + &self.kit_position()
+            }
+            18 => {
+                if f[2] > 64 {
+                    return None;
+                }
+                let list = &mut self.list[..f[2] as usize];
+                let answer = match kit::call(&mut self.kit, f[1], list, f[3]) {
+                    Err(refusal) => refused(refusal),
+                    Ok(counts) => format!("00 {:016X} {:016X} {:016X}", counts.trials, counts.rounds, counts.place),
+                };
+                let words = words_of(list);
+                answer + &self.kit_position() + &words
+            }
+            _ => refused(kit::told(&self.kit, f[1]).map_or_else(|refusal| refusal, |told| told.number())),
         };
         Some(answer)
     }
+
+    /// Where the kit sweep stands: place, next significand, and whether it is finished.
+    fn kit_position(&self) -> String {
+        let [place, next, finished] = [0, 1, 2].map(|word| self.kit[KIT_WORDS + word]);
+        format!(" {place:016X} {next:016X} {:02X}", (finished != 0) as u32)
+    }
+}
+
+/// The words of a list, each behind a blank.
+fn words_of(list: &[u32]) -> String {
+    list.iter().map(|word| format!(" {word:08X}")).collect()
 }
