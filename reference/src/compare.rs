@@ -14,7 +14,7 @@ use crate::random::{given, Given, Random, KINDS, KNOWN};
 use crate::reading::{number, read, Number};
 use crate::rounding::Direction;
 use crate::sweep::{call, new_state, word, Plain, State};
-use crate::{onestep, reading, search, suspects};
+use crate::{compare_kit, onestep, reading, search, suspects};
 use std::collections::{BTreeMap, BTreeSet};
 use std::io::{self, Write};
 use std::sync::atomic::{AtomicUsize, Ordering};
@@ -30,6 +30,7 @@ macro_rules! agree {
         }
     }};
 }
+pub(crate) use agree;
 
 /// A part of the comparison, and how many answers it compared.
 pub struct Part {
@@ -117,6 +118,7 @@ fn parts() -> Vec<Part> {
         }));
     }
     parts.push(part("calls on states that nobody reached, and damaged ones", any_states));
+    parts.extend(compare_kit::parts());
     parts.push(part("the remaining figures of document 01, and those of quotients and directions", figures));
     parts.push(part("the tallies that W2 names, and those of source document 004, Table 1", figures_of_tallies));
     parts
@@ -569,7 +571,7 @@ pub fn damage(random: &mut Random, words: &mut [u64; FACTOR_WORDS]) {
 }
 
 /// The words of a factor whose fields have 32 bits.
-const NARROW: [usize; 5] = [1, 6, 7, 8, 9];
+pub const NARROW: [usize; 5] = [1, 6, 7, 8, 9];
 
 /// Upper halves that are not as written, one word at a time, through every function, whatever else is asked: 31, and nothing written. Marks of a finished sweep other than 1 are such marks all the same.
 fn upper_halves(random: &mut Random) -> u64 {
@@ -614,7 +616,7 @@ fn upper_halves(random: &mut Random) -> u64 {
 
 /// What set-up is told of a factor below zero, and what may stand for its sign in words.
 const MINUS: [u32; 5] = [1, 2, 1 << 31, 0xFF, u32::MAX];
-const MINUS_WORDS: [u64; 6] = [1, 2, 1 << 31, 1 << 32, 1 << 63, u64::MAX];
+pub const MINUS_WORDS: [u64; 6] = [1, 2, 1 << 31, 1 << 32, 1 << 63, u64::MAX];
 
 /// Set-up with every sign: written as 0 or 1, with the words of the size. Signs of every kind through every function: one that is not 0 is a
 /// minus, and no damage, whatever else is. States are written with 0 or 1: a new one, and one that an accepted call hands back; a refused
@@ -1307,7 +1309,7 @@ fn call_of(random: &mut Random) -> (u64, usize, u64) {
 }
 
 /// Words that a list has before a call.
-fn words_before(random: &mut Random, length: usize) -> Vec<u32> {
+pub fn words_before(random: &mut Random, length: usize) -> Vec<u32> {
     (0..length).map(|_| random.word() as u32).collect()
 }
 

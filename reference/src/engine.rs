@@ -1,6 +1,7 @@
 //! The engine, by its exported functions (include/gusnalip.h).
 
 use crate::factor::{Factor, Refusal};
+pub use crate::kit::{KIT_STATE_WORDS, KIT_WORDS};
 use crate::onestep::Tally;
 use crate::product::{Mark, Product};
 use crate::quotient::Quotient;
@@ -66,6 +67,19 @@ extern "C" {
         counts: *mut u64,
         counts_length: usize,
     ) -> u32;
+    fn gusnalip_form_kit(kit: *const u64, kit_length: usize) -> u32;
+    fn gusnalip_new_kit_sweep(kit: *const u64, kit_length: usize, out: *mut u64, length: usize) -> u32;
+    fn gusnalip_kit_sweep(
+        state: *mut u64,
+        state_length: usize,
+        cap: u64,
+        list: *mut u32,
+        list_length: usize,
+        free: usize,
+        counts: *mut u64,
+        counts_length: usize,
+    ) -> u32;
+    fn gusnalip_kit_clean(state: *const u64, state_length: usize, entries: u64) -> u32;
 }
 
 pub fn set_up_to(given: Given, out: &mut [u64]) -> u32 {
@@ -128,6 +142,39 @@ pub fn sweep_to(state: &mut [u64], cap: u64, list: &mut [u32], free: usize, coun
             counts.len(),
         )
     }
+}
+
+/// 0 or the refusal of a kit.
+pub fn form_kit(kit: &[u64]) -> u32 {
+    // The list is read within its length.
+    unsafe { gusnalip_form_kit(kit.as_ptr(), kit.len()) }
+}
+
+pub fn new_kit_sweep_to(kit: &[u64], out: &mut [u64]) -> u32 {
+    // The lists are two, and each is used within its length.
+    unsafe { gusnalip_new_kit_sweep(kit.as_ptr(), kit.len(), out.as_mut_ptr(), out.len()) }
+}
+
+pub fn kit_sweep_to(state: &mut [u64], cap: u64, list: &mut [u32], free: usize, counts: &mut [u64]) -> u32 {
+    // The lists are three, and each is used within its length.
+    unsafe {
+        gusnalip_kit_sweep(
+            state.as_mut_ptr(),
+            state.len(),
+            cap,
+            list.as_mut_ptr(),
+            list.len(),
+            free,
+            counts.as_mut_ptr(),
+            counts.len(),
+        )
+    }
+}
+
+/// 1 clean, 2 not clean, 3 not finished, or the refusal of a state.
+pub fn kit_clean(state: &[u64], entries: u64) -> u32 {
+    // The list is read within its length.
+    unsafe { gusnalip_kit_clean(state.as_ptr(), state.len(), entries) }
 }
 
 /// A word that nothing writes: a list still has it where a call left it alone.
@@ -261,11 +308,36 @@ pub fn new_sweep(factor: &[u64], first: u64, last: u64) -> Result<[u64; STATE_WO
 
 /// A call: the state's words and the list are altered as the engine alters them.
 pub fn sweep(state: &mut [u64; STATE_WORDS], cap: u64, list: &mut [u32], free: usize) -> Result<Counts, Refusal> {
-    let mut counts = [UNTOUCHED; COUNT_WORDS];
-    match sweep_to(state, cap, list, free, &mut counts) {
+    counts_by(|counts| sweep_to(state, cap, list, free, counts))
+}
+
+pub fn new_kit_sweep(kit: &[u64]) -> Result<Vec<u64>, Refusal> {
+    let mut out = vec![UNTOUCHED; KIT_STATE_WORDS + 1];
+    let answer = new_kit_sweep_to(kit, &mut out);
+    assert_eq!(out.pop(), Some(UNTOUCHED));
+    match answer {
+        0 => Ok(out),
+        refusal => {
+            assert!(out.iter().all(|&word| word == UNTOUCHED));
+            Err(refusal)
+        }
+    }
+}
+
+/// A kit call: the state's words and the list are altered as the engine alters them.
+pub fn kit_sweep(state: &mut [u64], cap: u64, list: &mut [u32], free: usize) -> Result<Counts, Refusal> {
+    counts_by(|counts| kit_sweep_to(state, cap, list, free, counts))
+}
+
+/// The counts that a call writes where it is accepted, and nothing past them.
+fn counts_by(call: impl FnOnce(&mut [u64]) -> u32) -> Result<Counts, Refusal> {
+    let mut counts = [UNTOUCHED; COUNT_WORDS + 1];
+    let answer = call(&mut counts);
+    assert_eq!(counts[COUNT_WORDS], UNTOUCHED);
+    match answer {
         0 => Ok(Counts { trials: counts[0], rounds: counts[1], place: counts[2] }),
         refusal => {
-            assert_eq!(counts, [UNTOUCHED; COUNT_WORDS]);
+            assert_eq!(counts, [UNTOUCHED; COUNT_WORDS + 1]);
             Err(refusal)
         }
     }

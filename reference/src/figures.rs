@@ -881,7 +881,7 @@ fn kits_refused() {
 }
 
 /// The row of all suspects: by trying every significand, or by searches where they are too many.
-fn row_of(factor: &Factor) -> Vec<u64> {
+pub fn row_of(factor: &Factor) -> Vec<u64> {
     if factor.bits <= 14 {
         return all_suspects(factor);
     }
@@ -926,7 +926,7 @@ fn check_kit(random: &mut Random, kit: &Kit) -> u64 {
     words[past..].fill_with(|| random.any_size());
     assert_eq!(Kit::form(&words).as_ref(), Ok(kit));
     let begun = kit::new_state(&words).expect("a good kit");
-    let (mut state, mut plain) = (begun.clone(), kit::Plain::with(kit, row_of));
+    let (mut state, mut plain) = (begun.clone(), kit::Plain::new(kit, row_of));
     assert_eq!(begun.len(), KIT_STATE_WORDS);
     let (mut joined, mut sum, mut calls) = (Vec::new(), Counts { trials: 0, rounds: 0, place: 0 }, 0);
     loop {

@@ -192,12 +192,8 @@ pub struct Plain {
 }
 
 impl Plain {
-    pub fn new(kit: &Kit) -> Plain {
-        Plain::with(kit, |factor| suspects::row(factor, least(factor.bits), greatest(factor.bits)))
-    }
-
-    /// The same from rows that are had otherwise.
-    pub fn with(kit: &Kit, row_of: impl Fn(&Factor) -> Vec<u64>) -> Plain {
+    /// From the rows of all suspects of its factors.
+    pub fn new(kit: &Kit, row_of: impl Fn(&Factor) -> Vec<u64>) -> Plain {
         let of = |(place, factor)| row_of(factor).into_iter().map(move |x| (place, x));
         let row = kit.factors.iter().enumerate().flat_map(of).collect();
         Plain { kit: kit.clone(), row, tried: 0, place: 0, next: least(kit.factors[0].bits), finished: false }
@@ -206,10 +202,6 @@ impl Plain {
     /// All suspects of the kit.
     pub fn row(&self) -> &[(usize, u64)] {
         &self.row
-    }
-
-    pub fn state(&self) -> State {
-        State { kit: self.kit.clone(), place: self.place, next: self.next, finished: self.finished }
     }
 
     /// The last three words of its state.

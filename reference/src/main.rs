@@ -6,6 +6,8 @@ mod bench;
 mod cases;
 #[cfg(engine)]
 mod compare;
+#[cfg(engine)]
+mod compare_kit;
 mod directions;
 #[cfg(engine)]
 mod engine;
