@@ -2,6 +2,7 @@
 
 use crate::engine::{self, words};
 use crate::factor::{greatest, least, set_up, Factor};
+use crate::kit::{self, Kit, KIT_WORDS, PLACES};
 use crate::onestep::{multiply_once, read_once, tally, Tally, LONGEST};
 use crate::product::{multiply, product, Mark};
 use crate::quotient::{divide, divide_reading};
@@ -52,6 +53,7 @@ pub fn bench(output: &mut dyn Write) -> io::Result<()> {
     single(output)?;
     tallies(output)?;
     per_suspect(output)?;
+    kits(output)?;
     frames(output)
 }
 
@@ -300,16 +302,72 @@ fn per_suspect(output: &mut dyn Write) -> io::Result<()> {
     Ok(())
 }
 
-/// Frames at precision 24 with ends one apart, from a state that each frame moves on.
-fn load() -> String {
+/// Forming a kit, a call that is refused after all checks, and a whole sweep in one call.
+fn kits(output: &mut dyn Write) -> io::Result<()> {
+    let accepted = lowers().filter_map(|lower| set_up(false, 24, 0, lower, lower + 1).ok());
+    let kit = Kit { factors: accepted.take(PLACES).collect() };
+    let words = kit.words();
+    let (many, each) = (1000, |seconds: f64| seconds / 1000.0);
+    let ours = each(seconds(5, || {
+        for _ in 0..many {
+            black_box(engine::form_kit(black_box(&words)));
+        }
+    }));
+    let theirs = each(seconds(5, || {
+        for _ in 0..many {
+            black_box(Kit::form(black_box(&words)).is_ok());
+        }
+    }));
+    line(output, &format!("forming a kit of {PLACES} factors at 24 bits"), ours, theirs)?;
+    let begun = engine::new_kit_sweep(&words).expect("a good kit");
+    let (mut state, mut list, mut counts) = (begun.clone(), [0; 1000], [0; engine::COUNT_WORDS]);
+    assert_eq!(engine::kit_sweep_to(&mut state, 1, &mut list[..1], 0, &mut counts), 44);
+    let ours = each(seconds(5, || {
+        for _ in 0..many {
+            black_box(engine::kit_sweep_to(&mut state, 1, &mut list[..1], 0, &mut counts));
+        }
+    }));
+    let theirs = each(seconds(5, || {
+        for _ in 0..many {
+            black_box(kit::call(&mut state, 1, &mut list[..1], 0).is_ok());
+        }
+    }));
+    line(output, "a call on it that is refused last of all, with 44", ours, theirs)?;
+    let ours = each(seconds(5, || {
+        for _ in 0..many {
+            state[KIT_WORDS..].copy_from_slice(&begun[KIT_WORDS..]);
+            black_box(engine::kit_sweep_to(&mut state, u64::MAX, &mut list, 0, &mut counts));
+        }
+    }));
+    let theirs = each(seconds(5, || {
+        for _ in 0..many {
+            state[KIT_WORDS..].copy_from_slice(&begun[KIT_WORDS..]);
+            black_box(kit::call(&mut state, u64::MAX, &mut list, 0).is_ok());
+        }
+    }));
+    line(output, &format!("its whole sweep in one call, {} suspects", counts[0]), ours, theirs)?;
+    let separate = each(seconds(5, || {
+        for _ in 0..many {
+            for factor in &kit.factors {
+                black_box(engine_sweep(black_box(factor), &mut list));
+            }
+        }
+    }));
+    line(output, &format!("the same, against {PLACES} sweeps by the engine, one by one"), ours, separate)
+}
+
+/// Lower ends, from a state that each moves on.
+fn lowers() -> impl Iterator<Item = u64> {
     let mut state = 1u64;
-    let mut text = String::new();
-    for _ in 0..FRAMES {
+    std::iter::repeat_with(move || {
         state = state.wrapping_mul(6364136223846793005).wrapping_add(1442695040888963407);
-        let lower = (1 << 62) + state / 4;
-        text += &format!("18 00 {:016X} {:016X}\n", lower, lower + 1);
-    }
-    text
+        (1 << 62) + state / 4
+    })
+}
+
+/// Frames at precision 24 with ends one apart.
+fn load() -> String {
+    lowers().take(FRAMES).map(|lower| format!("18 00 {:016X} {:016X}\n", lower, lower + 1)).collect()
 }
 
 fn frames(output: &mut dyn Write) -> io::Result<()> {

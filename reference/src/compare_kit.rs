@@ -394,14 +394,15 @@ const DIFFERENCES: [&str; 8] =
     ["none", "sign's word", "sign", "precision", "scale", "lower end", "upper end", "both ends"];
 
 /// A factor like this one but for that, as words; none where there is none.
-fn but_for(random: &mut Random, words: &[u64], difference: &str) -> Option<Vec<u64>> {
-    let mut same = words.to_vec();
-    let Factor { minus, bits, scale, lower, upper, .. } = engine::from_words(words).expect("a good factor");
+fn but_for(random: &mut Random, given: &[u64], difference: &str) -> Option<Vec<u64>> {
+    let factor = engine::from_words(given).expect("a good factor");
+    let Factor { minus, bits, scale, lower, upper, .. } = factor;
     let other = match difference {
-        "none" => return Some(same),
+        "none" => return Some(given.to_vec()),
         "sign's word" => {
+            let mut same = given.to_vec();
             same[0] = random.one_of(&MINUS_WORDS);
-            return (minus && same != words).then_some(same);
+            return (minus && same != given).then_some(same);
         }
         "sign" => set_up(!minus, bits, scale, lower, upper),
         "precision" => set_up(minus, random.one_of(&[bits - 1, bits + 1]), scale, lower, upper),
@@ -410,10 +411,7 @@ fn but_for(random: &mut Random, words: &[u64], difference: &str) -> Option<Vec<u
         "upper end" => set_up(minus, bits, scale, lower, random.one_of(&[upper - 1, upper + 1])),
         _ => set_up(minus, bits, scale, lower + 1, upper + 1),
     };
-    other
-        .ok()
-        .map(|factor| crate::words::words(&factor).to_vec())
-        .filter(|other| other[1..] != words[1..] || difference == "sign")
+    other.ok().filter(|other| *other != factor).map(|other| words(&other).to_vec())
 }
 
 /// Two places of a kit have the same factor, or nearly: next to each other, far apart, at both ends of the kit, or one past the number.
@@ -434,7 +432,7 @@ fn alike(random: &mut Random) -> u64 {
         }
         let (one, other) = if random.below(2) == 0 || other == number { (one, other) } else { (other, one) };
         let difference = DIFFERENCES[i % DIFFERENCES.len()];
-        let Some(like) = but_for(random, &state[at(one)..at(one + 1)].to_vec(), difference) else { continue };
+        let Some(like) = but_for(random, &state[at(one)..at(one + 1)], difference) else { continue };
         state[at(other)..at(other + 1)].copy_from_slice(&like);
         state[KIT_WORDS + 1] = 1 << (state[2] - 1);
         let refused = by_every_function(random, &mut state, (1, 4, 0)) == Err(43);
