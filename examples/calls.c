@@ -28,6 +28,9 @@ int main(void) {
     uint64_t state[GUSNALIP_STATE_WORDS];
     uint64_t counts[GUSNALIP_COUNT_WORDS];
     uint32_t list[2] = {7, 7};
+    uint64_t kit[GUSNALIP_KIT_WORDS];
+    uint64_t kit_state[GUSNALIP_KIT_STATE_WORDS];
+    uint32_t entries[8] = {7, 7, 7, 7, 7, 7, 7, 7};
     int i;
 
     /* 3/2 at 4 bits, and at 24 for readings. */
@@ -326,5 +329,74 @@ int main(void) {
         due("-pi", gusnalip_set_up(GUSNALIP_MINUS, 24, 1, below_pi_over_2, below_pi_over_2 + 1, factor, GUSNALIP_FACTOR_WORDS), GUSNALIP_ACCEPTED);
         due("its low part is that of the size", factor[5] >> 63, 1);
     }
+
+    /* A kit: 3/2, 19/16 - 2^-20 and 23/18 at 4 bits, and 3/2 again past the number, where it means nothing. */
+    for (i = 0; i < GUSNALIP_KIT_WORDS; i++)
+        kit[i] = minus_one;
+    due("3/2 for a kit", gusnalip_set_up(GUSNALIP_PLUS, 4, 0, three_halves, three_halves, &kit[1], GUSNALIP_FACTOR_WORDS), GUSNALIP_ACCEPTED);
+    due("19/16 - 2^-20 for a kit", gusnalip_set_up(GUSNALIP_PLUS, 4, 0, below_19_16, below_19_16, &kit[11], GUSNALIP_FACTOR_WORDS), GUSNALIP_ACCEPTED);
+    due("23/18 for a kit", gusnalip_set_up(GUSNALIP_PLUS, 4, 0, below_23_18, below_23_18 + 1, &kit[21], GUSNALIP_FACTOR_WORDS), GUSNALIP_ACCEPTED);
+    due("3/2 past the number", gusnalip_set_up(GUSNALIP_PLUS, 4, 0, three_halves, three_halves, &kit[31], GUSNALIP_FACTOR_WORDS), GUSNALIP_ACCEPTED);
+    kit[0] = 0;
+    due("no factor", gusnalip_form_kit(kit, GUSNALIP_KIT_WORDS), 42);
+    kit[0] = GUSNALIP_KIT_PLACES + 1;
+    due("97 factors", gusnalip_form_kit(kit, GUSNALIP_KIT_WORDS), 42);
+    kit[0] = 4;
+    due("3/2 twice", gusnalip_form_kit(kit, GUSNALIP_KIT_WORDS), 43);
+    kit[31] = GUSNALIP_MINUS;
+    due("3/2 and -3/2", gusnalip_form_kit(kit, GUSNALIP_KIT_WORDS), GUSNALIP_ACCEPTED);
+    kit[31] = GUSNALIP_PLUS;
+    kit[27] += 1;
+    due("damage before two alike", gusnalip_form_kit(kit, GUSNALIP_KIT_WORDS), GUSNALIP_DAMAGED);
+    due("no new sweep of it", gusnalip_new_kit_sweep(kit, GUSNALIP_KIT_WORDS, kit_state, GUSNALIP_KIT_STATE_WORDS), GUSNALIP_DAMAGED);
+    kit[27] -= 1;
+    kit[0] = 3;
+    due("a kit", gusnalip_form_kit(kit, GUSNALIP_KIT_WORDS), GUSNALIP_ACCEPTED);
+    due("a word too few", gusnalip_form_kit(kit, GUSNALIP_KIT_WORDS - 1), GUSNALIP_TOO_SHORT);
+    due("no room", gusnalip_new_kit_sweep(kit, GUSNALIP_KIT_WORDS, kit_state, GUSNALIP_KIT_STATE_WORDS - 1), GUSNALIP_TOO_SHORT);
+    due("a new kit sweep", gusnalip_new_kit_sweep(kit, GUSNALIP_KIT_WORDS, kit_state, GUSNALIP_KIT_STATE_WORDS), GUSNALIP_ACCEPTED);
+    for (i = 0; i < GUSNALIP_KIT_WORDS; i++)
+        due("the kit in it", kit_state[i], kit[i]);
+    due("its place", kit_state[961], 0);
+    due("its next significand", kit_state[962], 8);
+    due("not finished", kit_state[963], 0);
+    due("what it tells", gusnalip_kit_clean(kit_state, GUSNALIP_KIT_STATE_WORDS, 0), GUSNALIP_UNFINISHED);
+
+    /* Three places: room for one entry, and one that is left. */
+    due("one free place", gusnalip_kit_sweep(kit_state, GUSNALIP_KIT_STATE_WORDS, 100, entries, 3, 2, counts, GUSNALIP_COUNT_WORDS), 44);
+    due("a place past the end", gusnalip_kit_sweep(kit_state, GUSNALIP_KIT_STATE_WORDS, 100, entries, 3, 4, counts, GUSNALIP_COUNT_WORDS), 44);
+    due("cap 0", gusnalip_kit_sweep(kit_state, GUSNALIP_KIT_STATE_WORDS, 0, entries, 3, 4, counts, GUSNALIP_COUNT_WORDS), 18);
+    due("no counts", gusnalip_kit_sweep(kit_state, GUSNALIP_KIT_STATE_WORDS, 100, entries, 3, 0, counts, 2), GUSNALIP_TOO_SHORT);
+    due("a call", gusnalip_kit_sweep(kit_state, GUSNALIP_KIT_STATE_WORDS, 100, entries, 3, 0, counts, GUSNALIP_COUNT_WORDS), GUSNALIP_ACCEPTED);
+    due("its trials", counts[0], 3);
+    due("its rounds", counts[1], 1);
+    due("its place", counts[2], 2);
+    due("the entry's factor", entries[0], 1);
+    due("the word of 8", entries[1], 16);
+    due("the odd place", entries[2], 7);
+    due("it stands at 23/18", kit_state[961], 2);
+    due("and at 9", kit_state[962], 9);
+    due("not finished", kit_state[963], 0);
+    due("the rest, behind it", gusnalip_kit_sweep(kit_state, GUSNALIP_KIT_STATE_WORDS, 100, entries, 8, 2, counts, GUSNALIP_COUNT_WORDS), GUSNALIP_ACCEPTED);
+    due("its trials", counts[0], 1);
+    due("its rounds", counts[1], 2);
+    due("its place", counts[2], 4);
+    due("the entry's factor", entries[2], 2);
+    due("the word of 9, which is open", entries[3], 19);
+    due("the place behind it", entries[4], 7);
+    due("it stands at the last factor", kit_state[961], 2);
+    due("and at its last significand", kit_state[962], 15);
+    due("finished", kit_state[963], 1);
+    due("a further call", gusnalip_kit_sweep(kit_state, GUSNALIP_KIT_STATE_WORDS, 0, entries, 8, 8, counts, GUSNALIP_COUNT_WORDS), 33);
+    due("by two entries", gusnalip_kit_clean(kit_state, GUSNALIP_KIT_STATE_WORDS, 2), GUSNALIP_NOT_CLEAN);
+    due("a word too few", gusnalip_kit_clean(kit_state, GUSNALIP_KIT_STATE_WORDS - 1, 2), GUSNALIP_TOO_SHORT);
+    kit_state[961] = 3;
+    due("a place with no factor", gusnalip_kit_sweep(kit_state, GUSNALIP_KIT_STATE_WORDS, 0, entries, 8, 8, counts, GUSNALIP_COUNT_WORDS), 32);
+    due("what it tells", gusnalip_kit_clean(kit_state, GUSNALIP_KIT_STATE_WORDS, 2), 32);
+    kit[0] = 1;
+    due("3/2 alone", gusnalip_new_kit_sweep(kit, GUSNALIP_KIT_WORDS, kit_state, GUSNALIP_KIT_STATE_WORDS), GUSNALIP_ACCEPTED);
+    due("its sweep", gusnalip_kit_sweep(kit_state, GUSNALIP_KIT_STATE_WORDS, 100, entries, 8, 0, counts, GUSNALIP_COUNT_WORDS), GUSNALIP_ACCEPTED);
+    due("its place", counts[2], 0);
+    due("by no entry", gusnalip_kit_clean(kit_state, GUSNALIP_KIT_STATE_WORDS, 0), GUSNALIP_CLEAN);
     return wrong;
 }

@@ -2,8 +2,9 @@
  * examples/calls.c calls each of them.
  *
  * A list is a pointer and the number of its words. Lists given to one call must not overlap. A list that is too short is answered with
- * GUSNALIP_TOO_SHORT (the list of a sweep may have any length, 0 too: it is refused with 19). Every other answer and every word written
- * is fixed by the function's contract (crates/exports), for any input. Every refusal writes nothing, GUSNALIP_TOO_SHORT included.
+ * GUSNALIP_TOO_SHORT (the list of a sweep may have any length, 0 too: it is refused with 19, and that of a kit sweep with 44). Every other
+ * answer and every word written is fixed by the function's contract (crates/exports), for any input. Every refusal writes nothing,
+ * GUSNALIP_TOO_SHORT included.
  *
  * A factor is GUSNALIP_FACTOR_WORDS words: sign, precision, lower end, upper end, high significand, low significand (two's complement), its
  * places, high and low part as bits of binary32 numbers, scale (two's complement of 32 bits). The sign is written as GUSNALIP_PLUS or
@@ -13,6 +14,11 @@
  * are words that were written when factors had no sign, where they are not too few: their lower end stands in the place of the precision. A
  * sweep's state is GUSNALIP_STATE_WORDS words: a factor, then the first, last and next significand, and 0 or any other word for not finished
  * or finished. Further words of either are not looked at.
+ *
+ * A kit is GUSNALIP_KIT_WORDS words: the number of its factors, then GUSNALIP_KIT_PLACES places of GUSNALIP_FACTOR_WORDS words each, filled
+ * from the front. Places past the number hold anything and mean nothing: no check looks at them, and no answer depends on them. A kit sweep's
+ * state is GUSNALIP_KIT_STATE_WORDS words: a kit, then the factor's place from 0, the next significand, and 0 or any other word for not
+ * finished or finished. Further words of either are not looked at.
  *
  * A reading of zero gives a zero, multiplied on either device (marked right) or divided: minus zero where one of reading and factor has a
  * minus and the other has not, else plus zero, whatever sign the low part has.
@@ -39,6 +45,9 @@
 #define GUSNALIP_TALLY_WORDS 3
 #define GUSNALIP_STATE_WORDS 14
 #define GUSNALIP_COUNT_WORDS 3
+#define GUSNALIP_KIT_PLACES 96
+#define GUSNALIP_KIT_WORDS 961
+#define GUSNALIP_KIT_STATE_WORDS 964
 
 #define GUSNALIP_ACCEPTED 0
 #define GUSNALIP_RIGHT 1
@@ -49,6 +58,9 @@
 #define GUSNALIP_ABOVE 3
 #define GUSNALIP_PLUS 0
 #define GUSNALIP_MINUS 1
+#define GUSNALIP_CLEAN 1
+#define GUSNALIP_NOT_CLEAN 2
+#define GUSNALIP_UNFINISHED 3
 #define GUSNALIP_DAMAGED 31
 #define GUSNALIP_TOO_SHORT 255
 
@@ -95,6 +107,25 @@ uint32_t gusnalip_new_sweep(const uint64_t *factor, size_t factor_length, uint64
  * place on, and trials, rounds and the next first free place in counts; or a refusal 31, 32, 33, 18 or 19, and nothing is written. */
 uint32_t gusnalip_sweep(uint64_t *state, size_t state_length, uint64_t cap, uint32_t *list, size_t list_length, size_t free, uint64_t *counts,
                         size_t counts_length);
+
+/* Forms a kit: 0, or the first of the refusals 42 (no factor, or more than there are places), 31 (of any factor counted) and 43 (two of them
+ * alike in sign, precision, scale and both ends). */
+uint32_t gusnalip_form_kit(const uint64_t *kit, size_t kit_length);
+
+/* Begins a kit sweep: 0 and the state's words, those of the kit as they were given, or the refusal 42, 31 or 43. */
+uint32_t gusnalip_new_kit_sweep(const uint64_t *kit, size_t kit_length, uint64_t *out, size_t out_length);
+
+/* Goes on with a kit sweep, through the factors in their order and all significands of each, with one cap and one list for the call. An entry
+ * takes two words of the list: the factor's place, then the word that a sweep lists. The call stops before a suspect when the cap is reached or
+ * fewer than two places are free. 0, with place, next significand and finished mark in the state, whose kit is not written, the entries in the
+ * list from its first free place on, and trials and rounds, added up over the factors searched in, and the next first free place in counts; or
+ * a refusal 42, 31, 43, 32, 33, 18 or 44 (fewer than two free places), and nothing is written. A kit must not be altered between its calls. */
+uint32_t gusnalip_kit_sweep(uint64_t *state, size_t state_length, uint64_t cap, uint32_t *list, size_t list_length, size_t free, uint64_t *counts,
+                            size_t counts_length);
+
+/* What a state tells of its kit, with how many entries all calls since the new state wrote: GUSNALIP_CLEAN (every significand of every factor is
+ * right), GUSNALIP_NOT_CLEAN, or GUSNALIP_UNFINISHED where the sweep is not; or a refusal 42, 31, 43 or 32. */
+uint32_t gusnalip_kit_clean(const uint64_t *state, size_t state_length, uint64_t entries);
 
 #ifdef __cplusplus
 }
