@@ -108,8 +108,8 @@ uint32_t gusnalip_new_sweep(const uint64_t *factor, size_t factor_length, uint64
 uint32_t gusnalip_sweep(uint64_t *state, size_t state_length, uint64_t cap, uint32_t *list, size_t list_length, size_t free, uint64_t *counts,
                         size_t counts_length);
 
-/* Forms a kit: 0, or the first of the refusals 42 (no factor, or more than there are places), 31 (of any factor counted) and 43 (two of them
- * alike in sign, precision, scale and both ends). */
+/* Forms a kit: 0, or the first of the refusals 42 (no factor, or more than there are places), 31 (of any factor counted) and 43 (two of those
+ * counted alike in sign, precision, scale and both ends). */
 uint32_t gusnalip_form_kit(const uint64_t *kit, size_t kit_length);
 
 /* Begins a kit sweep: 0 and the state's words, those of the kit as they were given, or the refusal 42, 31 or 43. */
@@ -117,14 +117,15 @@ uint32_t gusnalip_new_kit_sweep(const uint64_t *kit, size_t kit_length, uint64_t
 
 /* Goes on with a kit sweep, through the factors in their order and all significands of each, with one cap and one list for the call. An entry
  * takes two words of the list: the factor's place, then the word that a sweep lists. The call stops before a suspect when the cap is reached or
- * fewer than two places are free. 0, with place, next significand and finished mark in the state, whose kit is not written, the entries in the
- * list from its first free place on, and trials and rounds, added up over the factors searched in, and the next first free place in counts; or
- * a refusal 42, 31, 43, 32, 33, 18 or 44 (fewer than two free places), and nothing is written. A kit must not be altered between its calls. */
+ * fewer than two places are free. 0, with place, next significand and finished mark written into the state, and nothing else of it, the entries
+ * in the list from its first free place on, and in counts trials and rounds, added up over the factors searched in, and the next first free
+ * place; or a refusal 42, 31, 43, 32, 33, 18 or 44 (fewer than two free places), and nothing is written. */
 uint32_t gusnalip_kit_sweep(uint64_t *state, size_t state_length, uint64_t cap, uint32_t *list, size_t list_length, size_t free, uint64_t *counts,
                             size_t counts_length);
 
-/* What a state tells of its kit, with how many entries all calls since the new state wrote: GUSNALIP_CLEAN (every significand of every factor is
- * right), GUSNALIP_NOT_CLEAN, or GUSNALIP_UNFINISHED where the sweep is not; or a refusal 42, 31, 43 or 32. */
+/* What a state tells of its kit, with how many entries all calls since the new state wrote, nothing else having altered it: GUSNALIP_CLEAN (every
+ * significand of every factor is right), GUSNALIP_NOT_CLEAN, or GUSNALIP_UNFINISHED where the sweep is not finished; or a refusal 42, 31, 43 or
+ * 32. */
 uint32_t gusnalip_kit_clean(const uint64_t *state, size_t state_length, uint64_t entries);
 
 #ifdef __cplusplus

@@ -304,7 +304,17 @@ fn whole_kits(random: &mut Random) -> u64 {
         (answers, listed) = (answers + compared, listed + entries);
     }
     assert!(listed > 1000, "{listed}");
-    answers
+    // One of many suspects, all of them open, between others.
+    let [(_, scale, lower, upper), (_, _, other_lower, other_upper)] = [KNOWN[4], KNOWN[0]];
+    let many = set_up(false, 24, scale, lower, upper).expect("an accepted factor");
+    let few = set_up(true, 24, scale, other_lower, other_upper).expect("an accepted factor");
+    let kit = Kit { factors: vec![few, many, few.opposite(), many.opposite()] };
+    let row = suspects::row(&many, least(24), greatest(24));
+    let row_of =
+        |factor: &Factor| if factor.lower == lower { row.clone() } else { rows[&(other_lower, other_upper)].clone() };
+    let (compared, entries) = to_the_finish(random, &kit, row_of);
+    assert_eq!(entries, 2 * 66_052);
+    answers + compared
 }
 
 /// Place, next significand and finished mark at will, most of them such that a call is accepted.
