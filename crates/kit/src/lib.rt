@@ -235,10 +235,11 @@ fn goes_on(w: Work, more: bool) -> bool
 fn resumed(w: Work, part: SweepState) -> Work
     ensures { λ r. ⌜ r ≡ resumedAt w (part .first) ⌝ }
 {
+    let rounds = w.rounds;
     Work {
         at: part.first,
         trials: w.trials,
-        rounds: w.rounds,
+        rounds,
         place: w.place,
         going: true,
         word: 0,
