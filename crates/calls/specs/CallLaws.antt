@@ -5,7 +5,7 @@ use Prim.Native.Nat.{ℕ, _+_, _≤_, min}
 use native.Mathlib.Omega.{arith}
 use native.Mathlib.Nat.{le-trans, mul-le-mul-left}
 use lib.ListN.{length, drop}
-use Rattle.marks.specs.Answers.{Refusal, number, none, judged}
+use Rattle.marks.specs.Answers.{Refusal, number, none, judged, Outcome, refused, accepted}
 use Rattle.search.specs.declared.Place.{Place}
 use Rattle.search.specs.declared.Place.the-variants.{At, Nowhere}
 use Rattle.calls.specs.State.{State, Call, termsOf, Listing, entries, roomIn}
@@ -19,6 +19,11 @@ use Rattle.calls.specs.RunLaws.{run-is, left-is, rounds-few}
 use Rattle.calls.specs.RefusalLaws.{Ready, ready}
 use Rattle.calls.specs.TrialLaws.{tries-within, tries-capped, tries-ample, words-fit}
 use Rattle.calls.specs.ListLaws.{entries-fit, tail-kept}
+
+-- What follows from what holds of an accepted call's answer holds of it too.
+pub if-accepted : {A : Type 0} {P Q : A → Type 0} → ((a : A) → P a → Q a) → (o : Outcome A) → IfAccepted P o → IfAccepted Q o
+if-accepted f (refused n) p = tt
+if-accepted f (accepted a) p = f a p
 
 -- The state that is handed back tells where a call stopped.
 pub stop-is : {U : Type 0} (e : Engine U) (s : State U) (p : Place) → stopOf (handed e s p) ≡ p

@@ -160,9 +160,9 @@ module _ (i : ℕ) where
       omega (arith, q .0),
       (λ u. same Y (omega (arith, q .0)) (omega arith) ∙ q .1 (omega arith)),
       (λ Z u v w.
-      let W : ℕ = Z - position i 0 in
-      let e : position i W ≡ Z = omega arith in
-      subst (λ (z : ℕ). all z ≡ false) e (same W (omega arith) (omega arith) ∙ q .2 W (omega arith) (omega arith) (omega arith))),
+          let W : ℕ = Z - position i 0 in
+          let e : position i W ≡ Z = omega arith in
+          subst (λ (z : ℕ). all z ≡ false) e (same W (omega arith) (omega arith) ∙ q .2 W (omega arith) (omega arith) (omega arith))),
     )
 
     at-finds : (l : List Section) → AllOf (λ s. (first ≤ s .from) × (s .end ≤ suc last)) l → AllOf (Finds own B) l → AllOf (Finds all M) (map (sectionAt i) l)

@@ -24,7 +24,7 @@ use Rattle.calls.specs.KitLaws.{significand-of, all-at, all-drop, drop-n
 -- One search, or else another, or else a third.
 or-else : (p : Place) (m : ℕ) (q : Place) (n : ℕ) (x : Found)
     → let v : Found = record { place = p; rounds = m } in let w : Found = record { place = q; rounds = n } in
-      orElse p v (orElse q w x) ≡ orElse (orElse p v w .place) (orElse p v w) x
+    orElse p v (orElse q w x) ≡ orElse (orElse p v w .place) (orElse p v w) x
 or-else (At X) m q n x = refl
 or-else Nowhere m (At Y) n x = refl
 or-else Nowhere m Nowhere n x = λ i. record { place = x .place; rounds = sym (add-assoc m n (x .rounds)) i }
@@ -168,7 +168,7 @@ module _ {F U : Type 0} {suspect : U → ℕ → Bool} {d : Factors F U} {B : U 
     -- Where another's finds none, the kit's goes on from the first significand of the next one.
     pub kit-next : (i : ℕ) (f g : F) (r : List F) → drop i (inKit k) ≡ f ∷ g ∷ r → (a : ℕ) → a ≤ suc (e .last (d .whole f)) → ahead e (d .whole f) a .place ≡ Nowhere
         → let b = position (suc i) (e .first (d .whole g)) in
-          ahead (kitEngine d) k (position i a) ≡ record { place = ahead (kitEngine d) k b .place; rounds = ahead e (d .whole f) a .rounds + ahead (kitEngine d) k b .rounds }
+        ahead (kitEngine d) k (position i a) ≡ record { place = ahead (kitEngine d) k b .place; rounds = ahead e (d .whole f) a .rounds + ahead (kitEngine d) k b .rounds }
     unfolding sectionsFrom
     kit-next i f g r at a upto q =
         let through = kit-through laws k good in

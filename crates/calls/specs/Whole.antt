@@ -191,7 +191,7 @@ pub record Whole {U : Type 0} (suspect : U → ℕ → Bool) (e : Engine U) (B :
   pub capped : Each (λ s c r. IfAccepted (Capped c) (r .answer)) call s calls
   -- "one search for each suspect tried, one search that finds none for each half completed, and one for the suspect stopped at"
   pub searches : Each (λ s c r. IfAccepted (SearchesRight suspect e s (r .state)) (r .answer)) call s calls
-  -- rounds are the searches' and few: of a sweep at most 64 × (trials + 2)
+  -- rounds are the searches' and few: at most B for each trial and for each search that the engine allows beyond them (of sweeps and of kits in numbers: `FewRounds` of either)
   -- (shut out: invented rounds)
   pub rounds : Each (λ s c r. IfAccepted (RoundsRight suspect e B s (r .state)) (r .answer)) call s calls
   -- the stop rule's least: an accepted call has a cap of at least 1 and room for an entry, so it tries its first suspect

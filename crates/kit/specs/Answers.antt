@@ -1,4 +1,5 @@
 -- Definitions: what the code's kits, states and answers say, in the papers' numbers and values. Assumes nothing.
+use mathlib.Core.Path.{_≡_}
 use mathlib.Core.Bool.{Bool, false, cond}
 use mathlib.Core.List.{List}
 use Prim.Native.Nat.{ℕ}
@@ -45,6 +46,14 @@ viewOf s = record { over = kitOf (s .kit); next = position (s .place) (s .next);
 abbrev pub newBy : KitState → Judgement → Outcome (State (calls.Kit Factor))
 newBy s (Judgement.Passed) = accepted (viewOf s)
 newBy s (Judgement.Refused n) = refused n
+
+-- beside a refusal stands a state that means nothing: the kit as given, at place 0 and significand 0, not finished
+abbrev Beside : Kit → KitState → Judgement → Type 0
+Beside k s (Judgement.Passed) = Unit {0}
+Beside k s (Judgement.Refused n) = s ≡ record { kit = k; place = 0; next = 0; finished = false }
+
+abbrev pub BesideRefusal : Kit → NewKitSweep → Type 0
+BesideRefusal k r = Beside k (r .state) (r .verdict)
 
 abbrev pub newOf : NewKitSweep → Outcome (State (calls.Kit Factor))
 newOf r = newBy (r .state) (r .verdict)

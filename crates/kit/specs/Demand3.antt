@@ -29,7 +29,7 @@ use Rattle.calls.specs.Whole.{sweeps, stateAfter, IfAccepted, wordsIn, Ascends,
 use Rattle.calls.specs.RowLaws.{row-ascends, row-exactly}
 use Rattle.calls.specs.RefusalLaws.{between, refused-same, over-kept}
 use Rattle.calls.specs.ListLaws.{entries-length, entries-are}
-use Rattle.calls.specs.CallLaws.{by-row, rounds-right}
+use Rattle.calls.specs.CallLaws.{if-accepted, by-row, rounds-right}
 use Rattle.calls.specs.SameLaws.{after-stands}
 use Rattle.calls.specs.Demand3.{each}
 use Rattle.calls.specs.Made as calls
@@ -263,10 +263,6 @@ module _ (k : kit.Kit Factor) (good : NoneHolds (kits .newFaults k)) where
 -- ---- rounds
 
 -- what follows from what an accepted call answers
-if-accepted : {A : Type 0} {P Q : A → Type 0} → ((a : A) → P a → Q a) → (o : Outcome A) → IfAccepted P o → IfAccepted Q o
-if-accepted f (refused n) p = tt
-if-accepted f (accepted a) p = f a p
-
 -- On every state, also one that no calls lead to.
 pub few-rounds : (s : State (kit.Kit Factor)) (c : Call) → FewRounds s c (sweepCall kits s c)
 few-rounds s c = if-accepted (λ a r. r .few) (sweepCall kits s c .answer) (rounds-right kits-lawful s c)

@@ -469,24 +469,25 @@ module _ {s : KitState} {cap : ℕ} {tail₀ : List ℕ} {i : ℕ} {part : Sweep
         → Working s cap tail₀ (i + 1) part′ h′ w′ tail × (stepsLeft s (i + 1) w′ < stepsLeft s i w)
     work-moved is are resumed =
         let some = pow-pos (g .precision .bits) in
-        rw (resumed, is)
-        (record {
-          taken = k .taken;
-          rest = drop (i + 1 + 1) (factorsIn s);
-          at = next-at;
-          first = refl;
-          last = refl;
-          are = are;
-          from = omega arith;
-          upto = omega (arith, pow-mono {i = g .precision .bits - 1} {j = g .precision .bits} (omega arith));
-          on = λ y. looping;
-          stopped = λ y. absurd (true≢false y);
-          over = λ y. absurd (true≢false y);
-          next = λ y. absurd (true≢false y);
-          fits = k .fits;
-          long = k .long;
-        },
-        rw off (omega (arith, looping .upto, k .upto, short)))
+        rw (resumed, is) (
+          record {
+            taken = k .taken;
+            rest = drop (i + 1 + 1) (factorsIn s);
+            at = next-at;
+            first = refl;
+            last = refl;
+            are = are;
+            from = omega arith;
+            upto = omega (arith, pow-mono {i = g .precision .bits - 1} {j = g .precision .bits} (omega arith));
+            on = λ y. looping;
+            stopped = λ y. absurd (true≢false y);
+            over = λ y. absurd (true≢false y);
+            next = λ y. absurd (true≢false y);
+            fits = k .fits;
+            long = k .long;
+          },
+          rw off (omega (arith, looping .upto, k .upto, short)),
+        )
 
   -- ---- the end
 

@@ -19,7 +19,7 @@ ghost use Rattle.calls.specs.Call.{newState, conditions, sweepCall};
 ghost use Rattle.calls.specs.Kit.{inKit, anyOf, twoAlike, kitFaults, position, hasIn};
 ghost use Rattle.sweep.specs.Answers.{callOf, termsBy};
 ghost use Rattle.kit.specs.Engine.{faulty, alike, factors, kits};
-ghost use Rattle.kit.specs.Answers.{kitOf, viewOf, newOf, replyOf, verdictSays, verdictOf};
+ghost use Rattle.kit.specs.Answers.{kitOf, viewOf, newOf, BesideRefusal, replyOf, verdictSays, verdictOf};
 ghost use Rattle.kit.specs.Steps.{partOf, goesOn, resumedAt, endedAt, endOf, Taken};
 
 // A kit holds up to so many factors.
@@ -347,7 +347,7 @@ pub fn kit_call(state: KitState, cap: u64, list: &mut [u32], free: usize) -> Kit
 
 // A new kit sweep: 42, 31, 43, or the state at place 0 and that factor's first significand.
 pub fn new_state(k: Kit) -> NewKitSweep
-    ensures { λ r. ⌜ newOf r ≡ newState kits (kitOf k) ⌝ }
+    ensures { λ r. ⌜ (newOf r ≡ newState kits (kitOf k)) × BesideRefusal k r ⌝ }
 {
     let verdict = kit_check(k);
     let mut state = KitState {

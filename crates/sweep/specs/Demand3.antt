@@ -4,7 +4,7 @@ use mathlib.Core.Path.{_≡_, refl, sym, ap, _∙_, subst}
 use mathlib.Core.Bool.{true, false, not}
 use mathlib.Core.Logic.{_↔_}
 use mathlib.Core.List.{List, List·Memᴰ}
-use Prim.Native.Nat.{ℕ, suc, _≤_}
+use Prim.Native.Nat.{ℕ, suc, _+_, _*_, _≤_}
 use native.Mathlib.Omega.{arith}
 use Rattle.marks.specs.Answers.{accepted}
 use Rattle.marks.specs.AnswerLaws.{only-accepted, pass, end, accepts}
@@ -20,14 +20,14 @@ use Rattle.product.specs.Marks.{markBy, SaysBy}
 use Rattle.suspects.specs.Suspects.{Suspect}
 use Rattle.calls.specs.State.{Range, State, Call}
 use Rattle.calls.specs.Engine.{fresh}
-use Rattle.calls.specs.Call.{newState, Reply, sweepCall}
+use Rattle.calls.specs.Call.{newState, Result, Reply, sweepCall}
 use Rattle.calls.specs.ByRow.{rowCall}
 use Rattle.calls.specs.Plain.{row, untried, Seen}
-use Rattle.calls.specs.Whole.{sweeps, stateAfter, wordsIn, endOf, Ascends, Holds, fedBy, plainEnd, Whole}
+use Rattle.calls.specs.Whole.{sweeps, stateAfter, IfAccepted, wordsIn, endOf, Ascends, Holds, fedBy, plainEnd, Whole}
 use Rattle.calls.specs.RowLaws.{row-ascends, row-exactly}
 use Rattle.calls.specs.ListLaws.{entries-are}
-use Rattle.calls.specs.CallLaws.{by-row}
-use Rattle.calls.specs.Demand3.{whole-sweep}
+use Rattle.calls.specs.CallLaws.{if-accepted, by-row, rounds-right}
+use Rattle.calls.specs.Demand3.{whole-sweep, each}
 use Rattle.calls.specs.Made as calls
 use Rattle.calls.specs.Made.{repliesBy}
 use Rattle.sweep.specs.declared.SweepState.{SweepState}
@@ -79,7 +79,15 @@ seenIn = calls.seenIn asked replyIn
 abbrev pub lastIn : State (Range Factor) → List Made → State (Range Factor)
 lastIn = calls.lastIn asked replyIn
 
+-- P of each of them, with the state that it was given and its reply
+abbrev pub EachIn : (State (Range Factor) → Call → Reply (Range Factor) → Type 0) → State (Range Factor) → List Made → Type 0
+EachIn = calls.EachIn asked replyIn
+
 -- ---- demand 3
+
+-- "its rounds are at most 64 × (its trials + 2)", of an accepted call
+abbrev pub FewRounds : (before : State (Range Factor)) → Call → Reply (Range Factor) → Type 0
+FewRounds s c r = IfAccepted (λ (a : Result). a .rounds ≤ 64 * (a .trials + 2)) (r .answer)
 
 -- The calls that were made from a state s. What stands in quotes is document 01's.
 pub record Demand3 (s : State (Range Factor)) (made : List Made) : Type 0 where
@@ -99,6 +107,12 @@ pub record Demand3 (s : State (Range Factor)) (made : List Made) : Type 0 where
   -- "Marks are those of demand 2": the mark of the product, which says what it must of every fraction between the ends
   pub marks : (X : ℕ) → fedBy suspectIn engine (s .over) .mark X ≡ markBy (s .over .factor) X (productBy (s .over .factor) X)
   pub tells : (X : ℕ) → HasBits (s .over .factor .precision .bits) X → SaysBy (s .over .factor) X (productBy (s .over .factor) X) (fedBy suspectIn engine (s .over) .mark X)
+  -- rounds are few
+  pub rounds : EachIn FewRounds s made
+
+-- On every state, also one that no calls lead to.
+pub few-rounds : (s : State (Range Factor)) (c : Call) → FewRounds s c (sweepCall engine s c)
+few-rounds s c = if-accepted (λ a r. r .few) (sweepCall engine s c .answer) (rounds-right lawful s c)
 
 -- Entries are the listed words, so that the joined words themselves hold exactly the significands that are not right, once each, ascending, with their marks.
 pub joined-words : {call : State (Range Factor) → Call → Reply (Range Factor)} {s : State (Range Factor)} {calls : List Call} → Whole suspectIn engine mostIn call s calls
@@ -131,11 +145,12 @@ demand-3 f first last s q made k =
       ascending = row-ascends (suspect (s .factor)) (s .first) (suc (s .last));
       marks = λ X. refl;
       tells = mark-is (s .factor) sound;
+      rounds = calls.kept-each asked replyIn (sweepCall engine) FewRounds (viewOf s) made k (each FewRounds (sweepCall engine) few-rounds (viewOf s) (askedIn made));
     }
 
 -- ---- one call
 
 -- On every state, also one that no calls lead to, what the searches make of a call is what is read off the row of suspects: answer, state, list and
--- counts. Its rounds are so given a second time, as a sum over the starts of its searches.
+-- counts. Its rounds are so given a second time, as the sum of those of its searches.
 pub call-by-row : (s : State (Range Factor)) (c : Call) → sweepCall engine s c ≡ rowCall suspectIn engine s c
 call-by-row = by-row lawful

@@ -50,7 +50,7 @@ answer c =
     let told = from .before in
     let a = start told .args in
     ap (taken (start told)) (kit-passed (a .kit .now) 961 (length (a .out .now)) 964 (told .before .before .take-kit .ensures) (told .enum-told .given .1))
-    ∙ ap (newKitAnswer (a .kit .now)) (sym (c .new-state .ensures ∙ ap (newState kits) (from .kit-from .ensures)))
+    ∙ ap (newKitAnswer (a .kit .now)) (sym (c .new-state .ensures .0 ∙ ap (newState kits) (from .kit-from .ensures)))
 
 -- where it has a verdict
 told-by : (c : tie.After-new-state) (v : Judgement) → c .new-state .result .verdict ≡ v
@@ -84,12 +84,13 @@ returns-3 : tie.Need-returns-3
 returns-3 c =
     let a = start (begun c .before .before) .args in
     let s = begun c .new-state .result .state in
-    gives (a .out .now)
-    (refl,
-    put c .put-behind .ensures
-    ∙ ap (λ (l : List ℕ). sets l 961 (s .place ∷ s .next ∷ flagWord (s .finished) ∷ [])) (copied c .copy-kit .ensures)
-    ∙ kit-words (a .out .now) (a .kit .now) (s .place ∷ s .next ∷ flagWord (s .finished) ∷ []) (lists (begun c .before .before) .long)
-    ∙ ap (λ (l : List ℕ). sets (a .out .now) 0 (take 961 (a .kit .now) ++ l)) (sym (behind-is s (word (state c)))))
+    gives (a .out .now) (
+      refl,
+      put c .put-behind .ensures
+          ∙ ap (λ (l : List ℕ). sets l 961 (s .place ∷ s .next ∷ flagWord (s .finished) ∷ [])) (copied c .copy-kit .ensures)
+          ∙ kit-words (a .out .now) (a .kit .now) (s .place ∷ s .next ∷ flagWord (s .finished) ∷ []) (lists (begun c .before .before) .long)
+          ∙ ap (λ (l : List ℕ). sets (a .out .now) 0 (take 961 (a .kit .now) ++ l)) (sym (behind-is s (word (state c)))),
+    )
     (told-by (begun c) Judgement.Passed (state c .before .enum-told2 .given .1))
 
 copy-kit-requires : tie.Need-copy-kit-requires

@@ -1,5 +1,5 @@
 -- `kit::new_state` meets its contract: refused, or at the first factor's least significand. Assumes nothing.
-use mathlib.Core.Path.{_≡_, sym, _∙_}
+use mathlib.Core.Path.{_≡_, refl, sym, _∙_}
 use lib.ListN.{length, length-map}
 use borrow.Author.Needs.{needs}
 use Rattle.marks.specs.AnswerLaws.{judged-passed}
@@ -21,13 +21,13 @@ least-requires c κs =
     sound-at k (long start) good 0 (number-some k (long start) good) .precision
 
 returns : tie.Need-returns
-returns c = new-refused (c .before .before .before .args .t1) (c .before .before .kit-check .ensures) _ (c .enum-told .given .1)
+returns c = (new-refused (c .before .before .before .args .t1) (c .before .before .kit-check .ensures) _ (c .enum-told .given .1), rw (c .enum-told .given .1) refl)
 
 returns-2 : tie.Need-returns-2
 returns-2 c =
     let told = c .before .before .before in
     let start = told .before .before .before in
-    new-passed (start .args .t1) (told .before .before .kit-check .ensures) (long start) (told .enum-told2 .given .1) (c .least .ensures)
+    (new-passed (start .args .t1) (told .before .before .kit-check .ensures) (long start) (told .enum-told2 .given .1) (c .least .ensures), rw (told .enum-told2 .given .1) tt)
 
 pub new-state-spec : {M : Type 1} → statement M
 new-state-spec =

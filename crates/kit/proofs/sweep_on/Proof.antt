@@ -216,9 +216,10 @@ returns c =
     let done = c .before in
     let at = done .before .before .before in
     let l = at .loop in
-    let s = start (begun at) .args .s in
-    (ap (λ (r : Halt). endOf s r (l .tail)) (c .ended .ensures) ∙ work-done (l .inv) refl (sym (done .before .goes-on .ensures) ∙ done .if1 .left),
-    omega (arith, ap (λ (r : Halt). r .place) (c .ended .ensures), ended-place (l .i) (l .part .last) (l .w), l .inv .fits))
+    let s = start (begun at) .args .s in (
+      ap (λ (r : Halt). endOf s r (l .tail)) (c .ended .ensures) ∙ work-done (l .inv) refl (sym (done .before .goes-on .ensures) ∙ done .if1 .left),
+      omega (arith, ap (λ (r : Halt). r .place) (c .ended .ensures), ended-place (l .i) (l .part .last) (l .w), l .inv .fits),
+    )
 
 pub sweep-on-spec : {M : Type 1} → statement M
 sweep-on-spec =
