@@ -1,23 +1,31 @@
 -- Laws for a loop over the factors of a kit: what the search in a factor finds is what the kit's search finds, and where it finds none, the kit's goes on in the next. Assumes nothing.
 use mathlib.Core.Path.{_≡_, refl, sym, ap, ap₂, _∙_, subst}
-use mathlib.Core.Bool.{Bool, true, false, cond}
-use mathlib.Core.List.{List, [], _∷_, _++_, map}
-use Prim.Native.Nat.{ℕ, zero, suc, _+_, _-_, _*_, _%_, _^_, _≤_, _<_, max}
+use mathlib.Core.Bool.{Bool, cond}
+use mathlib.Core.Logic.{_⊎_, inl, inr}
+use mathlib.Core.List.{List, [], _∷_, _++_, map, append-assoc, append-nil}
+use Prim.Native.Nat.{ℕ, zero, suc, _+_, _-_, _*_, _≤_, _<_}
 use native.Mathlib.Omega.{arith}
-use native.Mathlib.Nat.{add-zero, zero-add, add-assoc}
+use native.Mathlib.Nat.{add-zero, zero-add, add-assoc, sub-zero}
 use native.Mathlib.Decide.{decLt}
 use borrow.Author.Tests.{lt-ltb, le-ltb}
 use lib.Dec.{ltb}
-use lib.ListN.{length, drop}
+use lib.ListN.{length, drop, length-append}
+use Rattle.marks.specs.declared.Mark.{Mark}
+use Rattle.marks.specs.declared.Mark.the-variants.{Right, Open, Wrong}
 use Rattle.marks.specs.Answers.{NoneHolds}
 use Rattle.search.specs.declared.Place.{Place}
 use Rattle.search.specs.declared.Place.the-variants.{At, Nowhere}
 use Rattle.search.specs.declared.Found.{Found}
+use Rattle.calls.specs.State.{listed}
 use Rattle.calls.specs.Engine.{Section, startIn, Engine, AllOf, Chain}
-use Rattle.calls.specs.Call.{within, noneAfter, sought, orElse, seek, ahead}
+use Rattle.calls.specs.Call.{within, noneAfter, sought, orElse, seek, ahead, Run, over, stopped, tried, run}
 use Rattle.calls.specs.SearchLaws.{chain-ends}
-use Rattle.calls.specs.Kit.{Kit, inKit, kitFaults, placeSize, position, placeIn, significandIn, Factors, placeAt, foundAt, sectionAt, sectionsFrom, kitEngine}
+use Rattle.calls.specs.LoopLaws.{run-halts, triedAfter, run-tries, run-passes}
+use Rattle.calls.specs.RunLaws.{ahead-found}
+use Rattle.calls.specs.TrialLaws.{listed-length}
+use Rattle.calls.specs.Kit.{Kit, inKit, kitFaults, placeSize, position, Factors, markIn, placeAt, foundAt, sectionAt, sectionsFrom, kitEngine}
 use Rattle.calls.specs.KitLaws.{significand-of, all-at, all-drop, drop-next, chain-within, at-chain, sections-chain, FactorLaws, laws-of, Passed, kit-through}
+use Rattle.calls.specs.KitRows.{same-marks}
 
 -- ---- searches in lists of sections
 
@@ -180,3 +188,165 @@ module _ {F U : Type 0} {suspect : U → ℕ → Bool} {d : Factors F U} {B : U 
         seek-before b _ (position i a) b (sectionsFrom d (suc i) (g ∷ r)) (sections-chain laws (suc i) g r (subst (AllOf (Passed laws)) next later)) (omega arith) (omega arith)
         ∙ sym (seek-from (suc i) 0 (inKit k) b through (omega arith) ∙ ap₂ (λ (n : ℕ) (l : List F). seek (sectionsFrom d n l) b) (zero-add (suc i)) next) in
         none-here k good i f (g ∷ r) at a q ∙ ap (λ (w : Found). record { place = w .place; rounds = ahead e (d .whole f) a .rounds + w .rounds }) same
+
+-- ---- runs
+
+-- A listed word at a place.
+abbrev pub wordAt : (i w : ℕ) → ℕ
+wordAt i w = i * (2 * placeSize) + w
+
+-- What is done in a factor at a place, and, where no suspect is left there, what is done past it.
+abbrev pub joinAt : (i : ℕ) → Run → Place → Run → Run
+joinAt i r (At X) q = record { trials = r .trials; rounds = r .rounds; words = map (wordAt i) (r .words); left = At (position i X) }
+joinAt i r Nowhere q = record { trials = r .trials + q .trials; rounds = r .rounds + q .rounds; words = map (wordAt i) (r .words) ++ q .words; left = q .left }
+
+-- What is left to do past a factor: nothing, where the call stops at a suspect.
+abbrev pub afterAt : (i : ℕ) → Place → Run → Run
+afterAt i (At X) q = stopped (position i X)
+afterAt i Nowhere q = q
+
+-- What is done in the factor comes first.
+pub join-adds : (i : ℕ) (r : Run) (p : Place) (q : Run)
+    → joinAt i r p q
+    ≡ record {
+      trials = r .trials + afterAt i p q .trials;
+      rounds = r .rounds + afterAt i p q .rounds;
+      words = map (wordAt i) (r .words) ++ afterAt i p q .words;
+      left = afterAt i p q .left;
+    }
+join-adds i r Nowhere q = refl
+join-adds i r (At X) q =
+    λ j. record {
+      trials = sym (add-zero (r .trials)) j;
+      rounds = sym (add-zero (r .rounds)) j;
+      words = sym (append-nil (map (wordAt i) (r .words))) j;
+      left = At (position i X);
+    }
+
+-- The listed word of a position is that of its significand, at the place.
+listed-at : (i X : ℕ) (m : Mark) → listed m (position i X) ≡ map (wordAt i) (listed m X)
+listed-at i X Right = refl
+listed-at i X Open = let e : 2 * position i X + 1 ≡ wordAt i (2 * X + 1) = omega arith in rw e
+listed-at i X Wrong = let e : 2 * position i X ≡ wordAt i (2 * X) = omega arith in rw e
+
+map-join : (i : ℕ) (k l : List ℕ) → map (wordAt i) (k ++ l) ≡ map (wordAt i) k ++ map (wordAt i) l
+map-join i [] l = refl
+map-join i (x ∷ k) l = ap (λ (m : List ℕ). wordAt i x ∷ m) (map-join i k l)
+
+-- One more is tried before what is joined.
+join-tried : (i X n : ℕ) (m : Mark) (r q : Run) (p : Place)
+    → record {
+      trials = suc (joinAt i r p q .trials);
+      rounds = n + joinAt i r p q .rounds;
+      words = listed m (position i X) ++ joinAt i r p q .words;
+      left = joinAt i r p q .left;
+    }
+    ≡ joinAt i (record { trials = suc (r .trials); rounds = n + r .rounds; words = listed m X ++ r .words; left = r .left }) p q
+join-tried i X n m r q (At Y) = rw (listed-at i X m, map-join i (listed m X) (r .words))
+join-tried i X n m r q Nowhere =
+    λ j. record { trials = sums j; rounds = sym (add-assoc n (r .rounds) (q .rounds)) j; words = words j; left = q .left }
+  where
+    sums : suc (r .trials + q .trials) ≡ suc (r .trials) + q .trials
+    sums = omega arith
+
+    words : listed m (position i X) ++ (map (wordAt i) (r .words) ++ q .words) ≡ map (wordAt i) (listed m X ++ r .words) ++ q .words
+    words =
+        ap (λ (l : List ℕ). l ++ (map (wordAt i) (r .words) ++ q .words)) (listed-at i X m)
+        ∙ sym (append-assoc (map (wordAt i) (listed m X)) (map (wordAt i) (r .words)) (q .words))
+        ∙ ap (λ (l : List ℕ). l ++ q .words) (sym (map-join i (listed m X) (r .words)))
+
+module _ {F U : Type 0} {suspect : U → ℕ → Bool} {d : Factors F U} {B : U → ℕ} {M : ℕ} (laws : FactorLaws suspect d B M)
+    (k : Kit F) (good : NoneHolds (kitFaults (d .faulty) (d .alike) k)) (i : ℕ) (f : F) (r : List F) (at : drop i (inKit k) ≡ f ∷ r) where
+  -- what is done in the factor from a significand on
+  abbrev here : (cap room a : ℕ) → Run
+  here cap room a = run (d .engine) (d .whole f) cap room a
+
+  -- what is done past it, from the first significand of the next one on
+  abbrev pastIt : List F → (cap room : ℕ) → Run
+  pastIt [] cap room = over
+  pastIt (g ∷ l) cap room = run (kitEngine d) k cap room (position (suc i) (d .engine .first (d .whole g)))
+
+  -- where the search in the factor finds none, whatever cap and room are
+  passed-on : (cap room a : ℕ) → a ≤ suc (d .engine .last (d .whole f)) → ahead (d .engine) (d .whole f) a .place ≡ Nowhere
+      → run (kitEngine d) k cap room (position i a)
+      ≡ joinAt i (record { trials = 0; rounds = ahead (d .engine) (d .whole f) a .rounds + 0; words = []; left = Nowhere }) Nowhere (pastIt r cap room)
+  passed-on cap room a upto q = go r at
+    where
+      n : ℕ
+      n = ahead (d .engine) (d .whole f) a .rounds
+
+      go : (l : List F) → drop i (inKit k) ≡ f ∷ l
+          → run (kitEngine d) k cap room (position i a) ≡ joinAt i (record { trials = 0; rounds = n + 0; words = []; left = Nowhere }) Nowhere (pastIt l cap room)
+      go [] e =
+          let none = kit-over laws k good i f e a q in
+          run-halts (kitEngine d) k cap room (position i a) (inl (ap (λ (w : Found). w .place) none))
+          ∙ (λ j. record { trials = 0; rounds = rounds none j; words = []; left = none j .place })
+        where
+          rounds : ahead (kitEngine d) k (position i a) ≡ noneAfter n → ahead (kitEngine d) k (position i a) .rounds + 0 ≡ n + 0 + 0
+          rounds none = omega (arith, ap (λ (w : Found). w .rounds) none)
+      go (g ∷ l) e =
+          let b : ℕ = position (suc i) (d .engine .first (d .whole g)) in
+          run-passes (kitEngine d) k cap room (position i a) b n (kit-next laws k good i f g l e a upto q)
+          ∙ (λ j. record {
+            trials = sym (zero-add (run (kitEngine d) k cap room b .trials)) j;
+            rounds = ap (λ (m : ℕ). m + run (kitEngine d) k cap room b .rounds) (sym (add-zero n)) j;
+            words = run (kitEngine d) k cap room b .words;
+            left = run (kitEngine d) k cap room b .left;
+          })
+
+  abbrev foundHere : ℕ → Found
+  foundHere a = ahead (d .engine) (d .whole f) a
+
+  -- what a kit call does from a on is what is done in the factor, x, and past it
+  abbrev Joined : (cap room a : ℕ) → Run → Type 0
+  Joined cap room a x = run (kitEngine d) k cap room (position i a) ≡ joinAt i x (x .left) (pastIt r (cap - x .trials) (room - length (x .words)))
+
+  -- nothing is tried in the factor
+  halted-at : (cap room a : ℕ) → a ≤ suc (d .engine .last (d .whole f)) → (foundHere a .place ≡ Nowhere) ⊎ (cap ≡ 0) ⊎ (room ≡ 0) → Joined cap room a (here cap room a)
+  halted-at cap room a upto h = subst (Joined cap room a) (sym (run-halts (d .engine) (d .whole f) cap room a h)) (go (foundHere a .place) refl h)
+    where
+      go : (p : Place) → foundHere a .place ≡ p → (foundHere a .place ≡ Nowhere) ⊎ (cap ≡ 0) ⊎ (room ≡ 0) → Joined cap room a (record { trials = 0; rounds = foundHere a .rounds + 0; words = []; left = p })
+      go (At X) q (inl e) = let z : _≡_ {A = ℕ} 0 1 = cc in absurd (omega arith)
+      go (At X) q (inr e) =
+          let there = kit-found laws k good i f r at a X q in
+          run-halts (kitEngine d) k cap room (position i a) (inr e) ∙ (λ j. record { trials = 0; rounds = there j .rounds + 0; words = []; left = there j .place })
+      go Nowhere q e =
+          passed-on cap room a upto q
+          ∙ ap₂ (λ (c m : ℕ). joinAt i (record { trials = 0; rounds = foundHere a .rounds + 0; words = []; left = Nowhere }) Nowhere (pastIt r c m)) (sym (sub-zero cap)) (sym (sub-zero room))
+
+  -- a suspect of the factor is tried
+  tried-at : (cap room a X : ℕ) → d .engine .first (d .whole f) ≤ a → a ≤ suc (d .engine .last (d .whole f)) → foundHere a .place ≡ At X
+      → ((room b : ℕ) → d .engine .first (d .whole f) ≤ b → b ≤ suc (d .engine .last (d .whole f)) → Joined cap room b (here cap room b)) → Joined (suc cap) (suc room) a (here (suc cap) (suc room) a)
+  unfolding markIn
+  tried-at cap room a X from upto q ih =
+      let through = kit-through laws k good in
+      let passes = all-at (Passed laws) i (inKit k) r f through at in
+      let inside = ahead-found (laws-of laws f passes) a from upto X q in
+      let m : Mark = d .engine .mark (d .whole f) X in
+      let less : ℕ = suc room - length (listed m X) in
+      let marked : markIn d k (position i X) ≡ m = same-marks laws (inKit k) through i f r at passes X (omega (arith, inside .0)) (omega (arith, inside .1)) in
+      let there = kit-found laws k good i f r at a X q in
+      let one : suc (position i X) ≡ position i (suc X) = omega arith in
+      let long : length (listed m (position i X)) ≡ length (listed m X) = listed-length m (position i X) ∙ sym (listed-length m X) in
+      let rest : Run = here cap less (suc X) in
+      let next = ih less (suc X) (omega (arith, inside .0)) (omega (arith, inside .1)) in
+      let words : suc room - length (listed m X) - length (rest .words) ≡ suc room - length (listed m X ++ rest .words) = omega (arith, length-append (listed m X) (rest .words)) in
+      let caps : cap - rest .trials ≡ suc cap - suc (rest .trials) = omega arith in
+      subst (Joined (suc cap) (suc room) a) (sym (run-tries (d .engine) (d .whole f) cap room a X q))
+      (run-tries (kitEngine d) k cap room (position i a) (position i X) (ap (λ (w : Found). w .place) there)
+      ∙ (λ j. triedAfter (there j .rounds) (marked j) (position i X) (run (kitEngine d) k cap (suc room - length (listed (marked j) (position i X))) (one j)))
+      ∙ ap (λ (x : ℕ). triedAfter (foundHere a .rounds) m (position i X) (run (kitEngine d) k cap (suc room - x) (position i (suc X)))) long
+      ∙ ap (triedAfter (foundHere a .rounds) m (position i X)) next
+      ∙ join-tried i X (foundHere a .rounds) m rest (pastIt r (cap - rest .trials) (less - length (rest .words))) (rest .left)
+      ∙ ap₂ (λ (c x : ℕ). joinAt i (triedAfter (foundHere a .rounds) m X rest) (rest .left) (pastIt r c x)) caps words)
+
+  -- What a kit call does from a significand of a factor on is what is done in the factor, and, where no suspect is left there, what is done past it with the cap and the room that remain.
+  pub run-at : (cap room a : ℕ) → d .engine .first (d .whole f) ≤ a → a ≤ suc (d .engine .last (d .whole f)) → Joined cap room a (here cap room a)
+  run-at zero room a from upto = halted-at zero room a upto (inr (inl refl))
+  run-at (suc cap) zero a from upto = halted-at (suc cap) zero a upto (inr (inr refl))
+  run-at (suc cap) (suc room) a from upto = go (foundHere a .place) refl (λ room b i j. run-at cap room b i j)
+    where
+      go : (p : Place) → foundHere a .place ≡ p → ((room b : ℕ) → d .engine .first (d .whole f) ≤ b → b ≤ suc (d .engine .last (d .whole f)) → Joined cap room b (here cap room b))
+          → Joined (suc cap) (suc room) a (here (suc cap) (suc room) a)
+      go Nowhere q ih = halted-at (suc cap) (suc room) a upto (inl q)
+      go (At X) q ih = tried-at cap room a X from upto q ih

@@ -1,6 +1,6 @@
 -- Laws of entries, and of lists into which words are written from a place on. Assumes nothing.
-use mathlib.Core.Path.{_≡_, refl, sym, ap, _∙_}
-use mathlib.Core.List.{List, [], _∷_, _++_, append-assoc, append-nil}
+use mathlib.Core.Path.{_≡_, refl, sym, ap, ap₂, _∙_}
+use mathlib.Core.List.{List, [], _∷_, _++_, map, append-assoc, append-nil}
 use Prim.Native.Nat.{ℕ, suc, _+_, _-_, _*_, _/_, _≤_}
 use native.Mathlib.Omega.{arith}
 use native.Mathlib.Nat.{add-zero, add-suc, zero-mul, suc-mul, le-add-right, div-one, le-div-iff-mul-le, add-mul-div-right}
@@ -11,7 +11,7 @@ use lib.ListN.{length, set, take, drop, length-append, length-drop, take-append-
 use lib.Seq.{sets, length-sets, sets-eq, slice, take-at, drop-at, length-take-le, take-set-le, drop-set-add, drop-length, take-length}
 use Rattle.marks.specs.Answers.{judged}
 use Rattle.calls.specs.State.{Call, Terms, Listing, entries, roomIn, wordList}
-use Rattle.calls.specs.Engine.{ListingLaws}
+use Rattle.calls.specs.Engine.{ListingLaws, AllOf}
 use Rattle.calls.specs.Plain.{tries, Fed, Plain, untried, plainReplied, plainCall}
 use Rattle.calls.specs.Whole.{Tail}
 
@@ -52,6 +52,12 @@ word-laws =
       takes = λ t h. (omega (arith, eqb-false (t .cap) 0 (h .0)), omega (arith, leb-false (t .size) (t .free) (h .1 .0)));
       tails = λ t h. (h .0, (lt-leb (t .size - t .free) 0 (omega (arith, leb-false (t .size) (t .free) (h .1 .0))), tt));
     }
+
+-- Words that one list keeps as another keeps their images.
+pub entries-map : (l m : Listing) (g : ℕ → ℕ) (words : List ℕ) → AllOf (λ (w : ℕ). l .entry (g w) ≡ m .entry w) words → entries l (map g words) ≡ entries m words
+unfolding entries
+entries-map l m g [] a = refl
+entries-map l m g (w ∷ words) a = ap₂ (λ (x y : List ℕ). x ++ y) (a .0) (entries-map l m g words (a .1))
 
 -- Document 01's entries are the listed words themselves.
 pub entries-are : (w : List ℕ) → entries wordList w ≡ w

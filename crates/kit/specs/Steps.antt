@@ -1,6 +1,6 @@
 -- Definitions: the parts of a kit call, and what the functions that make them may be asked. Assumes nothing.
 use mathlib.Core.Path.{_≡_}
-use mathlib.Core.Bool.{Bool, true, false, _||_}
+use mathlib.Core.Bool.{Bool, true, false}
 use mathlib.Core.List.{List}
 use Prim.Native.Nat.{ℕ, _*_}
 use Rattle.marks.specs.Answers.{none, judged, accepted}
@@ -24,13 +24,10 @@ use Rattle.kit.specs.Answers.{kitOf, viewOf}
 abbrev pub partOf : Factor → (next : ℕ) → SweepState
 partOf f next = record { factor = f; first = leastOf (f .precision .bits); last = mostOf (f .precision .bits); next = next; finished = false }
 
--- a call goes on in a factor, or past it where no suspect is left there and the kit has another
+-- a call goes on past a factor where no suspect is left in it and the kit has another
 abbrev pub passedOn : Place → (more : Bool) → Bool
 passedOn (At X) more = false
 passedOn Nowhere more = more
-
-abbrev pub goesOn : Work → (more : Bool) → Bool
-goesOn w more = w .going || passedOn (w .left) more
 
 -- what is done so far, gone on with from a on
 abbrev pub resumedAt : Work → ℕ → Work

@@ -1,56 +1,46 @@
--- Laws for the loop over a kit call's steps, factor by factor, on a tail that is free from its first place on. Assumes nothing.
-use mathlib.Core.Path.{_≡_, refl, sym, ap, _∙_, subst}
-use mathlib.Core.Bool.{Bool, true, false, cond, _||_, true≢false, false≢true}
-use mathlib.Core.Logic.{_⊎_, inl, inr, ⊎-map}
-use mathlib.Core.List.{List, [], _∷_}
+-- Laws for the loop over the factors of a kit call, on a tail that is free from its first place on. Assumes nothing.
+use mathlib.Core.Path.{_≡_, refl, sym, ap, ap₂, _∙_, subst}
+use mathlib.Core.Bool.{Bool, true, false, cond, true≢false, false≢true}
+use mathlib.Core.List.{List, [], _∷_, _++_, map}
 use Prim.Native.Nat.{ℕ, suc, _+_, _-_, _*_, _/_, _%_, _^_, _≤_, _<_}
 use native.Mathlib.Omega.{arith}
-use native.Mathlib.Nat.{add-zero, mul-le-mul-left, mul-le-mul-right, le-trans}
+use native.Mathlib.Nat.{sub-zero, zero-add}
 use native.Mathlib.Numerals.{add-one}
 use lib.Dec.{eqb, ltb}
-use borrow.Author.Tests.{ltb-false}
-use lib.ListN.{length, set, getD, take, drop, length-append, length-take, length-drop}
-use lib.Seq.{sets}
+use borrow.Author.Tests.{ltb-true, ltb-false}
+use lib.ListN.{length, getD, drop, length-append, length-map, length-take, length-drop}
+use lib.Seq.{sets, length-sets}
 use lib.Pow.{pow-mono, pow-pos}
-use Rattle.wide.specs.Value.{wordBits}
-use Rattle.marks.specs.declared.Mark.{Mark}
-use Rattle.marks.specs.declared.Mark.the-variants.{Right, Open, Wrong}
 use Rattle.marks.specs.Answers.{accepted, NoneHolds}
 use Rattle.marks.specs.AnswerLaws.{or-false}
 use Rattle.search.specs.declared.Place.{Place}
 use Rattle.search.specs.declared.Place.the-variants.{At, Nowhere}
-use Rattle.search.specs.declared.Found.{Found}
 use Rattle.factor.specs.declared.Factor.{Factor}
 use Rattle.factor.specs.Precision.{mostPrecision, leastOf, mostOf}
 use Rattle.factor.specs.SetUp.{Sound}
-use Rattle.suspects.specs.declared.Windows.{Windows}
-use Rattle.calls.specs.State.{Range, State, listed, entries, roomIn}
-use Rattle.calls.specs.Engine.{once, AllOf, handed}
-use Rattle.calls.specs.Call.{Reply, ahead, sweepCall}
-use Rattle.calls.specs.Plain.{row}
-use Rattle.calls.specs.ByRow.{rowAhead}
-use Rattle.calls.specs.RowLaws.{row-split}
+use Rattle.calls.specs.State.{Range, entries}
+use Rattle.calls.specs.Engine.{AllOf, handed}
+use Rattle.calls.specs.Call.{Reply, Run, over, run, runOf, sweepCall}
 use Rattle.calls.specs.RefusalLaws.{Ready, ready}
-use Rattle.calls.specs.RunLaws.{ahead-found}
-use Rattle.calls.specs.LoopLaws.{Looping, loop-start, loop-ready, loop-end, loop-pass, loop-rounds, loop-trial}
+use Rattle.calls.specs.ListLaws.{entries-append, entries-map, sets-append}
+use Rattle.calls.specs.LoopLaws.{run-bounded, words-within, call-done}
 use Rattle.calls.specs.Kit as calls
-use Rattle.calls.specs.Kit.{inKit, placeSize, position, placeIn, significandIn, hasAt, hasIn, suspectIn, markIn, entryList}
-use Rattle.calls.specs.KitLaws.{place-of, significand-of, all-at, only-last, drop-next, drop-short, Passed, Placed, has-placed, laws-of, kit-through, sections-few}
-use Rattle.calls.specs.KitRows.{pairsAt, same-marks, suspects-few}
-use Rattle.calls.specs.KitLoop.{own-rounds, kit-found, kit-over, kit-next}
+use Rattle.calls.specs.Kit.{inKit, placeSize, position, hasIn, entryList}
+use Rattle.calls.specs.KitLaws.{place-of, significand-of, all-at, only-last, drop-next, drop-short, Passed, Placed, has-placed, laws-of, kit-through}
+use Rattle.calls.specs.KitLoop.{wordAt, joinAt, afterAt, join-adds, run-at}
 use Rattle.sweep.specs.declared.SweepState.{SweepState}
 use Rattle.sweep.specs.declared.Work.{Work}
 use Rattle.sweep.specs.Engine as sweep
-use Rattle.sweep.specs.Engine.{windowsOf, markOf}
 use Rattle.sweep.specs.Answers as said
 use Rattle.sweep.specs.Answers.{callOf, termsBy}
-use Rattle.sweep.specs.Steps.{mustStop, begunAt, haltedAt, passedAt, withWord, triedAt, stepAt, aheadOf, stepOf, Stepping}
-use Rattle.sweep.specs.StepLaws.{must-stop, may-go, last-short, found-inside}
+use Rattle.sweep.specs.Steps.{begunAt, partList, partRun, partWritten, Parted, Partible}
+use Rattle.sweep.specs.StepLaws.{last-short}
+use Rattle.sweep.specs.LoopLaws.{entries-size, part-few}
 use Rattle.kit.specs.declared.KitState.{KitState}
 use Rattle.kit.specs.Engine.{whole, factors, kits}
 use Rattle.kit.specs.EngineLaws.{passed-sound, whole-good, factor-laws, kits-lawful}
 use Rattle.kit.specs.Answers.{kitOf, viewOf, noFactor}
-use Rattle.kit.specs.Steps.{partOf, passedOn, goesOn, resumedAt, endedBy, endedAt, endOf, Taken}
+use Rattle.kit.specs.Steps.{partOf, passedOn, resumedAt, endedBy, endedAt, endOf, Taken}
 use Rattle.kit.specs.LoopLaws.{first-at}
 
 -- the call that the loop makes, and the factors that it goes through
@@ -60,30 +50,48 @@ callIn s cap tail₀ = sweepCall kits (viewOf s) (callOf cap tail₀ 0)
 abbrev pub factorsIn : KitState → List Factor
 factorsIn s = inKit (kitOf (s .kit))
 
--- the loop of a call in a factor at a place, from a significand on
-abbrev LoopingAt : KitState → (cap : ℕ) (tail₀ : List ℕ) (i a : ℕ) → Work → (tail : List ℕ) → Type 0
-LoopingAt s cap tail₀ i a w tail = Looping kits (viewOf s) (callOf cap tail₀ 0) (position i a) (w .trials) (w .rounds) (2 * w .place) tail
+-- the most rounds that a call takes in one factor
+abbrev pub mostIn : ℕ
+mostIn = 64 * (2 ^ mostPrecision + 3)
 
--- The loop of a call on a tail, in the factor at place i: it goes on there; or it stopped at a suspect, or past the last factor, and is done; or no suspect is left there, and it may go on in the next.
-pub record Working (s : KitState) (cap : ℕ) (tail₀ : List ℕ) (i : ℕ) (part : SweepState) (h : Windows) (w : Work) (tail : List ℕ) : Type 0 where
-  pub taken : Taken s cap (length tail₀)
-  pub rest : List Factor
-  pub at : drop i (factorsIn s) ≡ part .factor ∷ rest
-  pub first : part .first ≡ leastOf (part .factor .precision .bits)
-  pub last : part .last ≡ mostOf (part .factor .precision .bits)
-  pub are : h ≡ windowsOf (part .factor)
-  pub from : part .first ≤ w .at
-  pub upto : w .at ≤ suc (part .last)
-  pub on : w .going ≡ true → LoopingAt s cap tail₀ i (w .at) w tail
-  pub stopped : w .going ≡ false → (X : ℕ) → w .left ≡ At X → endOf s (endedAt i (part .last) w) tail ≡ callIn s cap tail₀
-  pub over : w .going ≡ false → w .left ≡ Nowhere → rest ≡ [] → endOf s (endedAt i (part .last) w) tail ≡ callIn s cap tail₀
-  pub next : w .going ≡ false → w .left ≡ Nowhere → (g : Factor) (r : List Factor) → rest ≡ g ∷ r → LoopingAt s cap tail₀ (suc i) (leastOf (g .precision .bits)) w tail
-  pub fits : 2 * w .place ≤ length tail₀
-  pub long : length tail ≡ length tail₀
+module _ (s : KitState) (cap : ℕ) (tail₀ : List ℕ) where
+  -- all that the call does
+  abbrev all : Run
+  all = runOf kits (viewOf s) (callOf cap tail₀ 0)
 
--- What is left of the kit, and the end.
-abbrev pub stepsLeft : KitState → (i : ℕ) → Work → ℕ
-stepsLeft s i w = 2 * (suc (kits .last (kitOf (s .kit))) - position i (w .at)) + once (w .going)
+  -- what it does from a significand of the factor at a place on, with the cap and the room that remain
+  abbrev restAt : (i a : ℕ) → Work → Run
+  restAt i a w = run kits (kitOf (s .kit)) (cap - w .trials) (length tail₀ / 2 - w .place) (position i a)
+
+  -- What is done so far and what is left to do, `rest`, are all.
+  pub record Going (w : Work) (tail : List ℕ) (rest : Run) : Type 0 where
+    pub tried : all .trials ≡ w .trials + rest .trials
+    pub turned : all .rounds ≡ w .rounds + rest .rounds
+    pub placed : length (all .words) ≡ w .place + length (rest .words)
+    pub stops : all .left ≡ rest .left
+    pub writes : sets tail₀ 0 (entries entryList (all .words)) ≡ sets tail (2 * w .place) (entries entryList (rest .words))
+    pub capped : w .trials ≤ cap
+    pub fits : w .place ≤ length tail₀ / 2
+    pub long : length tail ≡ length tail₀
+
+  -- The loop of a call on a tail, in the factor at place i: it goes on there, or it is done.
+  pub record Working (i : ℕ) (part : SweepState) (w : Work) (tail : List ℕ) : Type 0 where
+    pub taken : Taken s cap (length tail₀)
+    pub rest : List Factor
+    pub at : drop i (factorsIn s) ≡ part .factor ∷ rest
+    pub first : part .first ≡ leastOf (part .factor .precision .bits)
+    pub last : part .last ≡ mostOf (part .factor .precision .bits)
+    pub from : w .going ≡ true → part .first ≤ w .at
+    pub upto : w .going ≡ true → w .at ≤ suc (part .last)
+    pub on : w .going ≡ true → Going w tail (restAt i (w .at) w)
+    pub turns : w .going ≡ true → w .rounds ≤ i * mostIn
+    pub off : w .going ≡ false → endOf s (endedAt i (part .last) w) tail ≡ callIn s cap tail₀
+    pub fits : w .place ≤ length tail₀ / 2
+    pub long : length tail ≡ length tail₀
+
+-- The factors from the one that the loop is in on.
+abbrev pub factorsLeft : KitState → (i : ℕ) → Work → ℕ
+factorsLeft s i w = cond (w .going) (s .kit .count - i) 0
 
 -- ---- a call that is taken
 
@@ -115,10 +123,9 @@ module _ (s : KitState) (cap size : ℕ) (q : Taken s cap size) where
   taken-inside h = drop-short (s .place) (factorsIn s) (taken-placed .rest) (taken-placed .factor) (ap (λ (j : ℕ). drop j (factorsIn s)) (sym (place-of (s .place) (s .next) h)) ∙ taken-placed .at)
 
   -- It begins at the next significand.
-  pub work-start : {tail : List ℕ} {part : SweepState} {h : Windows} {w : Work} → size ≡ length tail → s .next < placeSize → s .kit .count ≤ length (s .kit .factors)
-      → part ≡ partOf (getD (s .kit .factors) (s .place) noFactor) (s .next) → h ≡ windowsOf (getD (s .kit .factors) (s .place) noFactor) → w ≡ begunAt (part .next)
-      → Working s cap tail (s .place) part h w tail
-  work-start {tail} {part} {h} {w} long short full is are begun =
+  pub work-start : {tail : List ℕ} {part : SweepState} {w : Work} → size ≡ length tail → s .next < placeSize → s .kit .count ≤ length (s .kit .factors)
+      → part ≡ partOf (getD (s .kit .factors) (s .place) noFactor) (s .next) → w ≡ begunAt (part .next) → Working s cap tail (s .place) part w tail
+  work-start {tail} {part} {w} long short full is begun =
       let f = getD (s .kit .factors) (s .place) noFactor in
       let inside : s .place < s .kit .count = omega (arith, taken-inside short, length-take (s .kit .count) (s .kit .factors)) in
       let here = first-at (s .kit .factors) (s .kit .count) (s .place) noFactor full inside in
@@ -129,6 +136,9 @@ module _ (s : KitState) (cap size : ℕ) (q : Taken s cap size) where
       let eq : f ≡ p .factor = cc in
       let from : leastOf (f .precision .bits) ≤ s .next = subst (λ (g : Factor). leastOf (g .precision .bits) ≤ s .next) (sym eq) (subst (λ (z : ℕ). leastOf (p .factor .precision .bits) ≤ z) X (p .from)) in
       let upto : s .next ≤ mostOf (f .precision .bits) = subst (λ (g : Factor). s .next ≤ mostOf (g .precision .bits)) (sym eq) (subst (λ (z : ℕ). z ≤ mostOf (p .factor .precision .bits)) X (p .upto)) in
+      let start : all s cap tail ≡ restAt s cap tail (s .place) (s .next) (begunAt (s .next)) =
+      ap₂ (λ (c n : ℕ). run kits (kitOf (s .kit)) c (n / 2) (position (s .place) (s .next))) (sym (sub-zero cap)) (sub-zero (length tail))
+      ∙ ap (λ (n : ℕ). run kits (kitOf (s .kit)) (cap - 0) n (position (s .place) (s .next))) (sym (sub-zero (length tail / 2))) in
       rw (begun, is)
       (record {
         taken = subst (λ (n : ℕ). Taken s cap n) long q;
@@ -136,20 +146,28 @@ module _ (s : KitState) (cap size : ℕ) (q : Taken s cap size) where
         at = here;
         first = refl;
         last = refl;
-        are = are;
-        from = from;
-        upto = omega arith;
-        on = λ g. loop-start kits-lawful (subst (λ (n : ℕ). Taken s cap n) long q);
-        stopped = λ g. absurd (true≢false g);
-        over = λ g. absurd (true≢false g);
-        next = λ g. absurd (true≢false g);
+        from = λ g. from;
+        upto = λ g. omega arith;
+        on = λ g.
+            record {
+              tried = ap (λ (r : Run). r .trials) start ∙ sym (zero-add _);
+              turned = ap (λ (r : Run). r .rounds) start ∙ sym (zero-add _);
+              placed = ap (λ (r : Run). length (r .words)) start ∙ sym (zero-add _);
+              stops = ap (λ (r : Run). r .left) start;
+              writes = ap (λ (r : Run). sets tail 0 (entries entryList (r .words))) start;
+              capped = omega arith;
+              fits = omega arith;
+              long = refl;
+            };
+        turns = λ g. omega arith;
+        off = λ g. absurd (true≢false g);
         fits = omega arith;
         long = refl;
       })
 
 -- ---- a turn
 
-module _ {s : KitState} {cap : ℕ} {tail₀ : List ℕ} {i : ℕ} {part : SweepState} {h : Windows} {w : Work} {tail : List ℕ} (k : Working s cap tail₀ i part h w tail) where
+module _ {s : KitState} {cap : ℕ} {tail₀ : List ℕ} {i : ℕ} {part : SweepState} {w : Work} {tail : List ℕ} (k : Working s cap tail₀ i part w tail) where
   abbrev f : Factor
   f = part .factor
 
@@ -169,7 +187,7 @@ module _ {s : KitState} {cap : ℕ} {tail₀ : List ℕ} {i : ℕ} {part : Sweep
   over-whole : said.viewOf part .over ≡ whole f
   over-whole = λ j. record { factor = f; first = k .first j; last = k .last j }
 
-  pub part-good : NoneHolds (sweep.engine .newFaults (said.viewOf part .over))
+  part-good : NoneHolds (sweep.engine .newFaults (said.viewOf part .over))
   part-good = subst (λ (u : Range Factor). NoneHolds (sweep.engine .newFaults u)) (sym over-whole) (whole-good f passes)
 
   short : part .last < 2 ^ mostPrecision
@@ -182,330 +200,248 @@ module _ {s : KitState} {cap : ℕ} {tail₀ : List ℕ} {i : ℕ} {part : Sweep
   pub count-few : s .kit .count ≤ 96
   count-few = taken-few s cap (length tail₀) (k .taken)
 
-  abbrev found : Found
-  found = aheadOf part (w .at)
-
-  -- the search in the factor, over all of it
-  own-ahead : ahead sweep.engine (whole f) (w .at) ≡ found
-  own-ahead = ap (λ (u : Range Factor). ahead sweep.engine u (w .at)) (sym over-whole)
-
-  -- ---- going on in the factor
-
   module _ (g : w .going ≡ true) where
-    l : LoopingAt s cap tail₀ i (w .at) w tail
-    l = k .on g
+    o : Going s cap tail₀ w tail (restAt s cap tail₀ i (w .at) w)
+    o = k .on g
 
-    -- the kit has at most 96 × 2^24 suspects
-    suspects : length (rowAhead (suspectIn sweep.suspectIn factors) kits (viewOf s)) ≤ 96 * 2 ^ mostPrecision
-    suspects =
-        let all : ℕ → Bool = suspectIn sweep.suspectIn factors kit in
-        let first : ℕ = kits .first kit in
-        let last : ℕ = suc (kits .last kit) in
-        let r = loop-ready kits-lawful l in
-        let few = suspects-few factor-laws kit sound (2 ^ mostPrecision) (λ f q. omega (arith, last-short f (whole f .first) (whole f .last) (whole-good f q))) in
-        let m : length (factorsIn s) ≤ 96 = omega (arith, length-take (s .kit .count) (s .kit .factors), count-few) in
-        omega (
-          arith,
-          few,
-          mul-le-mul-right (2 ^ mostPrecision) m,
-          ap length (row-split all first (position (s .place) (s .next)) last (r .from) (omega (arith, r .upto))),
-          length-append (row all first (position (s .place) (s .next))) (row all (position (s .place) (s .next)) last),
-        )
+    abbrev room : ℕ
+    room = length tail₀ / 2
 
-    -- A step may be made: there is room for as many entries as half the places.
-    pub work-steps : Stepping part h cap (length tail₀ / 2) w
+    -- The steps in the factor may be made: there is room for as many entries as half the places.
+    pub work-steps : Partible part cap room true (length tail) w
     work-steps =
-        let sections : length (kits .sections kit) ≤ 2 * 96 =
-        omega (arith, sections-few factor-laws 0 (factorsIn s), length-take (s .kit .count) (s .kit .factors), count-few) in
-        let most : length (rowAhead (suspectIn sweep.suspectIn factors) kits (viewOf s)) + suc (length (kits .sections kit)) ≤ 96 * 2 ^ mostPrecision + 193 = omega (arith, suspects) in
-        let own = own-rounds factor-laws kit sound i f (k .rest) (k .at) (w .at) in
         record {
           sound = part-good;
-          are = k .are;
-          from = k .from;
-          upto = k .upto;
-          turns = omega (arith, own, ap (λ (w : Found). w .rounds) own-ahead, loop-rounds kits-lawful l, mul-le-mul-left 64 most);
-          capped = l .capped;
-          fits = omega (arith, k .fits);
+          going = g;
+          from = k .from g;
+          upto = k .upto g;
+          capped = o .capped;
+          fits = k .fits;
+          wide = omega (arith, k .long);
+          turns = omega (arith, k .turns g, place-inside, count-few);
         }
 
-    -- What a step leads to: two places to write to, where the place has moved, with words that fit; the loop again, with the entry written or none; and less ahead.
-    pub record Stepped (next : Work) : Type 0 where
-      pub fits : w .place < next .place → (2 * w .place + 1 < length tail) × (next .word < 2 ^ 32)
-      pub wrote : w .place < next .place → Working s cap tail₀ i part h next (set (set tail (2 * w .place) i) (2 * w .place + 1) (next .word))
-      pub kept : next .place ≤ w .place → Working s cap tail₀ i part h next tail
-      pub less : stepsLeft s i next < stepsLeft s i w
+    -- what they come to
+    abbrev done : Run
+    done = partRun part cap room w
 
-    -- the place in the kit of what was found
-    kit-at : (X : ℕ) → found .place ≡ At X → ahead kits kit (position i (w .at)) ≡ record { place = At (position i X); rounds = found .rounds }
-    kit-at X q =
-        kit-found factor-laws kit sound i f (k .rest) (k .at) (w .at) X (ap (λ (w : Found). w .place) own-ahead ∙ q)
-        ∙ ap (λ (v : Found). record { place = At (position i X); rounds = v .rounds }) own-ahead
+    own : done ≡ run sweep.engine (whole f) (cap - w .trials) (room - w .place) (w .at)
+    own = ap (λ (u : Range Factor). run sweep.engine u (cap - w .trials) (room - w .place) (w .at)) over-whole
 
-    -- nothing is written, and the call halts
-    halts : (p : Place)
-        → ((X : ℕ) → p ≡ At X → endOf s (endedAt i (part .last) (haltedAt w (w .rounds + found .rounds) p)) tail ≡ callIn s cap tail₀)
-        → (p ≡ Nowhere → k .rest ≡ [] → endOf s (endedAt i (part .last) (haltedAt w (w .rounds + found .rounds) p)) tail ≡ callIn s cap tail₀)
-        → (p ≡ Nowhere → (g : Factor) (r : List Factor) → k .rest ≡ g ∷ r → LoopingAt s cap tail₀ (suc i) (leastOf (g .precision .bits)) (haltedAt w (w .rounds + found .rounds) p) tail)
-        → Stepped (haltedAt w (w .rounds + found .rounds) p)
-    halts p stopped over next =
-        record {
-          fits = λ z. absurd (omega arith);
-          wrote = λ z. absurd (omega arith);
-          kept = λ z.
-              record {
-                taken = k .taken;
-                rest = k .rest;
-                at = k .at;
-                first = k .first;
-                last = k .last;
-                are = k .are;
-                from = k .from;
-                upto = k .upto;
-                on = λ y. absurd (false≢true y);
-                stopped = λ y. stopped;
-                over = λ y. over;
-                next = λ y. next;
-                fits = k .fits;
-                long = k .long;
-              };
-          less = rw g (omega arith);
-        }
-
-    -- no room is left for an entry exactly where the places are used up but for one
-    no-room : w .place ≡ length tail₀ / 2 → roomIn entryList (length tail₀) (2 * w .place) ≡ 0
-    no-room e = omega arith
-
-    -- the call stops at a suspect
-    stops : (X : ℕ) → found .place ≡ At X → (w .trials ≡ cap) ⊎ (w .place ≡ length tail₀ / 2) → Stepped (haltedAt w (w .rounds + found .rounds) (At X))
-    stops X q full =
-        let there = kit-at X q in
-        let ends = loop-end kits-lawful l (At (position i X)) (ap (λ (v : Found). v .place) there) (inr (⊎-map (λ z. z) no-room full)) in
-        halts (At X) (λ Y e. ap (λ (n : ℕ). endBy n) (ap (λ (v : Found). v .rounds) (sym there)) ∙ ends)
-        (λ e. let z : _≡_ {A = ℕ} 0 1 = cc in absurd (omega arith)) (λ e. let z : _≡_ {A = ℕ} 0 1 = cc in absurd (omega arith))
+    -- their entries are those of the kit's words
+    pairs : entries entryList (map (wordAt i) (done .words)) ≡ entries (partList true i) (done .words)
+    pairs = entries-map entryList (partList true i) (wordAt i) (done .words) (all-pairs (done .words) within)
       where
-        endBy : ℕ → Reply (calls.Kit Factor)
-        endBy n = endOf s (endedAt i (part .last) (haltedAt w (w .rounds + n) (At X))) tail
+        within : AllOf (λ (v : ℕ). v ≤ 2 * mostOf (f .precision .bits) + 1) (done .words)
+        within = subst (λ (r : Run). AllOf (λ (v : ℕ). v ≤ 2 * mostOf (f .precision .bits) + 1) (r .words)) (sym own)
+            (words-within (laws-of factor-laws f passes) (cap - w .trials) (room - w .place) (w .at) (omega (arith, k .from g, k .first)) (omega (arith, k .upto g, k .last)))
 
-    -- past the last factor the call ends at its last significand
-    last-is : drop i (factorsIn s) ≡ f ∷ [] → position i (part .last) ≡ kits .last kit
-    last-is at =
-        let n : length (factorsIn s) - i ≡ 1 = sym (length-drop i (factorsIn s)) ∙ ap length at in
-        omega (arith, only-last factors i (factorsIn s) f at, k .last)
+        pair : (v : ℕ) → v ≤ 2 * mostOf (f .precision .bits) + 1 → entryList .entry (wordAt i v) ≡ partList true i .entry v
+        pair v h =
+            let a : wordAt i v / (2 * placeSize) ≡ i = omega (arith, short, k .last) in
+            let b : wordAt i v % (2 * placeSize) ≡ v = omega (arith, short, k .last) in
+            rw (a, b)
 
-    -- the first significand of the next factor is one of the kit's
-    next-inside : (g : Factor) (r : List Factor) → drop i (factorsIn s) ≡ f ∷ g ∷ r
-        → let b = position (suc i) (leastOf (g .precision .bits)) in (kits .first kit ≤ b) × (b ≤ suc (kits .last kit))
-    unfolding hasIn
-    next-inside g r at =
-        let next = drop-next i (factorsIn s) (g ∷ r) f at in
-        let pass = all-at (Passed factor-laws) (suc i) (factorsIn s) r g through next in
-        let law = laws-of factor-laws g pass in
-        let X : ℕ = leastOf (g .precision .bits) in
-        let small : X < placeSize = omega (arith, law .ordered, factor-laws .short g pass) in
-        let has : hasAt factors (drop (placeIn (position (suc i) X)) (factorsIn s)) (significandIn (position (suc i) X)) ≡ true =
-        rw (place-of (suc i) X small, significand-of (suc i) X small, next) (law .begins) in
-        let z = kits-lawful .laws kit sound .between (position (suc i) X) has in
-        (z .0, omega (arith, z .1))
+        all-pairs : (l : List ℕ) → AllOf (λ (v : ℕ). v ≤ 2 * mostOf (f .precision .bits) + 1) l → AllOf (λ (v : ℕ). entryList .entry (wordAt i v) ≡ partList true i .entry v) l
+        all-pairs [] a = tt
+        all-pairs (v ∷ l) a = (pair v (a .0), all-pairs l (a .1))
 
-    -- no suspect is left in the factor
-    passes-on : found .place ≡ Nowhere → Stepped (haltedAt w (w .rounds + found .rounds) Nowhere)
-    passes-on q =
-        let none : ahead sweep.engine (whole f) (w .at) .place ≡ Nowhere = ap (λ (w : Found). w .place) own-ahead ∙ q in
-        let turns : ahead sweep.engine (whole f) (w .at) .rounds ≡ found .rounds = ap (λ (w : Found). w .rounds) own-ahead in
-        halts Nowhere (λ X e. let z : _≡_ {A = ℕ} 0 1 = cc in absurd (omega arith))
-        (λ e last.
-        let at : drop i (factorsIn s) ≡ f ∷ [] = k .at ∙ ap (λ (r : List Factor). f ∷ r) last in
-        let there = kit-over factor-laws kit sound i f at (w .at) none in
-        (λ j. endBy (last-is at j) (sym (ap (λ (v : Found). v .rounds) there ∙ turns) j)) ∙ loop-end kits-lawful l Nowhere (ap (λ (v : Found). v .place) there) (inl refl))
-        (λ e g r more.
-        let at : drop i (factorsIn s) ≡ f ∷ g ∷ r = k .at ∙ ap (λ (l : List Factor). f ∷ l) more in
-        let there = kit-next factor-laws kit sound i f g r at (w .at) (omega (arith, k .upto, k .last)) none in
-        let inside = next-inside g r at in
-        subst (λ (n : ℕ). Looping kits (viewOf s) (callOf cap tail₀ 0) (position (suc i) (leastOf (g .precision .bits))) (w .trials) (w .rounds + n) (2 * w .place) tail) turns
-        (loop-pass kits-lawful l (position (suc i) (leastOf (g .precision .bits))) (ahead sweep.engine (whole f) (w .at) .rounds) (inside .0) (inside .1) there))
-      where
-        endBy : (next n : ℕ) → Reply (calls.Kit Factor)
-        endBy next n =
-            record {
-              answer = accepted (record { trials = w .trials; rounds = w .rounds + n; place = 2 * w .place });
-              state = record { over = kit; next = next; finished = true };
-              list = tail;
-            }
+    -- ---- the steps are made
 
-    -- ---- X is tried
+    module _ {r : Work} {list : List ℕ} (p : Parted done w r) (written : list ≡ partWritten (partList true i) w done tail) where
+      -- what is left to do past the factor, where no suspect is left in it
+      abbrev past : List Factor → Run
+      past [] = over
+      past (h ∷ l) = restAt s cap tail₀ (suc i) (leastOf (h .precision .bits)) r
 
-    module _ {X : ℕ} (q : found .place ≡ At X) (a : ¬ (w .trials ≡ cap)) (b : ¬ (w .place ≡ length tail₀ / 2)) where
-      inside : (w .at ≤ X) × (X ≤ part .last)
-      inside = found-inside part part-good (w .at) (k .from) (k .upto) q
+      abbrev after : Run
+      after = afterAt i (done .left) (past (k .rest))
 
-      -- its entry: the place, then the listed word
-      entry-of : Mark → List ℕ
-      entry-of m = pairsAt i (listed m X)
-
-      entry-is : entries entryList (listed (kits .mark kit (position i X)) (position i X)) ≡ entry-of (markOf f X)
-      unfolding markIn entries entry-of
-      entry-is =
-          let in-factor = inside in
-          rw (same-marks factor-laws (factorsIn s) through i f (k .rest) (k .at) passes X (omega (arith, k .from, k .first)) (omega (arith, k .last))) (go (markOf f X))
+      joined : restAt s cap tail₀ i (w .at) w
+          ≡ record {
+            trials = done .trials + after .trials;
+            rounds = done .rounds + after .rounds;
+            words = map (wordAt i) (done .words) ++ after .words;
+            left = after .left;
+          }
+      joined =
+          let here : Run = run sweep.engine (whole f) (cap - w .trials) (room - w .place) (w .at) in
+          let c : cap - w .trials - done .trials ≡ cap - r .trials = omega (arith, p .trials) in
+          let n : room - w .place - length (done .words) ≡ room - r .place = omega (arith, p .place) in
+          run-at factor-laws kit sound i f (k .rest) (k .at) (cap - w .trials) (room - w .place) (w .at) (omega (arith, k .from g, k .first)) (omega (arith, k .upto g, k .last))
+          ∙ ap (λ (x : Run). joinAt i x (x .left) (pastOf (k .rest) (cap - w .trials - x .trials) (room - w .place - length (x .words)))) (sym own)
+          ∙ ap₂ (λ (c n : ℕ). joinAt i done (done .left) (pastOf (k .rest) c n)) c n
+          ∙ ap (joinAt i done (done .left)) (same (k .rest))
+          ∙ join-adds i done (done .left) (past (k .rest))
         where
-          go : (m : Mark) → entries entryList (listed m (position i X)) ≡ pairsAt i (listed m X)
-          go Right = refl
-          go Open =
-              let in-factor = inside in
-              let u : (2 * position i X + 1) / (2 * placeSize) ≡ i = omega (arith, short) in
-              let v : (2 * position i X + 1) % (2 * placeSize) ≡ 2 * X + 1 = omega (arith, short) in
-              rw (u, v)
-          go Wrong =
-              let in-factor = inside in
-              let u : (2 * position i X) / (2 * placeSize) ≡ i = omega (arith, short) in
-              let v : (2 * position i X) % (2 * placeSize) ≡ 2 * X = omega (arith, short) in
-              rw (u, v)
+          pastOf : List Factor → (c n : ℕ) → Run
+          pastOf [] c n = over
+          pastOf (h ∷ l) c n = run kits kit c n (position (suc i) (leastOf (h .precision .bits)))
 
-      -- the loop goes on past it, its entry being written
-      past : (m : Mark) → markOf f X ≡ m
-          → Looping kits (viewOf s) (callOf cap tail₀ 0) (position i (X + 1)) (w .trials + 1) (w .rounds + found .rounds) (2 * w .place + length (entry-of m)) (sets tail (2 * w .place) (entry-of m))
-      past m e =
-          let there = kit-at X q in
-          let written : entries entryList (listed (kits .mark kit (position i X)) (position i X)) ≡ entry-of m = entry-is ∙ ap entry-of e in
-          let room : 0 < roomIn entryList (length tail₀) (2 * w .place) = omega (arith, k .fits, b) in
-          let next = loop-trial kits-lawful l (ap (λ (v : Found). v .place) there) (omega (arith, l .capped, a)) room (ap length (sym written)) (ap (sets tail (2 * w .place)) (sym written)) in
-          let one : position i X + 1 ≡ position i (X + 1) = omega arith in
-          subst (λ (n : ℕ). Looping kits (viewOf s) (callOf cap tail₀ 0) (position i (X + 1)) (w .trials + 1) (w .rounds + n) (2 * w .place + length (entry-of m)) (sets tail (2 * w .place) (entry-of m))) (ap (λ (v : Found). v .rounds) there)
-          (subst (λ (z : ℕ). Looping kits (viewOf s) (callOf cap tail₀ 0) z (w .trials + 1) (w .rounds + ahead kits kit (position i (w .at)) .rounds) (2 * w .place + length (entry-of m)) (sets tail (2 * w .place) (entry-of m))) one next)
+          same : (l : List Factor) → pastOf l (cap - r .trials) (room - r .place) ≡ past l
+          same [] = refl
+          same (h ∷ l) = refl
 
-      -- where the loop goes on at X + 1
-      again : (next : Work) (list : List ℕ) → next .at ≡ X + 1 → next .going ≡ true → LoopingAt s cap tail₀ i (X + 1) next list → Working s cap tail₀ i part h next list
-      again next list e going looping =
-          let in-factor = inside in
+      -- The factor is done with: what is left to do is past it.
+      went : Going s cap tail₀ r list after
+      went =
+          let words : List ℕ = map (wordAt i) (done .words) in
+          let bounded = run-bounded sweep.engine (said.viewOf part .over) (cap - w .trials) (room - w .place) (w .at) in
+          let place : 2 * w .place + length (entries entryList words) ≡ 2 * r .place = omega (arith, p .place, ap length pairs, entries-size true i (done .words)) in
+          record {
+            tried = omega (arith, o .tried, ap (λ (x : Run). x .trials) joined, p .trials);
+            turned = omega (arith, o .turned, ap (λ (x : Run). x .rounds) joined, p .rounds);
+            placed = omega (arith, o .placed, ap (λ (x : Run). length (x .words)) joined, length-append words (after .words), length-map (done .words) (wordAt i), p .place);
+            stops = o .stops ∙ ap (λ (x : Run). x .left) joined;
+            writes =
+                o .writes
+                ∙ ap (λ (x : Run). sets tail (2 * w .place) (entries entryList (x .words))) joined
+                ∙ ap (sets tail (2 * w .place)) (entries-append entryList words (after .words))
+                ∙ sets-append (entries entryList words) (entries entryList (after .words)) tail (2 * w .place)
+                ∙ ap₂ (λ (l : List ℕ) (n : ℕ). sets l n (entries entryList (after .words))) (ap (sets tail (2 * w .place)) pairs ∙ sym written) place;
+            capped = omega (arith, p .trials, bounded .0, o .capped);
+            fits = omega (arith, p .place, bounded .1, o .fits);
+            long = ap length written ∙ length-sets tail (2 * w .place) (entries (partList true i) (done .words)) ∙ k .long;
+          }
+
+      -- ---- the end
+
+      -- where nothing is left to do, the call is done
+      ends : {z : Run} → after ≡ z → z .trials ≡ 0 → z .rounds ≡ 0 → z .words ≡ []
+          → record { answer = accepted (record { trials = r .trials; rounds = r .rounds; place = 2 * r .place }); state = handed kits (viewOf s) (z .left); list = list } ≡ callIn s cap tail₀
+      unfolding entries
+      ends {z} e trials rounds words =
+          let a : Run = all s cap tail₀ in
+          let m = went in
+          let t : r .trials ≡ a .trials = omega (arith, m .tried, ap (λ (x : Run). x .trials) e) in
+          let n : r .rounds ≡ a .rounds = omega (arith, m .turned, ap (λ (x : Run). x .rounds) e) in
+          let empty : after .words ≡ [] = ap (λ (x : Run). x .words) e ∙ words in
+          let c : 2 * r .place ≡ 0 + length (entries entryList (a .words)) = omega (arith, m .placed, ap length empty, pair-size (a .words)) in
+          let v : z .left ≡ a .left = sym (m .stops ∙ ap (λ (x : Run). x .left) e) in
+          let l : list ≡ sets tail₀ 0 (entries entryList (a .words)) = sym (m .writes ∙ ap (λ (l : List ℕ). sets list (2 * r .place) (entries entryList l)) empty) in
+          (λ j. record { answer = accepted (record { trials = t j; rounds = n j; place = c j }); state = handed kits (viewOf s) (v j); list = l j }) ∙ sym (call-done kits (viewOf s) (callOf cap tail₀ 0) (k .taken))
+        where
+          pair-size : (l : List ℕ) → length (entries entryList l) ≡ 2 * length l
+          pair-size [] = refl
+          pair-size (v ∷ l) = omega (arith, pair-size l)
+
+      -- past the last factor the call ends at its last significand
+      last-is : drop i (factorsIn s) ≡ f ∷ [] → position i (part .last) ≡ kits .last kit
+      last-is at =
+          let n : length (factorsIn s) - i ≡ 1 = sym (length-drop i (factorsIn s)) ∙ ap length at in
+          omega (arith, only-last factors i (factorsIn s) f at, k .last)
+
+      -- Where the loop does not go on past the factor, the call is done.
+      pub work-stops : {more : Bool} → more ≡ ltb (i + 1) (s .kit .count) → passedOn (r .left) more ≡ false → Working s cap tail₀ i part r list
+      work-stops {more} tests e =
           record {
             taken = k .taken;
             rest = k .rest;
             at = k .at;
             first = k .first;
             last = k .last;
-            are = k .are;
-            from = omega (arith, k .from);
-            upto = omega arith;
-            on = λ y. subst (λ (z : ℕ). LoopingAt s cap tail₀ i z next list) (sym e) looping;
-            stopped = λ y. absurd (true≢false (sym going ∙ y));
-            over = λ y. absurd (true≢false (sym going ∙ y));
-            next = λ y. absurd (true≢false (sym going ∙ y));
-            fits = looping .fits;
-            long = looping .long;
+            from = λ y. absurd (true≢false (sym y ∙ p .going));
+            upto = λ y. absurd (true≢false (sym y ∙ p .going));
+            on = λ y. absurd (true≢false (sym y ∙ p .going));
+            turns = λ y. absurd (true≢false (sym y ∙ p .going));
+            off = λ y. go (r .left) refl e;
+            fits = went .fits;
+            long = went .long;
           }
-
-      -- X is a position of the kit
-      last-inside : position i X ≤ kits .last kit
-      last-inside = ahead-found (kits-lawful .laws kit sound) (position i (w .at)) (l .from) (l .upto) (position i X) (ap (λ (v : Found). v .place) (kit-at X q)) .1
-
-      -- less is ahead
-      ahead-less : (next : Work) → next .at ≡ X + 1 → next .going ≡ true → stepsLeft s i next < stepsLeft s i w
-      ahead-less next e going =
-          let in-factor = inside in
-          rw (e, going, g) (omega (arith, last-inside))
-
-      -- with an entry
-      writes : (m : Mark) → markOf f X ≡ m → (v : ℕ) → listed m X ≡ v ∷ [] → v < 2 ^ 32 → Stepped (withWord (passedAt w (w .rounds + found .rounds) X) v)
-      unfolding entry-of
-      writes m e v is small =
-          let pair : entry-of m ≡ i ∷ v ∷ [] = ap (pairsAt i) is in
-          let looping : Looping kits (viewOf s) (callOf cap tail₀ 0) (position i (X + 1)) (w .trials + 1) (w .rounds + found .rounds) (2 * w .place + 2) (set (set tail (2 * w .place) i) (suc (2 * w .place)) v) =
-          subst (λ (l : List ℕ). Looping kits (viewOf s) (callOf cap tail₀ 0) (position i (X + 1)) (w .trials + 1) (w .rounds + found .rounds) (2 * w .place + length l) (sets tail (2 * w .place) l)) pair (past m e) in
-          let place : 2 * w .place + 2 ≡ 2 * (w .place + 1) = omega arith in
-          let next : Work = withWord (passedAt w (w .rounds + found .rounds) X) v in
-          record {
-            fits = λ z. (omega (arith, k .fits, k .long, b), small);
-            wrote = λ z.
-                again next (set (set tail (2 * w .place) i) (2 * w .place + 1) v) refl refl
-                (subst (λ (p : ℕ). Looping kits (viewOf s) (callOf cap tail₀ 0) (position i (X + 1)) (w .trials + 1) (w .rounds + found .rounds) p (set (set tail (2 * w .place) i) (2 * w .place + 1) v)) place
-                (subst (λ (p : ℕ). Looping kits (viewOf s) (callOf cap tail₀ 0) (position i (X + 1)) (w .trials + 1) (w .rounds + found .rounds) (2 * w .place + 2) (set (set tail (2 * w .place) i) p v)) (sym (add-one (2 * w .place))) looping));
-            kept = λ z. absurd (omega arith);
-            less = ahead-less next refl refl;
-          }
-
-      goes-on : (m : Mark) → markOf f X ≡ m → Stepped (triedAt w (w .rounds + found .rounds) X m)
-      unfolding entry-of
-      goes-on Right e =
-          let next : Work = passedAt w (w .rounds + found .rounds) X in
-          record {
-            fits = λ z. absurd (omega arith);
-            wrote = λ z. absurd (omega arith);
-            kept = λ z. again next tail refl refl (rw add-zero at (past Right e));
-            less = ahead-less next refl refl;
-          }
-      goes-on Open e = let in-factor = inside in writes Open e (2 * X + 1) refl (omega (arith, short))
-      goes-on Wrong e = let in-factor = inside in writes Wrong e (2 * X) refl (omega (arith, short))
-
-    -- The step that is made.
-    pub work-stepped : {next : Work} → next ≡ stepOf part cap (length tail₀ / 2) w → Stepped next
-    work-stepped is = rw is (go (found .place) refl (mustStop (w .trials) cap (w .place) (length tail₀ / 2)) refl)
-      where
-        go : (p : Place) → found .place ≡ p → (t : Bool) → mustStop (w .trials) cap (w .place) (length tail₀ / 2) ≡ t → Stepped (stepAt (markOf f) t w (w .rounds + found .rounds) p)
-        go Nowhere q t e = passes-on q
-        go (At X) q true e = stops X q (must-stop (w .trials) cap (w .place) (length tail₀ / 2) e)
-        go (At X) q false e = let z = may-go (w .trials) cap (w .place) (length tail₀ / 2) e in goes-on q (z .0) (z .1) (markOf f X) refl
-
-  -- ---- going on in the next factor
-
-  module _ (off : w .going ≡ false) (left : w .left ≡ Nowhere) (more : i + 1 < s .kit .count) (full : s .kit .count ≤ length (s .kit .factors)) where
-    abbrev g : Factor
-    g = getD (s .kit .factors) (i + 1) noFactor
-
-    next-at : drop (i + 1) (factorsIn s) ≡ g ∷ drop (i + 1 + 1) (factorsIn s)
-    next-at = first-at (s .kit .factors) (s .kit .count) (i + 1) noFactor full more
-
-    rest-is : k .rest ≡ g ∷ drop (i + 1 + 1) (factorsIn s)
-    rest-is = sym (drop-next i (factorsIn s) (k .rest) f (k .at)) ∙ ap (λ (n : ℕ). drop n (factorsIn s)) (sym (add-one i)) ∙ next-at
-
-    pub moved-sound : Sound g
-    moved-sound = factor-sound s cap (length tail₀) (k .taken) (i + 1) g (drop (i + 1 + 1) (factorsIn s)) next-at
-
-    looping : LoopingAt s cap tail₀ (i + 1) (leastOf (g .precision .bits)) w tail
-    looping = subst (λ (n : ℕ). LoopingAt s cap tail₀ n (leastOf (g .precision .bits)) w tail) (sym (add-one i)) (k .next off left g (drop (i + 1 + 1) (factorsIn s)) rest-is)
-
-    -- The loop goes on at its first significand.
-    pub work-moved : {part′ : SweepState} {h′ : Windows} {w′ : Work} {n : ℕ} → part′ ≡ partOf g n → h′ ≡ windowsOf g → w′ ≡ resumedAt w (part′ .first)
-        → Working s cap tail₀ (i + 1) part′ h′ w′ tail × (stepsLeft s (i + 1) w′ < stepsLeft s i w)
-    work-moved is are resumed =
-        let some = pow-pos (g .precision .bits) in
-        rw (resumed, is) (
-          record {
-            taken = k .taken;
-            rest = drop (i + 1 + 1) (factorsIn s);
-            at = next-at;
-            first = refl;
-            last = refl;
-            are = are;
-            from = omega arith;
-            upto = omega (arith, pow-mono {i = g .precision .bits - 1} {j = g .precision .bits} (omega arith));
-            on = λ y. looping;
-            stopped = λ y. absurd (true≢false y);
-            over = λ y. absurd (true≢false y);
-            next = λ y. absurd (true≢false y);
-            fits = k .fits;
-            long = k .long;
-          },
-          rw off (omega (arith, looping .upto, k .upto, short)),
-        )
-
-  -- ---- the end
-
-  -- Where the loop does not go on, the call is done.
-  pub work-done : {more : Bool} → more ≡ ltb (i + 1) (s .kit .count) → goesOn w more ≡ false → endOf s (endedAt i (part .last) w) tail ≡ callIn s cap tail₀
-  work-done {more} tests e = let o = or-false (w .going) (passedOn (w .left) more) e in go (w .left) refl (o .0) (o .1)
-    where
-      go : (p : Place) → w .left ≡ p → w .going ≡ false → passedOn p more ≡ false → endOf s (endedAt i (part .last) w) tail ≡ callIn s cap tail₀
-      go (At X) q off z = k .stopped off X q
-      go Nowhere q off z =
-          let n = ltb-false (i + 1) (s .kit .count) (sym tests ∙ z) in
-          k .over off q (last-rest n (k .rest) (k .at))
         where
-          last-rest : s .kit .count ≤ i + 1 → (r : List Factor) → drop i (factorsIn s) ≡ f ∷ r → r ≡ []
+          By : Place → Type 0
+          By z = endOf s (endedBy i (part .last) r z) list ≡ callIn s cap tail₀
+
+          last-rest : s .kit .count ≤ i + 1 → (l : List Factor) → drop i (factorsIn s) ≡ f ∷ l → l ≡ []
           last-rest n [] at = refl
-          last-rest n (x ∷ r) at =
-              let z = drop-short (suc i) (factorsIn s) r x (drop-next i (factorsIn s) (x ∷ r) f at) in
+          last-rest n (x ∷ l) at =
+              let z = drop-short (suc i) (factorsIn s) l x (drop-next i (factorsIn s) (x ∷ l) f at) in
               absurd (omega (arith, length-take (s .kit .count) (s .kit .factors)))
+
+          go : (z : Place) → r .left ≡ z → passedOn z more ≡ false → By (r .left)
+          go (At X) q c = subst By (sym q) (ends (ap (λ (z : Place). afterAt i z (past (k .rest))) (sym (p .left) ∙ q)) refl refl refl)
+          go Nowhere q c =
+              let n = ltb-false (i + 1) (s .kit .count) (sym tests ∙ c) in
+              let none : k .rest ≡ [] = last-rest n (k .rest) (k .at) in
+              let at : drop i (factorsIn s) ≡ f ∷ [] = k .at ∙ ap (λ (l : List Factor). f ∷ l) none in
+              subst By (sym q)
+              ((λ j. record {
+                answer = accepted (record { trials = r .trials; rounds = r .rounds; place = 2 * r .place });
+                state = record { over = kit; next = last-is at j; finished = true };
+                list = list;
+              })
+              ∙ ends (ap₂ (λ (z : Place) (l : List Factor). afterAt i z (past l)) (sym (p .left) ∙ q) none) refl refl refl)
+
+      -- ---- going on in the next factor
+
+      module _ {more : Bool} (tests : more ≡ ltb (i + 1) (s .kit .count)) (goes : passedOn (r .left) more ≡ true) (full : s .kit .count ≤ length (s .kit .factors)) where
+        gone : (r .left ≡ Nowhere) × (i + 1 < s .kit .count)
+        gone = go (r .left) refl goes
+          where
+            go : (z : Place) → r .left ≡ z → passedOn z more ≡ true → (r .left ≡ Nowhere) × (i + 1 < s .kit .count)
+            go (At X) q c = absurd (false≢true c)
+            go Nowhere q c = (q, ltb-true (i + 1) (s .kit .count) (sym tests ∙ c))
+
+        pub goes-inside : i + 1 < s .kit .count
+        goes-inside = gone .1
+
+        abbrev h : Factor
+        h = getD (s .kit .factors) (i + 1) noFactor
+
+        next-at : drop (i + 1) (factorsIn s) ≡ h ∷ drop (i + 1 + 1) (factorsIn s)
+        next-at = first-at (s .kit .factors) (s .kit .count) (i + 1) noFactor full (gone .1)
+
+        rest-is : k .rest ≡ h ∷ drop (i + 1 + 1) (factorsIn s)
+        rest-is = sym (drop-next i (factorsIn s) (k .rest) f (k .at)) ∙ ap (λ (n : ℕ). drop n (factorsIn s)) (sym (add-one i)) ∙ next-at
+
+        pub moved-sound : Sound h
+        moved-sound = factor-sound s cap (length tail₀) (k .taken) (i + 1) h (drop (i + 1 + 1) (factorsIn s)) next-at
+
+        -- it begins at its first significand
+        abbrev begun : Work
+        begun = resumedAt r (leastOf (h .precision .bits))
+
+        is-after : after ≡ restAt s cap tail₀ (i + 1) (leastOf (h .precision .bits)) r
+        is-after =
+            ap₂ (λ (z : Place) (l : List Factor). afterAt i z (past l)) (sym (p .left) ∙ gone .0) rest-is
+            ∙ ap (λ (n : ℕ). restAt s cap tail₀ n (leastOf (h .precision .bits)) r) (sym (add-one i))
+
+        pub work-goes : {part′ : SweepState} {w′ : Work} {n : ℕ} → part′ ≡ partOf h n → w′ ≡ resumedAt r (part′ .first)
+            → Working s cap tail₀ (i + 1) part′ w′ list × (factorsLeft s (i + 1) w′ < factorsLeft s i w)
+        work-goes is resumed =
+            let m : Going s cap tail₀ r list (restAt s cap tail₀ (i + 1) (leastOf (h .precision .bits)) r) = subst (Going s cap tail₀ r list) is-after went in
+            let some = pow-pos (h .precision .bits) in
+            rw (resumed, is) (
+              record {
+                taken = k .taken;
+                rest = drop (i + 1 + 1) (factorsIn s);
+                at = next-at;
+                first = refl;
+                last = refl;
+                from = λ y. omega arith;
+                upto = λ y. omega (arith, pow-mono {i = h .precision .bits - 1} {j = h .precision .bits} (omega arith));
+                on = λ y.
+                    record {
+                      tried = m .tried;
+                      turned = m .turned;
+                      placed = m .placed;
+                      stops = m .stops;
+                      writes = m .writes;
+                      capped = m .capped;
+                      fits = m .fits;
+                      long = m .long;
+                    };
+                turns = λ y. omega (arith, p .rounds, k .turns g, part-few part part-good (cap - w .trials) (room - w .place) (w .at) (k .from g) (k .upto g));
+                off = λ y. absurd (true≢false y);
+                fits = m .fits;
+                long = m .long;
+              },
+              rw g (omega (arith, gone .1)),
+            )
+
+      -- Where it stops, nothing is left.
+      pub stops-less : factorsLeft s i r < factorsLeft s i w
+      stops-less = rw (p .going, g) (omega (arith, place-inside))
 
 -- ---- as code asks it
 
@@ -514,14 +450,6 @@ pub start-sound : (s : KitState) (cap size : ℕ) → Taken s cap size → s .ne
 start-sound s cap size q short full =
     let inside : s .place < s .kit .count = omega (arith, taken-inside s cap size q short, length-take (s .kit .count) (s .kit .factors)) in
     factor-sound s cap size q (s .place) (getD (s .kit .factors) (s .place) noFactor) (drop (s .place + 1) (factorsIn s)) (first-at (s .kit .factors) (s .kit .count) (s .place) noFactor full inside)
-
--- Where it goes on, though not in the factor, no suspect is left there and the kit has another.
-pub goes-past : (w : Work) (more : Bool) → goesOn w more ≡ true → w .going ≡ false → (w .left ≡ Nowhere) × (more ≡ true)
-goes-past w more e off = go (w .left) refl (subst (λ (t : Bool). t || passedOn (w .left) more ≡ true) off e)
-  where
-    go : (p : Place) → w .left ≡ p → passedOn (w .left) more ≡ true → (w .left ≡ Nowhere) × (more ≡ true)
-    go (At X) q z = absurd (true≢false (sym z ∙ ap (λ (p : Place). passedOn p more) q))
-    go Nowhere q z = (q, sym (ap (λ (p : Place). passedOn p more) q) ∙ z)
 
 -- The words written are two for each entry.
 pub ended-place : (i last : ℕ) (w : Work) → endedAt i last w .place ≡ 2 * w .place

@@ -3,8 +3,6 @@ use factor::Factor;
 use factor::Precision;
 use marks::Judgement;
 use search::Place;
-use suspects::Window;
-use suspects::Windows;
 use sweep::SweepState;
 use sweep::Work;
 ghost use mathlib.Core.Path.{_≡_};
@@ -20,7 +18,7 @@ ghost use Rattle.calls.specs.Kit.{inKit, anyOf, twoAlike, kitFaults, position, 
 ghost use Rattle.sweep.specs.Answers.{callOf, termsBy};
 ghost use Rattle.kit.specs.Engine.{faulty, alike, factors, kits};
 ghost use Rattle.kit.specs.Answers.{kitOf, viewOf, newOf, BesideRefusal, replyOf, verdictSays, verdictOf};
-ghost use Rattle.kit.specs.Steps.{partOf, goesOn, resumedAt, endedAt, endOf, Taken};
+ghost use Rattle.kit.specs.Steps.{partOf, passedOn, resumedAt, endedAt, endOf, Taken};
 
 // A kit holds up to so many factors.
 const MOST_FACTORS: usize = 96;
@@ -217,14 +215,10 @@ fn refusal_of(s: KitState, cap: u64, size: usize, free: usize) -> Judgement
     }
 }
 
-// The call goes on: in the factor, or past it where no suspect is left there and the kit has another.
-fn goes_on(w: Work, more: bool) -> bool
-    ensures { λ r. ⌜ r ≡ goesOn w more ⌝ }
+// The call goes on past a factor where no suspect is left in it and the kit has another.
+fn goes_on(left: Place, more: bool) -> bool
+    ensures { λ r. ⌜ r ≡ passedOn left more ⌝ }
 {
-    if w.going {
-        return true;
-    }
-    let left = w.left;
     match left {
         Place::At(_) => false,
         Place::Nowhere => more,
@@ -294,22 +288,14 @@ fn sweep_on(s: KitState, cap: u64, tail: &mut [u32]) -> Halt
     let mut i = s.place;
     let f = k.factors[i];
     let mut part = part_of(f, s.next);
-    let mut windows = suspects::windows_of(f);
     let mut w = sweep::begun(part);
-    while goes_on(w, i + 1 < s.kit.count) {
-        if w.going {
-            let next = sweep::step(part, windows, cap, room, w);
-            let at = 2 * w.place;
-            if w.place < next.place {
-                tail[at] = i as u32;
-                tail[at + 1] = next.word as u32;
-            }
-            w = next;
-        } else {
+    while w.going {
+        w = sweep::steps_on(part, cap, room, true, i as u32, w, tail);
+        let left = w.left;
+        if goes_on(left, i + 1 < s.kit.count) {
             i += 1;
             let g = k.factors[i];
             part = part_of(g, 0);
-            windows = suspects::windows_of(g);
             w = resumed(w, part);
         }
     }

@@ -1,8 +1,11 @@
 -- Definitions: a step of a sweep call, and what the functions that make it may be asked. Assumes nothing.
 use mathlib.Core.Path.{_≡_}
 use mathlib.Core.Bool.{Bool, true, false, cond, _||_}
-use Prim.Native.Nat.{ℕ, suc, _+_, _*_, _^_, _≤_, _<_, min, max}
+use mathlib.Core.List.{List, [], _∷_}
+use Prim.Native.Nat.{ℕ, suc, _+_, _-_, _*_, _^_, _≤_, _<_, min, max}
 use lib.Dec.{eqb, ltb}
+use lib.ListN.{length}
+use lib.Seq.{sets}
 use Rattle.wide.specs.Value.{wordBits}
 use Rattle.marks.specs.declared.Mark.{Mark}
 use Rattle.marks.specs.declared.Mark.the-variants.{Right, Open, Wrong}
@@ -16,7 +19,8 @@ use Rattle.suspects.specs.declared.Window.{Window}
 use Rattle.suspects.specs.declared.Windows.{Windows}
 use Rattle.suspects.specs.Next.{nextIn}
 use Rattle.factor.specs.Precision.{mostPrecision}
-use Rattle.calls.specs.Call.{Result, conditions, within, noneAfter, orElse, ahead}
+use Rattle.calls.specs.State.{Listing, entries}
+use Rattle.calls.specs.Call.{Run, run, Result, conditions, within, noneAfter, orElse, ahead}
 use Rattle.sweep.specs.declared.SweepState.{SweepState}
 use Rattle.sweep.specs.declared.Work.{Work}
 use Rattle.sweep.specs.Engine.{windowsOf, markOf, engine}
@@ -112,3 +116,36 @@ pub record Stepping (s : SweepState) (h : Windows) (cap size : ℕ) (w : Work) :
 -- a call on a list of that size, all of it free, is not refused
 abbrev pub Taken : SweepState → (cap size : ℕ) → Type 0
 Taken s cap size = judged (conditions engine (viewOf s) (termsBy cap size 0)) ≡ none
+
+-- ---- all steps in one factor
+
+-- how its entries are kept: the word alone, or behind the place of a kit's factor
+abbrev pub partList : (paired : Bool) (lead : ℕ) → Listing
+partList paired lead = record { refuses = λ t. []; places = cond paired 2 1; entry = λ w. cond paired (lead ∷ w ∷ []) (w ∷ []) }
+
+-- what is left to do from where a call is
+abbrev pub partRun : SweepState → (cap room : ℕ) → Work → Run
+partRun s cap room w = run engine (viewOf s .over) (cap - w .trials) (room - w .place) (w .at)
+
+-- the list with the words of a run written, from the next free entry on
+abbrev pub partWritten : Listing → Work → Run → List ℕ → List ℕ
+partWritten l w all list = sets list (l .places * w .place) (entries l (all .words))
+
+-- it is done: r is what was done before, w, and that
+pub record Parted (all : Run) (w r : Work) : Type 0 where
+  pub trials : r .trials ≡ w .trials + all .trials
+  pub rounds : r .rounds ≡ w .rounds + all .rounds
+  pub place : r .place ≡ w .place + length (all .words)
+  pub left : r .left ≡ all .left
+  pub going : r .going ≡ false
+
+-- the steps may be made: a new state over the factor and the range is not refused, and the counts and the entries fit
+pub record Partible (s : SweepState) (cap room : ℕ) (paired : Bool) (size : ℕ) (w : Work) : Type 0 where
+  pub sound : NoneHolds (engine .newFaults (viewOf s .over))
+  pub going : w .going ≡ true
+  pub from : s .first ≤ w .at
+  pub upto : w .at ≤ suc (s .last)
+  pub capped : w .trials ≤ cap
+  pub fits : w .place ≤ room
+  pub wide : cond paired 2 1 * room ≤ size
+  pub turns : w .rounds + 64 * (2 ^ mostPrecision + 3) < 2 ^ wordBits

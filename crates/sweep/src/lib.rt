@@ -19,7 +19,7 @@ ghost use Rattle.calls.specs.Call.{newState, conditions, sweepCall};
 ghost use Rattle.calls.specs.Engine;
 ghost use Rattle.sweep.specs.Engine.{range, stateOut, engine};
 ghost use Rattle.sweep.specs.Answers.{viewOf, newOf, callOf, termsBy, resultOf, replyOf};
-ghost use Rattle.sweep.specs.Steps.{cutAt, soughtBefore, aheadIn, Searchable, mustStop, begunAt, haltedAt, withWord, triedAt, stepOf, resultIn, Room, Stepping, Taken};
+ghost use Rattle.sweep.specs.Steps.{cutAt, soughtBefore, aheadIn, Searchable, mustStop, begunAt, haltedAt, withWord, triedAt, stepOf, resultIn, Room, Stepping, Taken, partList, partRun, partWritten, Parted, Partible};
 
 // A sweep's state: the factor, the first, last and next significand, and whether the sweep is finished.
 pub struct SweepState {
@@ -281,7 +281,7 @@ fn tried(w: Work, rounds: u64, x: u64, mark: Mark) -> Work
 }
 
 // A step: the next suspect and its trial, or where the call stops, or the end. The size is how many entries there is room for.
-pub fn step(s: SweepState, windows: Windows, cap: u64, size: usize, w: Work) -> Work
+fn step(s: SweepState, windows: Windows, cap: u64, size: usize, w: Work) -> Work
     requires { ⌜ Stepping s windows cap size w ⌝ }
     ensures { λ r. ⌜ r ≡ stepOf s cap size w ⌝ }
 {
@@ -331,24 +331,46 @@ fn ended(s: SweepState, w: Work) -> Swept
     }
 }
 
+// All steps of a call in one factor, from what is done so far: they go on until a suspect must wait or none is left. A word goes into the next free place of the tail that is lent to them, or,
+// paired, behind a kit's place, into the next two. The room is how many entries fit there.
+pub fn steps_on(
+    s: SweepState,
+    cap: u64,
+    room: usize,
+    paired: bool,
+    lead: u32,
+    done: Work,
+    tail: &mut [u32],
+) -> Work
+    requires { ⌜ Partible s cap room paired (length (now tail)) done ⌝ }
+    ensures { λ r. ⌜ Parted (partRun s cap room done) done r × (now (tail .exit) ≡ partWritten (partList paired lead) done (partRun s cap room done) (now (tail .entry))) ⌝ }
+{
+    let f = s.factor;
+    let windows = suspects::windows_of(f);
+    let mut w = done;
+    while w.going {
+        let next = step(s, windows, cap, room, w);
+        let place = w.place;
+        if place < next.place {
+            if paired {
+                tail[2 * place] = lead;
+                tail[2 * place + 1] = next.word as u32;
+            } else {
+                tail[place] = next.word as u32;
+            }
+        }
+        w = next;
+    }
+    w
+}
+
 // The steps of an accepted call, which write into the tail that is lent to them, from its first place on.
 fn sweep_on(s: SweepState, cap: u64, tail: &mut [u32]) -> Swept
     requires { ⌜ Taken s cap (length (now tail)) ⌝ }
     ensures { λ r. ⌜ (replyOf (SweepAnswer.Accepted r) (now (tail .exit)) ≡ sweepCall engine (viewOf s) (callOf cap (now (tail .entry)) 0)) × (r .place ≤ length (now (tail .entry))) ⌝ }
 {
-    let f = s.factor;
-    let windows = suspects::windows_of(f);
-    let size = tail.len();
-    let mut w = begun(s);
-    while w.going {
-        let next = step(s, windows, cap, size, w);
-        let place = w.place;
-        if place < next.place {
-            tail[place] = next.word as u32;
-        }
-        w = next;
-    }
-    ended(s, w)
+    let room = tail.len();
+    ended(s, steps_on(s, cap, room, false, 0, begun(s), tail))
 }
 
 // A refusal answers the number and the state as given, and no counts.
