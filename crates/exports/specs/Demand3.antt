@@ -155,12 +155,12 @@ left-are s W rest (a ∷ asked) =
 -- ---- a new sweep
 
 -- the numbers of conditions, none of them 0
-abbrev Numbered : List (ℕ × Bool) → Type 0
+abbrev pub Numbered : List (ℕ × Bool) → Type 0
 Numbered [] = Unit {0}
 Numbered (t ∷ l) = (0 < t .0) × Numbered l
 
 -- what is told as 0 was accepted, where a refusal is told by its number
-accepted-at : {A : Type 0} (tell : Outcome A → ℕ) → ((n : ℕ) → tell (refused n) ≡ n) → (l : List (ℕ × Bool)) → Numbered l → (a : A) → tell (answer l a) ≡ 0 → answer l a ≡ accepted a
+pub accepted-at : {A : Type 0} (tell : Outcome A → ℕ) → ((n : ℕ) → tell (refused n) ≡ n) → (l : List (ℕ × Bool)) → Numbered l → (a : A) → tell (answer l a) ≡ 0 → answer l a ≡ accepted a
 unfolding answer judged
 accepted-at tell same [] p a zero = refl
 accepted-at tell same (t ∷ l) p a zero = go (t .1) zero (accepted-at tell same l (p .1) a)

@@ -7,4 +7,5 @@ pub mod AnswerLaws
 pub mod KitAnswerLaws
 pub mod WordLaws
 pub mod Demand3
+pub mod KitDemand3
 pub mod Examples

@@ -51,7 +51,7 @@ unfolding factorFrom
 read-writable ws e = record { sound = intact-sound (factorFrom ws) e; high = ofBits-fits binary32 (low32 (word ws 7)); low = ofBits-fits binary32 (low32 (word ws 8)) }
 
 -- ---- a yes or no
-flag-back : (b : Bool) → flagFrom (flagWord b) ≡ b
+pub flag-back : (b : Bool) → flagFrom (flagWord b) ≡ b
 flag-back true = refl
 flag-back false = refl
 
