@@ -7,13 +7,29 @@ use native.Mathlib.Omega.{arith}
 use native.Mathlib.Nat.{sub-zero, suc-sub-suc, zero-sub}
 use lib.ListN.{length, getD, take, drop, length-append}
 use lib.Seq.{sets, sets-eq, getD-take, take-nil, take-at, drop-at, getD-append-add, length-take-le}
+use lib.Dec.{eqb, ltb}
+use borrow.Author.Tests.{ltb-false, lt-ltb, le-ltb}
+use Rattle.marks.specs.Answers.{Refusal, number, none, judged, Outcome, refused, accepted, andThen}
+use Rattle.marks.specs.AnswerLaws.{pass, end, accepts, or-false}
 use Rattle.factor.specs.declared.Factor.{Factor}
-use Rattle.calls.specs.State.{State}
+use Rattle.calls.specs.State.{State, Call, termsOf}
+use Rattle.calls.specs.Engine.{fresh}
+use Rattle.calls.specs.Call.{newState, Result, Reply, Run, conditions, replied, runOf, sweepCall}
+use Rattle.calls.specs.RefusalLaws.{over-kept}
 use Rattle.calls.specs.Kit.{Kit, placeIn, significandIn, position}
 use Rattle.calls.specs.KitLaws.{position-is}
+use Rattle.sweep.specs.Answers.{callOf}
+use Rattle.kit.specs.declared.KitState.{KitState}
+use Rattle.kit.specs.declared.KitReply.{KitReply}
+use Rattle.kit.specs.declared.KitAnswer.{KitAnswer}
+use Rattle.kit.specs.Engine.{factors, kits}
+use Rattle.kit.specs.Answers.{replyOf, viewOf}
+use Rattle.kit.specs.Demand3.{Made, replyIn, Kept, askedIn, lastIn, KitDemand3, kit-demand-3}
 use Rattle.exports.specs.Words.{word, flagWord, flagFrom, factorLength, factorFrom, damaged}
+use Rattle.exports.specs.Answers.{SweepWords}
 use Rattle.exports.specs.WordLaws.{flag-back}
-use Rattle.exports.specs.Kits.{kitLength, factorsFrom, anyDamaged, kitFrom, kitStateLength, kitStateOf, behindKit}
+use Rattle.exports.specs.Demand3.{Asked, callIn, callsIn}
+use Rattle.exports.specs.Kits.{kitLength, factorsFrom, anyDamaged, kitFrom, kitStateLength, kitStateOf, behindKit, kitTaken, kitSweepAnswer, kitReplyWords, kitReplyTo, kitSweepTo}
 
 -- ---- what stands behind a kit's words does not matter to it
 
@@ -95,3 +111,77 @@ kit-back ws h t e =
 pub new-kit-back : (kit : List ℕ) → kitLength ≤ length kit → (s : State (Kit Factor)) → s .over ≡ kitFrom kit → (rest : List ℕ)
     → let ws = take kitLength kit ++ behindKit s ++ rest in kitStateOf (kitFrom ws) ws ≡ s
 new-kit-back kit h s e rest = kit-state-back (take kitLength kit) (length-take-le kitLength kit h) s (e ∙ sym (kit-front kit)) rest
+
+-- ---- one call
+
+-- The words of a kit that are taken: 961, the number from 1 to 96, and none of those counted damaged.
+pub record KitWords (kit : List ℕ) : Type 0 where
+  pub long : length kit ≡ kitLength
+  pub number : eqb (word kit 0) 0 || ltb 96 (word kit 0) ≡ false
+  pub intact : anyDamaged (word kit 0) (drop 1 kit) ≡ false
+
+-- They are so with any words behind them.
+module _ (kit : List ℕ) (K : KitWords kit) (rest : List ℕ) where
+  abbrev more : List ℕ
+  more = kit ++ rest
+
+  count-same : word more 0 ≡ word kit 0
+  count-same = ap (λ (k : Kit Factor). k .count) (kit-kept kit (K .long) rest)
+
+  number-in : eqb (word more 0) 0 || ltb 96 (word more 0) ≡ false
+  number-in = ap (λ (n : ℕ). eqb n 0 || ltb 96 n) count-same ∙ K .number
+
+  not-many : word kit 0 ≤ 96
+  not-many = ltb-false 96 (word kit 0) (or-false (eqb (word kit 0) 0) (ltb 96 (word kit 0)) (K .number) .1)
+
+  still-intact : anyDamaged (word more 0) (drop 1 more) ≡ false
+  still-intact =
+      let front = take-at kit rest kitLength (K .long) in
+      let fewer : factorLength * word kit 0 ≤ 960 = omega (arith, not-many) in
+      ap (λ (n : ℕ). anyDamaged n (drop 1 more)) count-same
+      ∙ sym (damages-front (word kit 0) 960 (drop 1 more) fewer)
+      ∙ ap (anyDamaged (word kit 0)) (sym (drop-take 1 961 more) ∙ ap (drop 1) front)
+      ∙ K .intact
+
+  -- So they are taken, as the kit that they are, where the lists are long enough.
+  kit-taken : (due room needed : ℕ) → due ≤ length more → needed ≤ room → kitTaken more due room needed ≡ accepted (kitFrom more)
+  unfolding kitTaken
+  kit-taken due room needed h k =
+      sym (accepts (pass (le-ltb (length more) due h) (pass (le-ltb room needed k) (pass number-in (pass still-intact end)))) (kitFrom more))
+
+-- On the words of a state, whatever stands behind them, it is the engine's call on that state.
+module _ (kit : List ℕ) (K : KitWords kit) (s : State (Kit Factor)) (over : s .over ≡ kitFrom kit) (rest : List ℕ) where
+  abbrev ws : List ℕ
+  ws = kit ++ behindKit s ++ rest
+
+  ws-long : kitStateLength ≤ length ws
+  ws-long = omega (arith, K .long, length-append kit (behindKit s), length-append (kit ++ behindKit s) rest)
+
+  state-taken : (room needed : ℕ) → needed ≤ room → kitTaken ws kitStateLength room needed ≡ accepted (kitFrom ws)
+  state-taken room needed h =
+      let same = append-assoc kit (behindKit s) rest in
+      subst (λ (vs : List ℕ). kitStateLength ≤ length vs → kitTaken vs kitStateLength room needed ≡ accepted (kitFrom vs)) (sym same)
+      (λ long. kit-taken kit K (behindKit s ++ rest) kitStateLength room needed long h) ws-long
+
+  pub kit-call-to : (cap : ℕ) (list : List ℕ) (free : ℕ) (counts : List ℕ) → 3 ≤ length counts → kitSweepTo ws cap list free counts ≡ kitReplyWords (sweepCall kits s (callOf cap list free))
+  unfolding kitSweepTo
+  kit-call-to cap list free counts room =
+      ap (λ (o : Outcome (Kit Factor)). kitReplyTo list o (λ k. sweepCall kits (kitStateOf k ws) (callOf cap list free))) (state-taken (length counts) 3 room)
+      ∙ ap (λ (t : State (Kit Factor)). kitReplyWords (sweepCall kits t (callOf cap list free))) (kit-state-back kit (K .long) s over rest)
+
+  -- The words behind the kit's are written over.
+  behind-written : (t : State (Kit Factor)) → sets ws kitLength (behindKit t) ≡ kit ++ behindKit t ++ rest
+  behind-written t =
+      let same = append-assoc kit (behindKit s) rest in
+      let front = ap (take kitLength) same ∙ take-at kit (behindKit s ++ rest) kitLength (K .long) in
+      let back = drop-at (kit ++ behindKit s) rest kitStateLength (omega (arith, K .long, length-append kit (behindKit s))) in
+      sets-eq (behindKit t) ws kitLength ws-long ∙ ap₂ (λ (k r : List ℕ). k ++ behindKit t ++ r) front back
+
+  -- The words that a call leaves are those of the state handed back.
+  pub kit-words-left : (c : Call) → let r = sweepCall kits s c in sets ws kitLength (kitReplyWords r .state) ≡ kit ++ behindKit (r .state) ++ rest
+  unfolding sweepCall
+  kit-words-left c = go (judged (conditions kits s (termsOf c))) (runOf kits s c)
+    where
+      go : (v : Refusal) (x : Run) → let r = replied kits s c v x in sets ws kitLength (kitReplyWords r .state) ≡ kit ++ behindKit (r .state) ++ rest
+      go (number n) x = refl
+      go none x = behind-written (replied kits s c none x .state)
