@@ -10,26 +10,28 @@ use lib.Seq.{sets, sets-eq, getD-take, take-nil, take-at, drop-at, getD-append-a
 use lib.Dec.{eqb, ltb}
 use borrow.Author.Tests.{ltb-false, lt-ltb, le-ltb}
 use Rattle.marks.specs.Answers.{Refusal, number, none, judged, Outcome, refused, accepted, andThen}
-use Rattle.marks.specs.AnswerLaws.{pass, end, accepts, or-false}
+use Rattle.marks.specs.AnswerLaws.{pass, end, accepts, only-accepted, or-false}
 use Rattle.factor.specs.declared.Factor.{Factor}
 use Rattle.calls.specs.State.{State, Call, termsOf}
 use Rattle.calls.specs.Engine.{fresh}
 use Rattle.calls.specs.Call.{newState, Result, Reply, Run, conditions, replied, runOf, sweepCall}
 use Rattle.calls.specs.RefusalLaws.{over-kept}
-use Rattle.calls.specs.Kit.{Kit, placeIn, significandIn, position}
+use Rattle.calls.specs.Kit.{Kit, inKit, placeIn, significandIn, position, firstIn}
 use Rattle.calls.specs.KitLaws.{position-is}
 use Rattle.sweep.specs.Answers.{callOf}
+use Rattle.marks.specs.declared.Judgement.{Judgement}
 use Rattle.kit.specs.declared.KitState.{KitState}
+use Rattle.kit.specs.declared.NewKitSweep.{NewKitSweep}
 use Rattle.kit.specs.declared.KitReply.{KitReply}
 use Rattle.kit.specs.declared.KitAnswer.{KitAnswer}
 use Rattle.kit.specs.Engine.{factors, kits}
 use Rattle.kit.specs.Answers.{replyOf, viewOf}
 use Rattle.kit.specs.Demand3.{Made, replyIn, Kept, askedIn, lastIn, KitDemand3, kit-demand-3}
 use Rattle.exports.specs.Words.{word, flagWord, flagFrom, factorLength, factorFrom, damaged}
-use Rattle.exports.specs.Answers.{SweepWords}
+use Rattle.exports.specs.Answers.{Answer, leaves, SweepWords}
 use Rattle.exports.specs.WordLaws.{flag-back}
-use Rattle.exports.specs.Demand3.{Asked, callIn, callsIn}
-use Rattle.exports.specs.Kits.{kitLength, factorsFrom, anyDamaged, kitFrom, kitStateLength, kitStateOf, behindKit, kitTaken, kitSweepAnswer, kitReplyWords, kitReplyTo, kitSweepTo}
+use Rattle.exports.specs.Demand3.{Asked, callIn, callsIn, accepted-at}
+use Rattle.exports.specs.Kits.{kitLength, factorsFrom, anyDamaged, kitFrom, kitStateLength, kitStateOf, behindKit, kitUnfit, kitTaken, newKitAnswer, newKitTo, kitSweepAnswer, kitReplyWords, kitReplyTo, kitSweepTo}
 
 -- ---- what stands behind a kit's words does not matter to it
 
@@ -185,3 +187,93 @@ module _ (kit : List ℕ) (K : KitWords kit) (s : State (Kit Factor)) (over : s 
       go : (v : Refusal) (x : Run) → let r = replied kits s c v x in sets ws kitLength (kitReplyWords r .state) ≡ kit ++ behindKit (r .state) ++ rest
       go (number n) x = refl
       go none x = behind-written (replied kits s c none x .state)
+
+-- ---- calls one after another
+
+-- what is answered on one list of words, each call given the words that the one before left
+abbrev pub kitAnswersTo : (state : List ℕ) → List Asked → List SweepWords
+kitAnswersTo state [] = []
+kitAnswersTo state (a ∷ asked) =
+    let r = kitSweepTo state (a .cap) (a .list) (a .free) (a .counts) in
+    r ∷ kitAnswersTo (sets state kitLength (r .state)) asked
+
+-- the words that calls leave, one after another
+abbrev pub kitLeftTo : (state : List ℕ) → List Asked → List ℕ
+kitLeftTo state [] = state
+kitLeftTo state (a ∷ asked) = kitLeftTo (sets state kitLength (kitSweepTo state (a .cap) (a .list) (a .free) (a .counts) .state)) asked
+
+-- the replies of calls that were made, as words
+abbrev pub kitAnswersIn : List Made → List SweepWords
+kitAnswersIn [] = []
+kitAnswersIn (m ∷ made) = kitReplyWords (replyIn m) ∷ kitAnswersIn made
+
+-- ---- the calls that were made
+
+-- a reply as code gives it
+abbrev codeOf : State (Kit Factor) → KitState
+codeOf s = record { kit = record { factors = s .over .factors; count = s .over .count }; place = placeIn (s .next); next = significandIn (s .next); finished = s .finished }
+
+abbrev codeAnswer : Outcome Result → KitAnswer
+codeAnswer (accepted r) = KitAnswer.Accepted (record { trials = r .trials; rounds = r .rounds; place = r .place })
+codeAnswer (refused n) = KitAnswer.Refused n
+
+abbrev codeReply : Reply (Kit Factor) → KitReply
+codeReply r = record { state = codeOf (r .state); answer = codeAnswer (r .answer) }
+
+view-back : (s : State (Kit Factor)) → viewOf (codeOf s) ≡ s
+view-back s = λ i. record { over = s .over; next = position-is (s .next) i; finished = s .finished }
+
+code-says : (o : Outcome Result) (s : State (Kit Factor)) (list : List ℕ) → replyOf (record { state = codeOf s; answer = codeAnswer o }) list ≡ record { answer = o; state = s; list = list }
+code-says (accepted r) s list = λ i. record { answer = accepted r; state = view-back s i; list = list }
+code-says (refused n) s list = λ i. record { answer = refused n; state = view-back s i; list = list }
+
+-- the engine's calls on a state
+abbrev madeFrom : State (Kit Factor) → List Asked → List Made
+madeFrom s [] = []
+madeFrom s (a ∷ asked) =
+    let r = sweepCall kits s (callIn a) in
+    record { asked = callIn a; reply = codeReply r; left = r .list } ∷ madeFrom (r .state) asked
+
+says : (s : State (Kit Factor)) (a : Asked) → let r = sweepCall kits s (callIn a) in replyOf (codeReply r) (r .list) ≡ r
+says s a = let r = sweepCall kits s (callIn a) in code-says (r .answer) (r .state) (r .list)
+
+kept : (s : State (Kit Factor)) (asked : List Asked) → Kept s (madeFrom s asked)
+kept s [] = tt
+kept s (a ∷ asked) =
+    let r = sweepCall kits s (callIn a) in
+    (says s a, subst (λ (x : Reply (Kit Factor)). Kept (x .state) (madeFrom (r .state) asked)) (sym (says s a)) (kept (r .state) asked))
+
+asked-are : (s : State (Kit Factor)) (asked : List Asked) → askedIn (madeFrom s asked) ≡ callsIn asked
+asked-are s [] = refl
+asked-are s (a ∷ asked) = ap (λ (l : List Call). callIn a ∷ l) (asked-are (sweepCall kits s (callIn a) .state) asked)
+
+module _ (kit : List ℕ) (K : KitWords kit) (rest : List ℕ) where
+  -- every call hands back a state over the same kit
+  still-over : (s : State (Kit Factor)) (c : Call) → s .over ≡ kitFrom kit → sweepCall kits s c .state .over ≡ kitFrom kit
+  still-over s c e = over-kept kits s c ∙ e
+
+  -- On the words of a state, calls are answered with the replies of the engine's calls on that state,
+  pub kit-answers-are : (s : State (Kit Factor)) → s .over ≡ kitFrom kit → (asked : List Asked) → kitAnswersTo (kit ++ behindKit s ++ rest) asked ≡ kitAnswersIn (madeFrom s asked)
+  kit-answers-are s e [] = refl
+  kit-answers-are s e (a ∷ asked) =
+      let r = sweepCall kits s (callIn a) in
+      ap (λ (x : SweepWords). x ∷ kitAnswersTo (sets (kit ++ behindKit s ++ rest) kitLength (x .state)) asked) (kit-call-to kit K s e rest (a .cap) (a .list) (a .free) (a .counts) (a .room))
+      ∙ ap₂ (λ (x : SweepWords) (l : List SweepWords). x ∷ l) (ap kitReplyWords (sym (says s a)))
+      (ap (λ (ws : List ℕ). kitAnswersTo ws asked) (kit-words-left kit K s e rest (callIn a)) ∙ kit-answers-are (r .state) (still-over s (callIn a) e) asked)
+
+  -- and leave the words of the state that the last of them hands back.
+  pub kit-left-are : (s : State (Kit Factor)) → s .over ≡ kitFrom kit → (asked : List Asked) → kitLeftTo (kit ++ behindKit s ++ rest) asked ≡ kit ++ behindKit (lastIn s (madeFrom s asked)) ++ rest
+  kit-left-are s e [] = refl
+  kit-left-are s e (a ∷ asked) =
+      let r = sweepCall kits s (callIn a) in
+      ap (λ (x : SweepWords). kitLeftTo (sets (kit ++ behindKit s ++ rest) kitLength (x .state)) asked) (kit-call-to kit K s e rest (a .cap) (a .list) (a .free) (a .counts) (a .room))
+      ∙ ap (λ (ws : List ℕ). kitLeftTo ws asked) (kit-words-left kit K s e rest (callIn a))
+      ∙ kit-left-are (r .state) (still-over s (callIn a) e) asked
+      ∙ ap (λ (x : Reply (Kit Factor)). kit ++ behindKit (lastIn (x .state) (madeFrom (r .state) asked)) ++ rest) (sym (says s a))
+
+  -- The last of them, too, is over the same kit.
+  last-over : (s : State (Kit Factor)) → s .over ≡ kitFrom kit → (asked : List Asked) → lastIn s (madeFrom s asked) .over ≡ kitFrom kit
+  last-over s e [] = e
+  last-over s e (a ∷ asked) =
+      let r = sweepCall kits s (callIn a) in
+      ap (λ (x : Reply (Kit Factor)). lastIn (x .state) (madeFrom (r .state) asked) .over) (says s a) ∙ last-over (r .state) (still-over s (callIn a) e) asked
