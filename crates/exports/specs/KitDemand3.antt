@@ -1,6 +1,7 @@
 -- Demand 3 of kits reaches callers who keep a kit sweep's state as words: calls on one list of words make the replies that it speaks of. Assumes nothing.
 use mathlib.Core.Path.{_≡_, refl, sym, ap, ap₂, _∙_, subst}
-use mathlib.Core.Bool.{Bool, true, false, _||_}
+use mathlib.Core.Bool.{Bool, true, false, cond, _||_}
+use mathlib.Core.Logic.{_↔_}
 use mathlib.Core.List.{List, [], _∷_, _++_, append-assoc}
 use Prim.Native.Nat.{ℕ, zero, suc, _+_, _-_, _*_, _≤_, _<_}
 use native.Mathlib.Omega.{arith}
@@ -9,15 +10,16 @@ use lib.ListN.{length, getD, take, drop, length-append}
 use lib.Seq.{sets, sets-eq, getD-take, take-nil, take-at, drop-at, getD-append-add, length-take-le}
 use lib.Dec.{eqb, ltb}
 use borrow.Author.Tests.{ltb-false, lt-ltb, le-ltb}
-use Rattle.marks.specs.Answers.{Refusal, number, none, judged, Outcome, refused, accepted, andThen}
+use Rattle.marks.specs.Answers.{Refusal, number, none, judged, Outcome, refused, accepted, unless, answer, andThen}
 use Rattle.marks.specs.AnswerLaws.{pass, end, accepts, only-accepted, or-false}
 use Rattle.factor.specs.declared.Factor.{Factor}
 use Rattle.calls.specs.State.{State, Call, termsOf}
-use Rattle.calls.specs.Engine.{fresh}
+use Rattle.calls.specs.Engine.{AllOf, fresh}
 use Rattle.calls.specs.Call.{newState, Result, Reply, Run, conditions, replied, runOf, sweepCall}
 use Rattle.calls.specs.RefusalLaws.{over-kept}
 use Rattle.calls.specs.Kit.{Kit, inKit, placeIn, significandIn, position, firstIn}
 use Rattle.calls.specs.KitLaws.{position-is}
+use Rattle.calls.specs.KitRows.{CleanKit}
 use Rattle.sweep.specs.Answers.{callOf}
 use Rattle.marks.specs.declared.Judgement.{Judgement}
 use Rattle.kit.specs.declared.KitState.{KitState}
@@ -25,13 +27,13 @@ use Rattle.kit.specs.declared.NewKitSweep.{NewKitSweep}
 use Rattle.kit.specs.declared.KitReply.{KitReply}
 use Rattle.kit.specs.declared.KitAnswer.{KitAnswer}
 use Rattle.kit.specs.Engine.{factors, kits}
-use Rattle.kit.specs.Answers.{replyOf, viewOf}
-use Rattle.kit.specs.Demand3.{Made, replyIn, Kept, askedIn, lastIn, KitDemand3, kit-demand-3}
+use Rattle.kit.specs.Answers.{newOf, replyOf, viewOf, Told, clean, notClean, unfinished, told, verdictOf}
+use Rattle.kit.specs.Demand3.{Made, replyIn, Kept, askedIn, lastIn, entriesIn, KitDemand3, kit-demand-3}
 use Rattle.exports.specs.Words.{word, flagWord, flagFrom, factorLength, factorFrom, damaged}
 use Rattle.exports.specs.Answers.{Answer, leaves, SweepWords}
 use Rattle.exports.specs.WordLaws.{flag-back}
 use Rattle.exports.specs.Demand3.{Asked, callIn, callsIn, accepted-at}
-use Rattle.exports.specs.Kits.{kitLength, factorsFrom, anyDamaged, kitFrom, kitStateLength, kitStateOf, behindKit, kitUnfit, kitTaken, newKitAnswer, newKitTo, kitSweepAnswer, kitReplyWords, kitReplyTo, kitSweepTo}
+use Rattle.exports.specs.Kits.{kitLength, factorsFrom, anyDamaged, kitFrom, kitStateLength, kitStateOf, behindKit, kitUnfit, kitTaken, newKitAnswer, newKitTo, kitReplyWords, kitReplyTo, kitSweepTo, toldNumber, cleanAnswer, cleanTo}
 
 -- ---- what stands behind a kit's words does not matter to it
 
@@ -277,3 +279,188 @@ module _ (kit : List ℕ) (K : KitWords kit) (rest : List ℕ) where
   last-over s e (a ∷ asked) =
       let r = sweepCall kits s (callIn a) in
       ap (λ (x : Reply (Kit Factor)). lastIn (x .state) (madeFrom (r .state) asked) .over) (says s a) ∙ last-over (r .state) (still-over s (callIn a) e) asked
+
+-- ---- a new sweep
+
+-- where it is answered with 0, the words were taken and the engine accepted the state
+module _ (kit out : List ℕ) (zero : newKitTo kit out .number ≡ 0) where
+  abbrev k : Kit Factor
+  k = kitFrom kit
+
+  abbrev s : State (Kit Factor)
+  s = fresh kits k
+
+  abbrev head : List ℕ
+  head = take kitLength kit
+
+  -- what is answered, where the words are taken or not
+  abbrev answered : Outcome (Kit Factor) → Answer
+  answered o = newKitAnswer kit (andThen o (newState kits))
+
+  was-taken : kitTaken kit kitLength (length out) kitStateLength ≡ accepted k
+  unfolding newKitTo kitTaken
+  was-taken = accepted-at (λ o. answered o .number) (λ n. refl) (kitUnfit kit kitLength (length out) kitStateLength) (omega arith, (omega arith, (omega arith, (omega arith, tt)))) k zero
+
+  was-begun : newState kits k ≡ accepted s
+  unfolding newKitTo
+  was-begun = accepted-at (λ o. newKitAnswer kit o .number) (λ n. refl) (kits .newFaults k) (omega arith, (omega arith, (omega arith, tt))) s (ap (λ (o : Outcome (Kit Factor)). answered o .number) (sym was-taken) ∙ zero)
+
+  kit-long : kitLength ≤ length kit
+  unfolding kitTaken
+  kit-long = ltb-false (length kit) kitLength (only-accepted (kitUnfit kit kitLength (length out) kitStateLength) k k was-taken .0 .0)
+
+  head-words : KitWords head
+  unfolding kitTaken
+  head-words =
+      let none = only-accepted (kitUnfit kit kitLength (length out) kitStateLength) k k was-taken .0 in
+      let count = ap (λ (x : Kit Factor). x .count) (kit-front kit) in
+      let most = ltb-false 96 (word kit 0) (or-false (eqb (word kit 0) 0) (ltb 96 (word kit 0)) (none .1 .1 .0) .1) in
+      let fewer : factorLength * word kit 0 ≤ 960 = omega (arith, most) in
+      record {
+        long = length-take-le kitLength kit kit-long;
+        number = ap (λ (n : ℕ). eqb n 0 || ltb 96 n) count ∙ none .1 .1 .0;
+        intact =
+            ap₂ anyDamaged count (drop-take 1 961 kit)
+            ∙ damages-front (word kit 0) 960 (drop 1 kit) fewer
+            ∙ none .1 .1 .1 .0;
+      }
+
+  head-kit : s .over ≡ kitFrom head
+  head-kit = sym (kit-front kit)
+
+  new-words : leaves (newKitTo kit out) out ≡ head ++ behindKit s ++ drop kitStateLength out
+  unfolding newKitTo kitTaken
+  new-words =
+      let none = only-accepted (kitUnfit kit kitLength (length out) kitStateLength) k k was-taken .0 in
+      let room = ltb-false (length out) kitStateLength (none .1 .0) in
+      let many : 0 + length (head ++ behindKit s) ≡ kitStateLength = omega (arith, head-words .long, length-append head (behindKit s)) in
+      ap (λ (o : Outcome (Kit Factor)). leaves (answered o) out) was-taken
+      ∙ ap (λ (o : Outcome (State (Kit Factor))). leaves (newKitAnswer kit o) out) was-begun
+      ∙ sets-eq (head ++ behindKit s) out 0 (omega (arith, many, room))
+      ∙ ap (λ (n : ℕ). head ++ behindKit s ++ drop n out) many
+
+  -- the state as code gives it
+  abbrev codeNew : NewKitSweep
+  codeNew =
+      record {
+        state = record { kit = record { factors = k .factors; count = k .count }; place = 0; next = firstIn factors (inKit k); finished = false };
+        verdict = Judgement.Passed;
+      }
+
+  demand-of : (asked : List Asked) → KitDemand3 s (madeFrom s asked)
+  demand-of asked = kit-demand-3 (codeNew .state .kit) codeNew (sym was-begun) refl (madeFrom s asked) (kept s asked)
+
+-- ---- whether the kit is clean
+
+-- Where refusals have other numbers, what is told is known by its number.
+same-told : (t u : Told) → toldNumber t ≡ toldNumber u → t ≡ u
+same-told clean clean e = refl
+same-told clean notClean e = absurd (omega arith)
+same-told clean unfinished e = absurd (omega arith)
+same-told notClean clean e = absurd (omega arith)
+same-told notClean notClean e = refl
+same-told notClean unfinished e = absurd (omega arith)
+same-told unfinished clean e = absurd (omega arith)
+same-told unfinished notClean e = absurd (omega arith)
+same-told unfinished unfinished e = refl
+
+told-most : (t : Told) → toldNumber t ≤ 3
+told-most clean = omega arith
+told-most notClean = omega arith
+told-most unfinished = omega arith
+
+told-at : (l : List (ℕ × Bool)) → AllOf (λ t. 3 < t .0) l → (t u : Told) → cleanAnswer (answer l t) .number ≡ toldNumber u → answer l t ≡ accepted u
+unfolding answer judged
+told-at [] p t u e = ap accepted (same-told t u e)
+told-at (c ∷ l) p t u e = go (c .1) e (told-at l (p .1) t u)
+  where
+    go : (b : Bool) → cleanAnswer (unless (cond b (number (c .0)) (judged l)) t) .number ≡ toldNumber u → (cleanAnswer (answer l t) .number ≡ toldNumber u → answer l t ≡ accepted u)
+        → unless (cond b (number (c .0)) (judged l)) t ≡ accepted u
+    go true z ih = absurd (omega (arith, p .0, z, told-most u))
+    go false z ih = ih z
+
+told-is : (s : State (Kit Factor)) (n : ℕ) (u : Told) → (cleanAnswer (verdictOf s n) .number ≡ toldNumber u) ↔ (verdictOf s n ≡ accepted u)
+unfolding verdictOf
+told-is s n u = (
+  told-at (kits .faults s) (omega arith, (omega arith, (omega arith, (omega arith, tt)))) (told (s .finished) n) u,
+  λ e. ap (λ (o : Outcome Told). cleanAnswer o .number) e,
+)
+
+-- On the words of a state, whatever stands behind them, it is told what `kit` tells of that state.
+pub clean-to : (kit : List ℕ) → KitWords kit → (s : State (Kit Factor)) → s .over ≡ kitFrom kit → (rest : List ℕ) (n : ℕ)
+    → cleanTo (kit ++ behindKit s ++ rest) n ≡ cleanAnswer (verdictOf s n) .number
+unfolding cleanTo
+clean-to kit K s e rest n =
+    let ws = kit ++ behindKit s ++ rest in
+    ap (λ (o : Outcome (Kit Factor)). cleanAnswer (andThen o (λ k. verdictOf (kitStateOf k ws) n)) .number) (state-taken kit K s e rest 0 0 (omega arith))
+    ∙ ap (λ (t : State (Kit Factor)). cleanAnswer (verdictOf t n) .number) (kit-state-back kit (K .long) s e rest)
+
+-- ---- demand 3
+
+-- The calls asked on the words that a new kit sweep left: they are answered as these calls are, the words left in the end are those of the last one's state and are read as it, and of these calls demand 3 of kits holds.
+-- With the number of their entries, 1 is told of those words at the finish exactly if the kit is clean, and 2 exactly if it is not; before the finish, 3.
+pub record KitDemand3To (kit out : List ℕ) (asked : List Asked) : Type 0 where
+  pub made : List Made
+  pub calls : askedIn made ≡ callsIn asked
+  pub answers : kitAnswersTo (leaves (newKitTo kit out) out) asked ≡ kitAnswersIn made
+  pub left : kitLeftTo (leaves (newKitTo kit out) out) asked ≡ take kitLength kit ++ behindKit (lastIn (fresh kits (kitFrom kit)) made) ++ drop kitStateLength out
+  pub back : let ws = kitLeftTo (leaves (newKitTo kit out) out) asked in kitStateOf (kitFrom ws) ws ≡ lastIn (fresh kits (kitFrom kit)) made
+  pub demand : KitDemand3 (fresh kits (kitFrom kit)) made
+  pub told-clean : lastIn (fresh kits (kitFrom kit)) made .finished ≡ true
+      → (cleanTo (kitLeftTo (leaves (newKitTo kit out) out) asked) (entriesIn made) ≡ 1) ↔ CleanKit factors (kitFrom kit)
+  pub told-not-clean : lastIn (fresh kits (kitFrom kit)) made .finished ≡ true
+      → (cleanTo (kitLeftTo (leaves (newKitTo kit out) out) asked) (entriesIn made) ≡ 2) ↔ ¬ CleanKit factors (kitFrom kit)
+  pub told-unfinished : lastIn (fresh kits (kitFrom kit)) made .finished ≡ false → (n : ℕ) → cleanTo (kitLeftTo (leaves (newKitTo kit out) out) asked) n ≡ 3
+
+module _ (kit out : List ℕ) (zero : newKitTo kit out .number ≡ 0) (asked : List Asked) where
+  abbrev begun : State (Kit Factor)
+  begun = fresh kits (kitFrom kit)
+
+  abbrev last : State (Kit Factor)
+  last = lastIn begun (madeFrom begun asked)
+
+  abbrev words : List ℕ
+  words = kitLeftTo (leaves (newKitTo kit out) out) asked
+
+  abbrev rest : List ℕ
+  rest = drop kitStateLength out
+
+  K : KitWords (take kitLength kit)
+  K = head-words kit out zero
+
+  over : begun .over ≡ kitFrom (take kitLength kit)
+  over = head-kit kit out zero
+
+  words-are : words ≡ take kitLength kit ++ behindKit last ++ rest
+  words-are = ap (λ (ws : List ℕ). kitLeftTo ws asked) (new-words kit out zero) ∙ kit-left-are (take kitLength kit) K rest begun over asked
+
+  over-last : last .over ≡ kitFrom (take kitLength kit)
+  over-last = last-over (take kitLength kit) K rest begun over asked
+
+  told-to : (n : ℕ) → cleanTo words n ≡ cleanAnswer (verdictOf last n) .number
+  told-to n = ap (λ (ws : List ℕ). cleanTo ws n) words-are ∙ clean-to (take kitLength kit) K last over-last rest n
+
+  says-to : (n : ℕ) (u : Told) → (cleanTo words n ≡ toldNumber u) ↔ (verdictOf last n ≡ accepted u)
+  says-to n u = let is = told-is last n u in ((λ e. is .0 (sym (told-to n) ∙ e)), (λ e. told-to n ∙ is .1 e))
+
+  pub kit-demand-3-to : KitDemand3To kit out asked
+  kit-demand-3-to =
+      let made = madeFrom begun asked in
+      let demand = demand-of kit out zero asked in
+      record {
+        made = made;
+        calls = asked-are begun asked;
+        answers = ap (λ (ws : List ℕ). kitAnswersTo ws asked) (new-words kit out zero) ∙ kit-answers-are (take kitLength kit) K rest begun over asked;
+        left = words-are;
+        back = ap (λ (ws : List ℕ). kitStateOf (kitFrom ws) ws) words-are ∙ kit-state-back (take kitLength kit) (K .long) last over-last rest;
+        demand = demand;
+        told-clean = λ h.
+            let to = says-to (entriesIn made) clean in
+            let is = demand .told-clean h in
+            ((λ e. is .0 (to .0 e)), (λ c. to .1 (is .1 c)));
+        told-not-clean = λ h.
+            let to = says-to (entriesIn made) notClean in
+            let is = demand .told-not-clean h in
+            ((λ e. is .0 (to .0 e)), (λ c. to .1 (is .1 c)));
+        told-unfinished = λ h n. says-to n unfinished .1 (demand .told-unfinished h n);
+      }
