@@ -1,6 +1,6 @@
 -- Demand 3 of kits reaches callers who keep a kit sweep's state as words: calls on one list of words make the replies that it speaks of. Assumes nothing.
 use mathlib.Core.Path.{_≡_, refl, sym, ap, ap₂, _∙_, subst}
-use mathlib.Core.Bool.{Bool, true, false, cond, _||_}
+use mathlib.Core.Bool.{Bool, true, false, cond, not, _||_}
 use mathlib.Core.Logic.{_↔_}
 use mathlib.Core.List.{List, [], _∷_, _++_, append-assoc}
 use Prim.Native.Nat.{ℕ, zero, suc, _+_, _-_, _*_, _≤_, _<_}
@@ -9,15 +9,18 @@ use native.Mathlib.Nat.{sub-zero, suc-sub-suc, zero-sub}
 use lib.ListN.{length, getD, take, drop, length-append}
 use lib.Seq.{sets, sets-eq, getD-take, take-nil, take-at, drop-at, getD-append-add, length-take-le}
 use lib.Dec.{eqb, ltb}
-use borrow.Author.Tests.{ltb-false, lt-ltb, le-ltb}
-use Rattle.marks.specs.Answers.{Refusal, number, none, judged, Outcome, refused, accepted, unless, answer, andThen}
-use Rattle.marks.specs.AnswerLaws.{pass, end, accepts, only-accepted, or-false}
+use borrow.Author.Tests.{ltb-false, le-ltb, ne-eqb}
+use Rattle.marks.specs.Answers.{Refusal, number, none, judged, NoneHolds, Outcome, refused, accepted, unless, answer, andThen}
+use Rattle.marks.specs.AnswerLaws.{pass, end, accepts, none-refuses, only-accepted, or-false}
+use Rattle.factor.specs.declared.Description.{Description}
 use Rattle.factor.specs.declared.Factor.{Factor}
+use Rattle.factor.specs.SetUp.{setUp}
+use Rattle.factor.specs.SetUpLaws.{accepted-intact}
 use Rattle.calls.specs.State.{State, Call, termsOf}
 use Rattle.calls.specs.Engine.{AllOf, fresh}
 use Rattle.calls.specs.Call.{newState, Result, Reply, Run, conditions, replied, runOf, sweepCall}
 use Rattle.calls.specs.RefusalLaws.{over-kept}
-use Rattle.calls.specs.Kit.{Kit, inKit, placeIn, significandIn, position, firstIn}
+use Rattle.calls.specs.Kit.{Kit, inKit, anyOf, twoAlike, placeIn, significandIn, position, firstIn}
 use Rattle.calls.specs.KitLaws.{position-is}
 use Rattle.calls.specs.KitRows.{CleanKit}
 use Rattle.sweep.specs.Answers.{callOf}
@@ -26,14 +29,14 @@ use Rattle.kit.specs.declared.KitState.{KitState}
 use Rattle.kit.specs.declared.NewKitSweep.{NewKitSweep}
 use Rattle.kit.specs.declared.KitReply.{KitReply}
 use Rattle.kit.specs.declared.KitAnswer.{KitAnswer}
-use Rattle.kit.specs.Engine.{factors, kits}
+use Rattle.kit.specs.Engine.{faulty, alike, factors, kits}
 use Rattle.kit.specs.Answers.{newOf, replyOf, viewOf, Told, clean, notClean, unfinished, told, verdictOf}
 use Rattle.kit.specs.Demand3.{Made, replyIn, Kept, askedIn, lastIn, entriesIn, KitDemand3, kit-demand-3}
-use Rattle.exports.specs.Words.{word, flagWord, flagFrom, factorLength, factorFrom, damaged}
+use Rattle.exports.specs.Words.{word, flagWord, flagFrom, factorLength, factorFrom, factorWords, damaged}
 use Rattle.exports.specs.Answers.{Answer, leaves, SweepWords}
-use Rattle.exports.specs.WordLaws.{flag-back}
+use Rattle.exports.specs.WordLaws.{Writable, set-up-writable, flag-back, not-damaged, factor-back}
 use Rattle.exports.specs.Demand3.{Asked, callIn, callsIn, accepted-at}
-use Rattle.exports.specs.Kits.{kitLength, factorsFrom, anyDamaged, kitFrom, kitStateLength, kitStateOf, behindKit, kitUnfit, kitTaken, newKitAnswer, newKitTo, kitReplyWords, kitReplyTo, kitSweepTo, toldNumber, cleanAnswer, cleanTo}
+use Rattle.exports.specs.Kits.{kitLength, factorsFrom, anyDamaged, kitFrom, kitStateLength, kitStateOf, behindKit, kitUnfit, kitTaken, formAnswer, formTo, newKitAnswer, newKitTo, kitReplyWords, kitReplyTo, kitSweepTo, toldNumber, cleanAnswer, cleanTo}
 
 -- ---- what stands behind a kit's words does not matter to it
 
@@ -464,3 +467,89 @@ module _ (kit out : List ℕ) (zero : newKitTo kit out .number ≡ 0) (asked : L
             ((λ e. is .0 (to .0 e)), (λ c. to .1 (is .1 c)));
         told-unfinished = λ h n. says-to n unfinished .1 (demand .told-unfinished h n);
       }
+
+-- ---- where calls begin
+
+-- a factor that set-up accepted
+pub record SetUp (f : Factor) : Type 0 where
+  pub description : Description
+  pub given : setUp description ≡ accepted f
+
+-- the words of factors, one after another
+abbrev pub factorsWords : List Factor → List ℕ
+factorsWords [] = []
+factorsWords (f ∷ fs) = factorWords f ++ factorsWords fs
+
+-- a kit's words: the number of its factors, theirs, and whatever stands past them
+abbrev pub kitWords : List Factor → (past : List ℕ) → List ℕ
+kitWords fs past = length fs ∷ (factorsWords fs ++ past)
+
+words-writable : (f : Factor) → SetUp f → Writable f
+words-writable f a = set-up-writable (a .description) f (a .given)
+
+-- those past a factor's
+past-factor : (f : Factor) (past : List ℕ) → drop factorLength (factorWords f ++ past) ≡ past
+unfolding factorWords
+past-factor f past = refl
+
+module _ (past : List ℕ) where
+  none-damaged : (fs : List Factor) → AllOf SetUp fs → anyDamaged (length fs) (factorsWords fs ++ past) ≡ false
+  unfolding anyDamaged
+  none-damaged [] a = refl
+  none-damaged (f ∷ fs) a =
+      let rest = factorsWords fs ++ past in
+      ap (λ (ws : List ℕ). damaged ws || anyDamaged (length fs) (drop factorLength ws)) (append-assoc (factorWords f) (factorsWords fs) past)
+      ∙ ap₂ (λ (b : Bool) (ws : List ℕ). b || anyDamaged (length fs) ws) (not-damaged f (words-writable f (a .0)) rest) (past-factor f rest)
+      ∙ none-damaged fs (a .1)
+
+  factors-back : (n : ℕ) (fs : List Factor) → AllOf SetUp fs → length fs ≤ n → take (length fs) (factorsFrom n (factorsWords fs ++ past)) ≡ fs
+  unfolding factorsFrom
+  factors-back n [] a h = refl
+  factors-back zero (f ∷ fs) a h = absurd (omega arith)
+  factors-back (suc n) (f ∷ fs) a h =
+      let rest = factorsWords fs ++ past in
+      ap (λ (ws : List ℕ). factorFrom ws ∷ take (length fs) (factorsFrom n (drop factorLength ws))) (append-assoc (factorWords f) (factorsWords fs) past)
+      ∙ ap₂ (λ (g : Factor) (ws : List ℕ). g ∷ take (length fs) (factorsFrom n ws)) (factor-back f (words-writable f (a .0)) rest) (past-factor f rest)
+      ∙ ap (λ (l : List Factor). f ∷ l) (factors-back n fs (a .1) (omega arith))
+
+none-faulty : (fs : List Factor) → AllOf SetUp fs → anyOf faulty fs ≡ false
+unfolding anyOf
+none-faulty [] a = refl
+none-faulty (f ∷ fs) a = ap₂ _||_ (ap not (accepted-intact (a .0 .description) f (a .0 .given))) (none-faulty fs (a .1))
+
+-- 1 to 96 factors that set-up accepted, no two alike, written one after another, with any words past them up to 961 words or more
+module _ (fs : List Factor) (a : AllOf SetUp fs) (some : 0 < length fs) (few : length fs ≤ 96) (apart : twoAlike alike fs ≡ false) (past : List ℕ) (long : kitLength ≤ length (kitWords fs past)) where
+  -- they are read as a kit of these factors,
+  pub kit-factors : inKit (kitFrom (kitWords fs past)) ≡ fs
+  kit-factors = factors-back past 96 fs a few
+
+  counted : eqb (length fs) 0 || ltb 96 (length fs) ≡ false
+  counted = ap₂ _||_ (ne-eqb (length fs) 0 (λ e. omega (arith, some, e))) (le-ltb 96 (length fs) few)
+
+  words-taken : (room needed : ℕ) → needed ≤ room → kitTaken (kitWords fs past) kitLength room needed ≡ accepted (kitFrom (kitWords fs past))
+  unfolding kitTaken
+  words-taken room needed h =
+      let ws = kitWords fs past in
+      sym (accepts (pass (le-ltb (length ws) kitLength long) (pass (le-ltb room needed h) (pass counted (pass (none-damaged past fs a) end)))) (kitFrom ws))
+
+  no-fault : NoneHolds (kits .newFaults (kitFrom (kitWords fs past)))
+  no-fault = (
+    ap (λ (l : List Factor). eqb (length l) 0 || ltb 96 (length fs)) kit-factors ∙ counted,
+    (ap (anyOf faulty) kit-factors ∙ none-faulty fs a, (ap (twoAlike alike) kit-factors ∙ apart, tt)),
+  )
+
+  -- formed,
+  pub kit-forms-to : formTo (kitWords fs past) ≡ 0
+  unfolding formTo
+  kit-forms-to =
+      let k = kitFrom (kitWords fs past) in
+      ap (λ (o : Outcome (Kit Factor)). formAnswer (andThen o (λ k. answer (kits .newFaults k) k)) .number) (words-taken 0 0 (omega arith))
+      ∙ ap (λ (o : Outcome (Kit Factor)). formAnswer o .number) (none-refuses (kits .newFaults k) k no-fault)
+
+  -- and a new sweep over them is answered with 0.
+  pub kit-begins-to : (out : List ℕ) → kitStateLength ≤ length out → newKitTo (kitWords fs past) out .number ≡ 0
+  unfolding newKitTo
+  kit-begins-to out room =
+      let k = kitFrom (kitWords fs past) in
+      ap (λ (o : Outcome (Kit Factor)). newKitAnswer (kitWords fs past) (andThen o (newState kits)) .number) (words-taken (length out) kitStateLength room)
+      ∙ ap (λ (o : Outcome (State (Kit Factor))). newKitAnswer (kitWords fs past) o .number) (none-refuses (kits .newFaults k) (fresh kits k) no-fault)
