@@ -38,11 +38,14 @@ module _ (ws : List ℕ) (due room needed : ℕ) {v : Judgement} (is : First (ki
 pub behind-is : (s : KitState) → s .next < placeSize → behindKit (viewOf s) ≡ s .place ∷ s .next ∷ flagWord (s .finished) ∷ []
 behind-is s h = λ i. place-of (s .place) (s .next) h i ∷ significand-of (s .place) (s .next) h i ∷ flagWord (s .finished) ∷ []
 
--- a kit's words, and those behind it
-pub kit-words : (out ws behind : List ℕ) → 961 ≤ length ws → sets (sets out 0 (take 961 ws)) 961 behind ≡ sets out 0 (take 961 ws ++ behind)
-kit-words out ws behind h =
+-- a kit's words were copied, and those behind it written then
+pub kit-words : (out ws : List ℕ) {copied left words behind : List ℕ} → copied ≡ sets out 0 (take 961 ws) → behind ≡ words → left ≡ sets copied 961 words → 961 ≤ length ws → left ≡ sets out 0 (take 961 ws ++ behind)
+kit-words out ws {copied} {left} {words} {behind} c e w h =
     let n : 961 ≡ 0 + length (take 961 ws) = omega (arith, length-take-le 961 ws h) in
-    ap (λ (k : ℕ). sets (sets out 0 (take 961 ws)) k behind) n ∙ sym (sets-append (take 961 ws) behind out 0)
+    w
+    ∙ ap₂ (λ (l b : List ℕ). sets l 961 b) c (sym e)
+    ∙ ap (λ (k : ℕ). sets (sets out 0 (take 961 ws)) k behind) n
+    ∙ sym (sets-append (take 961 ws) behind out 0)
 
 -- what is returned and left, of an answer known to be b
 pub gives-kit : (a b : SweepWords) (state counts : List ℕ) → a ≡ b

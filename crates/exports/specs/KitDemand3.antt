@@ -98,14 +98,15 @@ module _ (kit : List ℕ) (long : length kit ≡ kitLength) where
   -- The state is read back, whatever stands behind its words.
   pub kit-state-back : (s : State (Kit Factor)) → s .over ≡ kitFrom kit → (rest : List ℕ) → let ws = kit ++ behindKit s ++ rest in kitStateOf (kitFrom ws) ws ≡ s
   kit-state-back s e rest =
+      let ws = kit ++ behindKit s ++ rest in
       let same = append-assoc kit (behindKit s) rest in
+      let place : word ws 961 ≡ placeIn (s .next) = ap (λ (ws : List ℕ). word ws 961) same ∙ behind-at (behindKit s ++ rest) 0 in
+      let significand : word ws 962 ≡ significandIn (s .next) = ap (λ (ws : List ℕ). word ws 962) same ∙ behind-at (behindKit s ++ rest) 1 in
+      let mark : word ws 963 ≡ flagWord (s .finished) = ap (λ (ws : List ℕ). word ws 963) same ∙ behind-at (behindKit s ++ rest) 2 in
       let kits = ap (λ (ws : List ℕ). kitFrom ws) same ∙ kit-kept (behindKit s ++ rest) ∙ sym e in
-      let place = ap (λ (ws : List ℕ). word ws 961) same ∙ behind-at (behindKit s ++ rest) 0 in
-      let next = ap (λ (ws : List ℕ). word ws 962) same ∙ behind-at (behindKit s ++ rest) 1 in
-      let mark = ap (λ (ws : List ℕ). word ws 963) same ∙ behind-at (behindKit s ++ rest) 2 in
-      let next = ap₂ position place next ∙ position-is (s .next) in
-      let mark = ap flagFrom mark ∙ flag-back (s .finished) in
-      λ i. record { over = kits i; next = next i; finished = mark i }
+      let next = ap₂ position place significand ∙ position-is (s .next) in
+      let finished = ap flagFrom mark ∙ flag-back (s .finished) in
+      λ i. record { over = kits i; next = next i; finished = finished i }
 
 -- What a call leaves: its words behind the kit's are written into the words of a state, and the state is read back.
 pub kit-back : (ws : List ℕ) → kitStateLength ≤ length ws → (t : State (Kit Factor)) → t .over ≡ kitFrom ws → let left = sets ws kitLength (behindKit t) in kitStateOf (kitFrom left) left ≡ t

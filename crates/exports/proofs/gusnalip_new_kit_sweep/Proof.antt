@@ -1,10 +1,9 @@
 -- `exports::gusnalip_new_kit_sweep` meets its contract: what refuses the words or the kit, or the state's words. Assumes nothing.
 use mathlib.Core.Path.{_≡_, refl, sym, ap, _∙_}
-use mathlib.Core.List.{List, [], _∷_, _++_}
 use Prim.Native.Nat.{ℕ, _^_, _≤_, _<_}
 use native.Mathlib.Omega.{arith}
 use lib.ListN.{length, take}
-use lib.Seq.{sets, length-sets}
+use lib.Seq.{length-sets}
 use borrow.Author.Needs.{needs}
 use Rattle.marks.specs.declared.Judgement.{Judgement}
 use Rattle.marks.specs.Answers.{Outcome, andThen}
@@ -14,7 +13,6 @@ use Rattle.calls.specs.Call.{newState}
 use Rattle.calls.specs.Kit.{Kit}
 use Rattle.kit.specs.Engine.{kits}
 use Rattle.kit.specs.Answers.{viewOf, newBy, newOf}
-use Rattle.exports.specs.Words.{flagWord}
 use Rattle.exports.specs.Answers.{Answer}
 use Rattle.exports.specs.AnswerLaws.{Enough, gives}
 use Rattle.exports.specs.Kits.{newKitAnswer, newKitTo}
@@ -84,13 +82,7 @@ returns-3 : tie.Need-returns-3
 returns-3 c =
     let a = start (begun c .before .before) .args in
     let s = begun c .new-state .result .state in
-    gives (a .out .now) (
-      refl,
-      put c .put-behind .ensures
-          ∙ ap (λ (l : List ℕ). sets l 961 (s .place ∷ s .next ∷ flagWord (s .finished) ∷ [])) (copied c .copy-kit .ensures)
-          ∙ kit-words (a .out .now) (a .kit .now) (s .place ∷ s .next ∷ flagWord (s .finished) ∷ []) (lists (begun c .before .before) .long)
-          ∙ ap (λ (l : List ℕ). sets (a .out .now) 0 (take 961 (a .kit .now) ++ l)) (sym (behind-is s (word (state c)))),
-    )
+    gives (a .out .now) (refl, kit-words (a .out .now) (a .kit .now) (copied c .copy-kit .ensures) (behind-is s (word (state c))) (put c .put-behind .ensures) (lists (begun c .before .before) .long))
     (told-by (begun c) Judgement.Passed (state c .before .enum-told2 .given .1))
 
 copy-kit-requires : tie.Need-copy-kit-requires
