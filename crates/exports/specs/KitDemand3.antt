@@ -6,12 +6,13 @@ use mathlib.Core.List.{List, [], _∷_, _++_, append-assoc}
 use Prim.Native.Nat.{ℕ, zero, suc, _+_, _-_, _*_, _≤_, _<_}
 use native.Mathlib.Omega.{arith}
 use native.Mathlib.Nat.{sub-zero, suc-sub-suc, zero-sub}
-use lib.ListN.{length, getD, take, drop, length-append}
+use lib.ListN.{length, take, drop, length-append}
 use lib.Seq.{sets, sets-eq, getD-take, take-nil, take-at, drop-at, getD-append-add, length-take-le}
 use lib.Dec.{eqb, ltb}
-use borrow.Author.Tests.{ltb-false, le-ltb, ne-eqb}
+use borrow.Author.Tests.{ltb-false, lt-ltb, le-ltb, ne-eqb}
+use Rattle.marks.specs.declared.Judgement.{Judgement}
 use Rattle.marks.specs.Answers.{Refusal, number, none, judged, NoneHolds, Outcome, refused, accepted, unless, answer, andThen}
-use Rattle.marks.specs.AnswerLaws.{pass, end, accepts, none-refuses, only-accepted, or-false}
+use Rattle.marks.specs.AnswerLaws.{pass, stop, end, refuses, accepts, none-refuses, only-accepted, or-false}
 use Rattle.factor.specs.declared.Description.{Description}
 use Rattle.factor.specs.declared.Factor.{Factor}
 use Rattle.factor.specs.SetUp.{setUp}
@@ -24,16 +25,15 @@ use Rattle.calls.specs.Kit.{Kit, inKit, anyOf, twoAlike, placeIn, significandIn
 use Rattle.calls.specs.KitLaws.{position-is}
 use Rattle.calls.specs.KitRows.{CleanKit}
 use Rattle.sweep.specs.Answers.{callOf}
-use Rattle.marks.specs.declared.Judgement.{Judgement}
 use Rattle.kit.specs.declared.KitState.{KitState}
 use Rattle.kit.specs.declared.NewKitSweep.{NewKitSweep}
 use Rattle.kit.specs.declared.KitReply.{KitReply}
 use Rattle.kit.specs.declared.KitAnswer.{KitAnswer}
 use Rattle.kit.specs.Engine.{faulty, alike, factors, kits}
-use Rattle.kit.specs.Answers.{newOf, replyOf, viewOf, Told, clean, notClean, unfinished, told, verdictOf}
+use Rattle.kit.specs.Answers.{replyOf, viewOf, Told, clean, notClean, unfinished, told, verdictOf}
 use Rattle.kit.specs.Demand3.{Made, replyIn, Kept, askedIn, lastIn, entriesIn, KitDemand3, kit-demand-3}
 use Rattle.exports.specs.Words.{word, flagWord, flagFrom, factorLength, factorFrom, factorWords, damaged}
-use Rattle.exports.specs.Answers.{Answer, leaves, SweepWords}
+use Rattle.exports.specs.Answers.{Answer, leaves, SweepWords, refusedWith}
 use Rattle.exports.specs.WordLaws.{Writable, set-up-writable, flag-back, not-damaged, factor-back}
 use Rattle.exports.specs.Demand3.{Asked, callIn, callsIn, accepted-at}
 use Rattle.exports.specs.Kits.{kitLength, factorsFrom, anyDamaged, kitFrom, kitStateLength, kitStateOf, behindKit, kitUnfit, kitTaken, formAnswer, formTo, newKitAnswer, newKitTo, kitReplyWords, kitReplyTo, kitSweepTo, toldNumber, cleanAnswer, cleanTo}
@@ -193,6 +193,18 @@ module _ (kit : List ℕ) (K : KitWords kit) (s : State (Kit Factor)) (over : s 
       go : (v : Refusal) (x : Run) → let r = replied kits s c v x in sets ws kitLength (kitReplyWords r .state) ≡ kit ++ behindKit (r .state) ++ rest
       go (number n) x = refl
       go none x = behind-written (replied kits s c none x .state)
+
+-- a call without room for its counts is none: it is answered with 255 and leaves all as it was
+pub no-room-kit : (state : List ℕ) (cap : ℕ) (list : List ℕ) (free : ℕ) (counts : List ℕ) → length counts < 3 → kitSweepTo state cap list free counts ≡ refusedWith 255 list
+unfolding kitSweepTo kitTaken
+no-room-kit state cap list free counts h = go (ltb (length state) kitStateLength) refl
+  where
+    told : Outcome (Kit Factor) → SweepWords
+    told o = kitReplyTo list o (λ k. sweepCall kits (kitStateOf k state) (callOf cap list free))
+
+    go : (b : Bool) → ltb (length state) kitStateLength ≡ b → told (kitTaken state kitStateLength (length counts) 3) ≡ refusedWith 255 list
+    go true e = ap told (sym (refuses (stop e) (kitFrom state)))
+    go false e = ap told (sym (refuses (pass e (stop (lt-ltb (length counts) 3 h))) (kitFrom state)))
 
 -- ---- calls one after another
 
@@ -518,12 +530,12 @@ unfolding anyOf
 none-faulty [] a = refl
 none-faulty (f ∷ fs) a = ap₂ _||_ (ap not (accepted-intact (a .0 .description) f (a .0 .given))) (none-faulty fs (a .1))
 
+-- Up to 96 such factors are read back, in their order, as the factors of a kit.
+pub kit-factors : (fs : List Factor) → AllOf SetUp fs → length fs ≤ 96 → (past : List ℕ) → inKit (kitFrom (kitWords fs past)) ≡ fs
+kit-factors fs a few past = factors-back past 96 fs a few
+
 -- 1 to 96 factors that set-up accepted, no two alike, written one after another, with any words past them up to 961 words or more
 module _ (fs : List Factor) (a : AllOf SetUp fs) (some : 0 < length fs) (few : length fs ≤ 96) (apart : twoAlike alike fs ≡ false) (past : List ℕ) (long : kitLength ≤ length (kitWords fs past)) where
-  -- they are read as a kit of these factors,
-  pub kit-factors : inKit (kitFrom (kitWords fs past)) ≡ fs
-  kit-factors = factors-back past 96 fs a few
-
   counted : eqb (length fs) 0 || ltb 96 (length fs) ≡ false
   counted = ap₂ _||_ (ne-eqb (length fs) 0 (λ e. omega (arith, some, e))) (le-ltb 96 (length fs) few)
 
@@ -534,12 +546,13 @@ module _ (fs : List Factor) (a : AllOf SetUp fs) (some : 0 < length fs) (few : l
       sym (accepts (pass (le-ltb (length ws) kitLength long) (pass (le-ltb room needed h) (pass counted (pass (none-damaged past fs a) end)))) (kitFrom ws))
 
   no-fault : NoneHolds (kits .newFaults (kitFrom (kitWords fs past)))
-  no-fault = (
-    ap (λ (l : List Factor). eqb (length l) 0 || ltb 96 (length fs)) kit-factors ∙ counted,
-    (ap (anyOf faulty) kit-factors ∙ none-faulty fs a, (ap (twoAlike alike) kit-factors ∙ apart, tt)),
-  )
+  no-fault =
+      let same = kit-factors fs a few past in (
+        ap (λ (l : List Factor). eqb (length l) 0 || ltb 96 (length fs)) same ∙ counted,
+        (ap (anyOf faulty) same ∙ none-faulty fs a, (ap (twoAlike alike) same ∙ apart, tt)),
+      )
 
-  -- formed,
+  -- They are formed,
   pub kit-forms-to : formTo (kitWords fs past) ≡ 0
   unfolding formTo
   kit-forms-to =

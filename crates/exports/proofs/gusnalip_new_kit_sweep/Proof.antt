@@ -1,6 +1,6 @@
 -- `exports::gusnalip_new_kit_sweep` meets its contract: what refuses the words or the kit, or the state's words. Assumes nothing.
 use mathlib.Core.Path.{_≡_, refl, sym, ap, _∙_}
-use Prim.Native.Nat.{ℕ, _^_, _≤_, _<_}
+use Prim.Native.Nat.{_^_, _<_}
 use native.Mathlib.Omega.{arith}
 use lib.ListN.{length, take}
 use lib.Seq.{length-sets}
@@ -8,11 +8,10 @@ use borrow.Author.Needs.{needs}
 use Rattle.marks.specs.declared.Judgement.{Judgement}
 use Rattle.marks.specs.Answers.{Outcome, andThen}
 use Rattle.factor.specs.declared.Factor.{Factor}
-use Rattle.calls.specs.State.{State}
 use Rattle.calls.specs.Call.{newState}
 use Rattle.calls.specs.Kit.{Kit}
 use Rattle.kit.specs.Engine.{kits}
-use Rattle.kit.specs.Answers.{viewOf, newBy, newOf}
+use Rattle.kit.specs.Answers.{newBy, newOf}
 use Rattle.exports.specs.Answers.{Answer}
 use Rattle.exports.specs.AnswerLaws.{Enough, gives}
 use Rattle.exports.specs.Kits.{newKitAnswer, newKitTo}
