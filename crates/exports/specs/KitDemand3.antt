@@ -123,13 +123,13 @@ new-kit-back kit h s e rest = kit-state-back (take kitLength kit) (length-take-l
 -- ---- one call
 
 -- The words of a kit that are taken: 961, the number from 1 to 96, and none of those counted damaged.
-pub record KitWords (kit : List ℕ) : Type 0 where
+pub record FitKit (kit : List ℕ) : Type 0 where
   pub long : length kit ≡ kitLength
   pub number : eqb (word kit 0) 0 || ltb 96 (word kit 0) ≡ false
   pub intact : anyDamaged (word kit 0) (drop 1 kit) ≡ false
 
 -- They are so with any words behind them.
-module _ (kit : List ℕ) (K : KitWords kit) (rest : List ℕ) where
+module _ (kit : List ℕ) (K : FitKit kit) (rest : List ℕ) where
   abbrev more : List ℕ
   more = kit ++ rest
 
@@ -158,7 +158,7 @@ module _ (kit : List ℕ) (K : KitWords kit) (rest : List ℕ) where
       sym (accepts (pass (le-ltb (length more) due h) (pass (le-ltb room needed k) (pass number-in (pass still-intact end)))) (kitFrom more))
 
 -- On the words of a state, whatever stands behind them, it is the engine's call on that state.
-module _ (kit : List ℕ) (K : KitWords kit) (s : State (Kit Factor)) (over : s .over ≡ kitFrom kit) (rest : List ℕ) where
+module _ (kit : List ℕ) (K : FitKit kit) (s : State (Kit Factor)) (over : s .over ≡ kitFrom kit) (rest : List ℕ) where
   abbrev ws : List ℕ
   ws = kit ++ behindKit s ++ rest
 
@@ -265,7 +265,7 @@ asked-are : (s : State (Kit Factor)) (asked : List Asked) → askedIn (madeFrom 
 asked-are s [] = refl
 asked-are s (a ∷ asked) = ap (λ (l : List Call). callIn a ∷ l) (asked-are (sweepCall kits s (callIn a) .state) asked)
 
-module _ (kit : List ℕ) (K : KitWords kit) (rest : List ℕ) where
+module _ (kit : List ℕ) (K : FitKit kit) (rest : List ℕ) where
   -- every call hands back a state over the same kit
   still-over : (s : State (Kit Factor)) (c : Call) → s .over ≡ kitFrom kit → sweepCall kits s c .state .over ≡ kitFrom kit
   still-over s c e = over-kept kits s c ∙ e
@@ -325,7 +325,7 @@ module _ (kit out : List ℕ) (zero : newKitTo kit out .number ≡ 0) where
   unfolding kitTaken
   kit-long = ltb-false (length kit) kitLength (only-accepted (kitUnfit kit kitLength (length out) kitStateLength) k k was-taken .0 .0)
 
-  head-words : KitWords head
+  head-words : FitKit head
   unfolding kitTaken
   head-words =
       let none = only-accepted (kitUnfit kit kitLength (length out) kitStateLength) k k was-taken .0 in
@@ -403,7 +403,7 @@ told-is s n u = (
 )
 
 -- On the words of a state, whatever stands behind them, it is told what `kit` tells of that state.
-pub clean-to : (kit : List ℕ) → KitWords kit → (s : State (Kit Factor)) → s .over ≡ kitFrom kit → (rest : List ℕ) (n : ℕ)
+pub clean-to : (kit : List ℕ) → FitKit kit → (s : State (Kit Factor)) → s .over ≡ kitFrom kit → (rest : List ℕ) (n : ℕ)
     → cleanTo (kit ++ behindKit s ++ rest) n ≡ cleanAnswer (verdictOf s n) .number
 unfolding cleanTo
 clean-to kit K s e rest n =
@@ -441,7 +441,7 @@ module _ (kit out : List ℕ) (zero : newKitTo kit out .number ≡ 0) (asked : L
   abbrev rest : List ℕ
   rest = drop kitStateLength out
 
-  K : KitWords (take kitLength kit)
+  K : FitKit (take kitLength kit)
   K = head-words kit out zero
 
   over : begun .over ≡ kitFrom (take kitLength kit)
