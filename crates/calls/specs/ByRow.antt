@@ -4,8 +4,8 @@ use Rattle.marks.specs.Answers.{judged}
 use Rattle.search.specs.declared.Place.{Place}
 use Rattle.search.specs.declared.Place.TheVariants.{At, Nowhere}
 use Rattle.search.specs.declared.Found.{Found}
-use Rattle.calls.specs.State.{State, Call, termsOf, roomIn}
-use Rattle.calls.specs.Engine.{Section, start_in, past, stopsAt, once, Engine}
+use Rattle.calls.specs.State.{State, Call, terms_of, room_in}
+use Rattle.calls.specs.Engine.{Section, start_in, past, stops_at, once, Engine}
 use Rattle.calls.specs.Call.{Reply, Run, conditions, replied}
 use Rattle.calls.specs.Plain.{keep, row, tries, words_of}
 
@@ -27,9 +27,9 @@ trail l a zero (x ∷ r) = legs l a (At x)
 trail l a (suc k) (x ∷ r) = legs l a (At x) ++ trail l (suc x) k r
 
 -- The rounds of searches, added up.
-unfoldable pub roundsIn : List Found → ℕ
-roundsIn [] = 0
-roundsIn (w ∷ l) = w.rounds + roundsIn l
+unfoldable pub rounds_in : List Found → ℕ
+rounds_in [] = 0
+rounds_in (w ∷ l) = w.rounds + rounds_in l
 
 -- ---- how many searches
 
@@ -45,27 +45,27 @@ closings suspect (s ∷ l) a stop = once (past s.end stop && closing suspect (st
 
 -- The number of searches of a call from a on that tries k suspects and stops at a place, or at none: "one search for each suspect tried, one search that finds none for each half
 -- completed, and one for the suspect stopped at". A section is completed where the call stops past it.
-abbrev pub searchesOf : (ℕ → Bool) → List Section → (a k : ℕ) → Place → ℕ
-searchesOf suspect l a k stop = k + once (stopsAt stop) + closings suspect l a stop
+abbrev pub searches_of : (ℕ → Bool) → List Section → (a k : ℕ) → Place → ℕ
+searches_of suspect l a k stop = k + once (stops_at stop) + closings suspect l a stop
 
 -- ---- the call
 
 -- A call from a on that tries k of the row of suspects from a on.
-abbrev pub rowRun : {U : Type 0} → Engine U → U → (a k : ℕ) → List ℕ → Run
-rowRun e u a k l =
+abbrev pub row_run : {U : Type 0} → Engine U → U → (a k : ℕ) → List ℕ → Run
+row_run e u a k l =
     record {
       trials = k;
-      rounds = roundsIn (trail (e.sections u) a k l);
+      rounds = rounds_in (trail (e.sections u) a k l);
       words = words_of (e.mark u) (take k l);
       left = head_of (drop k l);
     }
 
 -- The suspects from a state's next significand on.
-abbrev pub rowAhead : {U : Type 0} → (U → ℕ → Bool) → Engine U → State U → List ℕ
-rowAhead suspect e s = row (suspect s.over) s.next (suc (e.last s.over))
+abbrev pub row_ahead : {U : Type 0} → (U → ℕ → Bool) → Engine U → State U → List ℕ
+row_ahead suspect e s = row (suspect s.over) s.next (suc (e.last s.over))
 
 -- A sweep call, read off the row: it tries as many as the plain sweep would.
-abbrev pub rowCall : {U : Type 0} → (U → ℕ → Bool) → Engine U → State U → Call → Reply U
-rowCall suspect e s c =
-    let tried = tries (e.mark s.over) c.cap (roomIn (e.listing s.over) (length c.list) c.free) (rowAhead suspect e s) in
-    replied e s c (judged (conditions e s (termsOf c))) (rowRun e s.over s.next tried (rowAhead suspect e s))
+abbrev pub row_call : {U : Type 0} → (U → ℕ → Bool) → Engine U → State U → Call → Reply U
+row_call suspect e s c =
+    let tried = tries (e.mark s.over) c.cap (room_in (e.listing s.over) (length c.list) c.free) (row_ahead suspect e s) in
+    replied e s c (judged (conditions e s (terms_of c))) (row_run e s.over s.next tried (row_ahead suspect e s))

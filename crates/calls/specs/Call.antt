@@ -6,14 +6,14 @@ use Rattle.marks.specs.Answers.{Refusal, number, none, judged, Outcome, refused,
 use Rattle.search.specs.declared.Place.{Place}
 use Rattle.search.specs.declared.Place.TheVariants.{At, Nowhere}
 use Rattle.search.specs.declared.Found.{Found}
-use Rattle.calls.specs.State.{State, Call, Terms, termsOf, listed, entries, roomIn}
+use Rattle.calls.specs.State.{State, Call, Terms, terms_of, listed, entries, room_in}
 use Rattle.calls.specs.Engine.{Section, start_in, Engine, fresh, handed}
 
 -- ---- refusals and replies
 
 -- A new state, or its refusal.
-abbrev pub newState : {U : Type 0} → Engine U → U → Outcome (State U)
-newState e u = answer (e.newFaults u) (fresh e u)
+abbrev pub new_state : {U : Type 0} → Engine U → U → Outcome (State U)
+new_state e u = answer (e.new_faults u) (fresh e u)
 
 -- The conditions that refuse a call: "State comes before input; within a list the smaller number comes first".
 abbrev pub conditions : {U : Type 0} → Engine U → State U → Terms → List (ℕ × Bool)
@@ -43,14 +43,14 @@ within end (At X) = cond (ltb X end) (At X) Nowhere
 within end Nowhere = Nowhere
 
 -- None found, after some rounds.
-abbrev pub noneAfter : ℕ → Found
-noneAfter n = record { place = Nowhere; rounds = n }
+abbrev pub none_after : ℕ → Found
+none_after n = record { place = Nowhere; rounds = n }
 
 -- The search in a section, on the way from a on.
 -- "A half in which no significand of the range is left is passed over without a search."
 abbrev pub sought : Section → (a : ℕ) → Found
 sought s a =
-    cond (ltb (start_in s a) s.end) (record { place = within s.end (s.find (start_in s a)).place; rounds = (s.find (start_in s a)).rounds }) (noneAfter 0)
+    cond (ltb (start_in s a) s.end) (record { place = within s.end (s.find (start_in s a)).place; rounds = (s.find (start_in s a)).rounds }) (none_after 0)
 
 -- The first search, where its place is one; otherwise the other, with the rounds of both.
 abbrev pub or_else : Place → Found → Found → Found
@@ -59,7 +59,7 @@ or_else Nowhere w other = record { place = other.place; rounds = w.rounds + othe
 
 -- The first suspect from a on in sections, one after another, with the rounds of the searches that lead to it.
 unfoldable pub seek : List Section → (a : ℕ) → Found
-seek [] a = noneAfter 0
+seek [] a = none_after 0
 seek (s ∷ l) a = or_else (sought s a).place (sought s a) (seek l a)
 
 -- The first suspect from a on in all that is swept.
@@ -122,9 +122,9 @@ replied e s c none r =
 
 -- What a call does on a state, where nothing refuses it: it has room for as many entries as the free places hold.
 abbrev pub run_of : {U : Type 0} → Engine U → State U → Call → Run
-run_of e s c = run e s.over c.cap (roomIn (e.listing s.over) (length c.list) c.free) s.next
+run_of e s c = run e s.over c.cap (room_in (e.listing s.over) (length c.list) c.free) s.next
 
 -- A sweep call.
-unfoldable pub sweepCall : {U : Type 0} → Engine U → State U → Call → Reply U
+unfoldable pub sweep_call : {U : Type 0} → Engine U → State U → Call → Reply U
 unfolding judged entries
-sweepCall e s c = replied e s c (judged (conditions e s (termsOf c))) (run_of e s c)
+sweep_call e s c = replied e s c (judged (conditions e s (terms_of c))) (run_of e s c)

@@ -7,7 +7,7 @@ use Rattle.search.specs.declared.Place.{Place}
 use Rattle.search.specs.declared.Place.TheVariants.{At, Nowhere}
 use Rattle.search.specs.declared.Found.{Found}
 use Rattle.search.specs.Finds.{LeastFrom}
-use Rattle.calls.specs.State.{State, Terms, tailTerms, Listing}
+use Rattle.calls.specs.State.{State, Terms, tail_terms, Listing}
 
 -- ---- sections
 
@@ -23,14 +23,14 @@ pub data Half : Type 0 where
   low high : Half
 
 -- Where the low half's part of a range ends: before the first high significand, or past the last of the range; at its first, where all of it is high.
-abbrev pub low_end : (firstHigh first last : ℕ) → ℕ
-low_end firstHigh first last = max first (min firstHigh (suc last))
+abbrev pub low_end : (first_high first last : ℕ) → ℕ
+low_end first_high first last = max first (min first_high (suc last))
 
 -- Both halves of a range: "Low X are searched before high X".
-abbrev pub halves : (firstHigh first last : ℕ) → (Half → ℕ → Found) → List Section
-halves firstHigh first last find =
-    record { from = first; end = low_end firstHigh first last; find = find low }
-    ∷ record { from = low_end firstHigh first last; end = suc last; find = find high }
+abbrev pub halves : (first_high first last : ℕ) → (Half → ℕ → Found) → List Section
+halves first_high first last find =
+    record { from = first; end = low_end first_high first last; find = find low }
+    ∷ record { from = low_end first_high first last; end = suc last; find = find high }
     ∷ []
 
 -- Where the search of a section starts, on the way from a on: at the larger of a and its first significand.
@@ -43,9 +43,9 @@ past end (At X) = leb end X
 past end Nowhere = true
 
 -- Whether a call stops at a suspect, and so leaves some.
-abbrev pub stopsAt : Place → Bool
-stopsAt (At X) = true
-stopsAt Nowhere = false
+abbrev pub stops_at : Place → Bool
+stops_at (At X) = true
+stops_at Nowhere = false
 
 -- 1 where a test holds.
 abbrev pub once : Bool → ℕ
@@ -61,7 +61,7 @@ passed (s ∷ l) a p = once (past s.end p && ltb (start_in s a) s.end) + passed 
 -- What a sweep asks of what is swept. U is its type.
 pub record Engine (U : Type 0) : Type 0 where
   -- the conditions that refuse a new state, with their numbers
-  pub newFaults : U → List (ℕ × Bool)
+  pub new_faults : U → List (ℕ × Bool)
   -- the conditions on a state, finished or not, that refuse a call
   pub faults : State U → List (ℕ × Bool)
   -- how the lists of its calls are kept
@@ -99,7 +99,7 @@ pub record ListingLaws (l : Listing) : Type 0 where
   -- a call that is not refused has a cap of at least 1 and room for an entry
   pub takes : (t : Terms) → NoneHolds (l.refuses t) → (0 < t.cap) × (l.places ≤ t.size - t.free)
   -- nor is the same one on the free tail of its list
-  pub tails : (t : Terms) → NoneHolds (l.refuses t) → NoneHolds (l.refuses (tailTerms t))
+  pub tails : (t : Terms) → NoneHolds (l.refuses t) → NoneHolds (l.refuses (tail_terms t))
 
 -- ---- what is asked of sections
 
@@ -150,13 +150,13 @@ AtSuspect suspect a last Nowhere = Unit {0}
 
 -- A state over what a new one is not refused over, its next significand being one of that.
 pub record Standing {U : Type 0} (e : Engine U) (s : State U) : Type 0 where
-  pub sound : NoneHolds (e.newFaults s.over)
+  pub sound : NoneHolds (e.new_faults s.over)
   pub there : e.has s.over s.next ≡ true
 
 -- An engine is lawful if just such states are not refused, and the laws hold wherever a new state is not refused.
 pub record Lawful {U : Type 0} (suspect : U → ℕ → Bool) (e : Engine U) (B : U → ℕ) : Type 0 where
   pub states : (s : State U) → NoneHolds (e.faults s) ↔ Standing e s
-  pub laws : (u : U) → NoneHolds (e.newFaults u) → Laws (suspect u) e u (B u)
+  pub laws : (u : U) → NoneHolds (e.new_faults u) → Laws (suspect u) e u (B u)
   -- the sections that a call from a state to its stop completes, and the one of the suspect stopped at, are as few as they may be
   pub spans : (s : State U) → Standing e s → (p : Place) → AtSuspect (suspect s.over) s.next (e.last s.over) p
-      → once (stopsAt p) + passed (e.sections s.over) s.next p ≤ e.beyond s (handed e s p)
+      → once (stops_at p) + passed (e.sections s.over) s.next p ≤ e.beyond s (handed e s p)

@@ -1,5 +1,5 @@
 -- Definitions: a kit of factors and its sweep (request W6), over any type of factors. A kit is swept as a factor is: its significands are positions, a place and a significand as one number, and its sections are those of its factors, one after another.
--- So a kit call is `sweepCall`, a plain kit sweep is the plain sweep, and demand 3 is that of sweeps. What stands in quotes is the request's.
+-- So a kit call is `sweep_call`, a plain kit sweep is the plain sweep, and demand 3 is that of sweeps. What stands in quotes is the request's.
 use Rattle.std.specs.Prelude.{Bool, false, cond, not, ◌&&◌, ◌||◌, List, [], ◌∷◌, ◌++◌, map, ℕ, suc, ◌+◌, ◌-◌, ◌*◌, ◌/◌, ◌%◌, ◌^◌, eqb, ltb, length, take, drop}
 use Rattle.marks.specs.declared.Mark.{Mark}
 use Rattle.marks.specs.declared.Mark.TheVariants.{Right}
@@ -17,8 +17,8 @@ pub record Kit (F : Type 0) : Type 0 where
   pub count : ℕ
 
 -- The factors of a kit, in kit order. What stands past the number is not in it.
-abbrev pub inKit : {F : Type 0} → Kit F → List F
-inKit k = take k.count k.factors
+abbrev pub in_kit : {F : Type 0} → Kit F → List F
+in_kit k = take k.count k.factors
 
 -- Whether a test holds for one of a list.
 unfoldable pub any_of : {F : Type 0} → (F → Bool) → List F → Bool
@@ -26,34 +26,34 @@ any_of t [] = false
 any_of t (f ∷ l) = t f || any_of t l
 
 -- Whether two of a list are alike.
-unfoldable pub twoAlike : {F : Type 0} → (F → F → Bool) → List F → Bool
+unfoldable pub two_alike : {F : Type 0} → (F → F → Bool) → List F → Bool
 unfolding any_of
-twoAlike alike [] = false
-twoAlike alike (f ∷ l) = any_of (alike f) l || twoAlike alike l
+two_alike alike [] = false
+two_alike alike (f ∷ l) = any_of (alike f) l || two_alike alike l
 
 -- "Checks when a kit is formed: 42, kit empty or above 96, then 31, then 43, two factors alike"
-abbrev pub kitFaults : {F : Type 0} → (faulty : F → Bool) (alike : F → F → Bool) → Kit F → List (ℕ × Bool)
-kitFaults faulty alike k =
-    (42, eqb (length (inKit k)) 0 || ltb 96 k.count)
-    ∷ (31, any_of faulty (inKit k))
-    ∷ (43, twoAlike alike (inKit k))
+abbrev pub kit_faults : {F : Type 0} → (faulty : F → Bool) (alike : F → F → Bool) → Kit F → List (ℕ × Bool)
+kit_faults faulty alike k =
+    (42, eqb (length (in_kit k)) 0 || ltb 96 k.count)
+    ∷ (31, any_of faulty (in_kit k))
+    ∷ (43, two_alike alike (in_kit k))
     ∷ []
 
 -- ---- positions
 
 -- A significand is below this, so that a place and a significand are one number.
-abbrev pub placeSize : ℕ
-placeSize = 2 ^ 64
+abbrev pub place_size : ℕ
+place_size = 2 ^ 64
 
 -- A position: the factor's place and a significand. Positions ascend in kit order.
 abbrev pub position : (place X : ℕ) → ℕ
-position i X = i * placeSize + X
+position i X = i * place_size + X
 
 abbrev pub place_in : ℕ → ℕ
-place_in z = z / placeSize
+place_in z = z / place_size
 
-abbrev pub significandIn : ℕ → ℕ
-significandIn z = z % placeSize
+abbrev pub significand_in : ℕ → ℕ
+significand_in z = z % place_size
 
 -- ---- what a kit asks of its factors
 
@@ -65,89 +65,89 @@ pub record Factors (F U : Type 0) : Type 0 where
   pub alike : F → F → Bool
 
 -- The first significand of the first of a list of factors, and the last one of the last.
-abbrev pub firstIn : {F U : Type 0} → Factors F U → List F → ℕ
-firstIn d [] = 0
-firstIn d (f ∷ l) = d.engine.first (d.whole f)
+abbrev pub first_in : {F U : Type 0} → Factors F U → List F → ℕ
+first_in d [] = 0
+first_in d (f ∷ l) = d.engine.first (d.whole f)
 
 abbrev pub last_of : {F : Type 0} → F → List F → F
 last_of f [] = f
 last_of f (g ∷ l) = last_of g l
 
-abbrev pub lastIn : {F U : Type 0} → Factors F U → List F → ℕ
-lastIn d [] = 0
-lastIn d (f ∷ l) = d.engine.last (d.whole (last_of f l))
+abbrev pub last_in : {F U : Type 0} → Factors F U → List F → ℕ
+last_in d [] = 0
+last_in d (f ∷ l) = d.engine.last (d.whole (last_of f l))
 
 -- Whether the first of a list of factors has a significand, whether that is a suspect, and its mark. Where there is none, nothing can fail.
 abbrev pub has_at : {F U : Type 0} → Factors F U → List F → ℕ → Bool
 has_at d [] X = false
 has_at d (f ∷ l) X = d.engine.has (d.whole f) X
 
-abbrev pub suspectAt : {F U : Type 0} → (U → ℕ → Bool) → Factors F U → List F → ℕ → Bool
-suspectAt suspect d [] X = false
-suspectAt suspect d (f ∷ l) X = d.engine.has (d.whole f) X && suspect (d.whole f) X
+abbrev pub suspect_at : {F U : Type 0} → (U → ℕ → Bool) → Factors F U → List F → ℕ → Bool
+suspect_at suspect d [] X = false
+suspect_at suspect d (f ∷ l) X = d.engine.has (d.whole f) X && suspect (d.whole f) X
 
-abbrev pub markAt : {F U : Type 0} → Factors F U → List F → ℕ → Mark
-markAt d [] X = Right
-markAt d (f ∷ l) X = cond (d.engine.has (d.whole f) X) (d.engine.mark (d.whole f) X) Right
+abbrev pub mark_at : {F U : Type 0} → Factors F U → List F → ℕ → Mark
+mark_at d [] X = Right
+mark_at d (f ∷ l) X = cond (d.engine.has (d.whole f) X) (d.engine.mark (d.whole f) X) Right
 
 -- The same of a position in a kit.
-unfoldable pub hasIn : {F U : Type 0} → Factors F U → Kit F → ℕ → Bool
-hasIn d k z = has_at d (drop (place_in z) (inKit k)) (significandIn z)
+unfoldable pub has_in : {F U : Type 0} → Factors F U → Kit F → ℕ → Bool
+has_in d k z = has_at d (drop (place_in z) (in_kit k)) (significand_in z)
 
-unfoldable pub suspectIn : {F U : Type 0} → (U → ℕ → Bool) → Factors F U → Kit F → ℕ → Bool
-suspectIn suspect d k z = suspectAt suspect d (drop (place_in z) (inKit k)) (significandIn z)
+unfoldable pub suspect_in : {F U : Type 0} → (U → ℕ → Bool) → Factors F U → Kit F → ℕ → Bool
+suspect_in suspect d k z = suspect_at suspect d (drop (place_in z) (in_kit k)) (significand_in z)
 
-unfoldable pub markIn : {F U : Type 0} → Factors F U → Kit F → ℕ → Mark
-markIn d k z = markAt d (drop (place_in z) (inKit k)) (significandIn z)
+unfoldable pub mark_in : {F U : Type 0} → Factors F U → Kit F → ℕ → Mark
+mark_in d k z = mark_at d (drop (place_in z) (in_kit k)) (significand_in z)
 
 -- ---- sections
 
 -- What a search finds, in a factor at a place.
-abbrev pub placeAt : ℕ → Place → Place
-placeAt i (At X) = At (position i X)
-placeAt i Nowhere = Nowhere
+abbrev pub place_at : ℕ → Place → Place
+place_at i (At X) = At (position i X)
+place_at i Nowhere = Nowhere
 
 abbrev pub found_at : ℕ → Found → Found
-found_at i w = record { place = placeAt i w.place; rounds = w.rounds }
+found_at i w = record { place = place_at i w.place; rounds = w.rounds }
 
 -- A section of a factor at a place.
-abbrev pub sectionAt : ℕ → Section → Section
-sectionAt i s = record { from = position i s.from; end = position i s.end; find = λ a. found_at i (s.find (significandIn a)) }
+abbrev pub section_at : ℕ → Section → Section
+section_at i s = record { from = position i s.from; end = position i s.end; find = λ a. found_at i (s.find (significand_in a)) }
 
 -- The sections of factors from a place on: "A kit sweep goes through them in order, over all significands of each".
-unfoldable pub sectionsFrom : {F U : Type 0} → Factors F U → (i : ℕ) → List F → List Section
-sectionsFrom d i [] = []
-sectionsFrom d i (f ∷ l) = map (sectionAt i) (d.engine.sections (d.whole f)) ++ sectionsFrom d (suc i) l
+unfoldable pub sections_from : {F U : Type 0} → Factors F U → (i : ℕ) → List F → List Section
+sections_from d i [] = []
+sections_from d i (f ∷ l) = map (section_at i) (d.engine.sections (d.whole f)) ++ sections_from d (suc i) l
 
 -- ---- lists
 
 -- "an entry takes two words, the factor's place from 0 and the listed word of 01": a position's listed word is place × 2^65 plus its significand's. 18, "cap 0", and 44, "fewer than two free places".
-abbrev pub entryList : Listing
-entryList =
+abbrev pub entry_list : Listing
+entry_list =
     record {
       refuses = λ t. (18, eqb t.cap 0) ∷ (44, ltb (t.size - t.free) 2) ∷ [];
       places = 2;
-      entry = λ w. w / (2 * placeSize) ∷ w % (2 * placeSize) ∷ [];
+      entry = λ w. w / (2 * place_size) ∷ w % (2 * place_size) ∷ [];
     }
 
 -- ---- the engine of kits
 
--- "the number of those factors" that a call searched in: from the one that it began in to the one that it ended in. These are just the factors in which a search is made (`call-searched`, `call-made`, `call-only` of KitSearched):
+-- "the number of those factors" that a call searched in: from the one that it began in to the one that it ended in. These are just the factors in which a search is made (`call_searched`, `call_made`, `call_only` of KitSearched):
 -- in the first since its next significand is one of that factor's, in each later one from its first significand on.
-abbrev pub searchedIn : {F : Type 0} → (before after : State (Kit F)) → ℕ
-searchedIn s t = suc (place_in t.next) - place_in s.next
+abbrev pub searched_in : {F : Type 0} → (before after : State (Kit F)) → ℕ
+searched_in s t = suc (place_in t.next) - place_in s.next
 
 -- "A kit call repeats them, then 32, also for a place with no factor".
-abbrev pub kitEngine : {F U : Type 0} → Factors F U → Engine (Kit F)
-kitEngine d =
+abbrev pub kit_engine : {F U : Type 0} → Factors F U → Engine (Kit F)
+kit_engine d =
     record {
-      newFaults = kitFaults d.faulty d.alike;
-      faults = λ s. kitFaults d.faulty d.alike s.over ++ (32, not (hasIn d s.over s.next)) ∷ [];
-      listing = λ k. entryList;
-      first = λ k. position 0 (firstIn d (inKit k));
-      last = λ k. position (length (inKit k) - 1) (lastIn d (inKit k));
-      has = hasIn d;
-      mark = markIn d;
-      sections = λ k. sectionsFrom d 0 (inKit k);
-      beyond = λ s t. 2 * searchedIn s t;
+      new_faults = kit_faults d.faulty d.alike;
+      faults = λ s. kit_faults d.faulty d.alike s.over ++ (32, not (has_in d s.over s.next)) ∷ [];
+      listing = λ k. entry_list;
+      first = λ k. position 0 (first_in d (in_kit k));
+      last = λ k. position (length (in_kit k) - 1) (last_in d (in_kit k));
+      has = has_in d;
+      mark = mark_in d;
+      sections = λ k. sections_from d 0 (in_kit k);
+      beyond = λ s t. 2 * searched_in s t;
     }

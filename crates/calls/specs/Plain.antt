@@ -3,7 +3,7 @@ use Rattle.std.specs.Prelude.{Bool, true, false, List, [], ◌∷◌, ◌++◌, 
 use Rattle.marks.specs.declared.Mark.{Mark}
 use Rattle.marks.specs.declared.Mark.TheVariants.{Right, Open, Wrong}
 use Rattle.marks.specs.Answers.{Refusal, number, none, judged, Outcome, refused, accepted}
-use Rattle.calls.specs.State.{State, Call, Terms, termsOf, listed, Listing, entries, roomIn}
+use Rattle.calls.specs.State.{State, Call, Terms, terms_of, listed, Listing, entries, room_in}
 
 -- ---- the row
 
@@ -35,17 +35,17 @@ row suspect a b = pick suspect (span a b)
 -- ---- a call's trials and words
 
 -- 1 for a significand that is not right.
-abbrev pub notRight : Mark → ℕ
-notRight Right = 0
-notRight Open = 1
-notRight Wrong = 1
+abbrev pub not_right : Mark → ℕ
+not_right Right = 0
+not_right Open = 1
+not_right Wrong = 1
 
 -- How many of a row are tried: "until c are tried in this call, or f of these were not right, or the row is used up".
 unfoldable pub tries : (ℕ → Mark) → (c f : ℕ) → List ℕ → ℕ
 tries mark c f [] = 0
 tries mark zero f (x ∷ l) = 0
 tries mark (suc c) zero (x ∷ l) = 0
-tries mark (suc c) (suc f) (x ∷ l) = suc (tries mark c (suc f - notRight (mark x)) l)
+tries mark (suc c) (suc f) (x ∷ l) = suc (tries mark c (suc f - not_right (mark x)) l)
 
 -- The words "of the tried ones that are not right, in that order".
 unfoldable pub words_of : (ℕ → Mark) → List ℕ → List ℕ
@@ -95,9 +95,9 @@ pub record PlainReply : Type 0 where
   pub plain : Plain
 
 -- "A refusal changes nothing." Any other call tries the next k, and its words are the entries of those that are not right.
-abbrev pub plainReplied : {U : Type 0} → Fed U → Plain → (free : ℕ) → Refusal → (k : ℕ) → PlainReply
-plainReplied w p free (number n) k = record { told = refused n; plain = p }
-plainReplied w p free none k =
+abbrev pub plain_replied : {U : Type 0} → Fed U → Plain → (free : ℕ) → Refusal → (k : ℕ) → PlainReply
+plain_replied w p free (number n) k = record { told = refused n; plain = p }
+plain_replied w p free none k =
     let words = entries w.listing (words_of w.mark (take k (untried w p))) in
     record {
       told = accepted (record { trials = k; place = free + length words; words = words });
@@ -105,14 +105,14 @@ plainReplied w p free none k =
     }
 
 -- "If it is finished, a call is refused with 33"; otherwise by the conditions on calls.
-abbrev pub plainRefusal : Listing → (finished : Bool) → Terms → Refusal
-plainRefusal l finished t = judged ((33, finished) ∷ l.refuses t)
+abbrev pub plain_refusal : Listing → (finished : Bool) → Terms → Refusal
+plain_refusal l finished t = judged ((33, finished) ∷ l.refuses t)
 
 -- A call of the plain sweep, fed its "cap, list length and first free place"; it has room for as many entries as the free places hold.
-unfoldable pub plainCall : {U : Type 0} → Fed U → Plain → Terms → PlainReply
+unfoldable pub plain_call : {U : Type 0} → Fed U → Plain → Terms → PlainReply
 unfolding judged entries
-plainCall w p t =
-    plainReplied w p t.free (plainRefusal w.listing p.finished t) (tries w.mark t.cap (roomIn w.listing t.size t.free) (untried w p))
+plain_call w p t =
+    plain_replied w p t.free (plain_refusal w.listing p.finished t) (tries w.mark t.cap (room_in w.listing t.size t.free) (untried w p))
 
 -- ---- lists of calls
 
@@ -131,15 +131,15 @@ abbrev pub state_of : {U : Type 0} → Fed U → Plain → State U
 state_of w p = record { over = w.over; next = p.next; finished = p.finished }
 
 -- What the plain sweep makes of a call.
-abbrev pub plainNext : {U : Type 0} → Fed U → Plain → Call → PlainReply
-plainNext w p c = plainCall w p (termsOf c)
+abbrev pub plain_next : {U : Type 0} → Fed U → Plain → Call → PlainReply
+plain_next w p c = plain_call w p (terms_of c)
 
 -- What the plain sweep shows of each call of a list, with itself as a state of type S.
 unfoldable pub plains : {U S : Type 0} → (Plain → S) → Fed U → Plain → List Call → List (SeenOf S)
 plains view w p [] = []
-plains view w p (c ∷ cs) = record { told = (plainNext w p c).told; state = view (plainNext w p c).plain } ∷ plains view w (plainNext w p c).plain cs
+plains view w p (c ∷ cs) = record { told = (plain_next w p c).told; state = view (plain_next w p c).plain } ∷ plains view w (plain_next w p c).plain cs
 
 -- The plain sweep after the calls of a list.
-unfoldable pub plainAfter : {U : Type 0} → Fed U → Plain → List Call → Plain
-plainAfter w p [] = p
-plainAfter w p (c ∷ cs) = plainAfter w (plainNext w p c).plain cs
+unfoldable pub plain_after : {U : Type 0} → Fed U → Plain → List Call → Plain
+plain_after w p [] = p
+plain_after w p (c ∷ cs) = plain_after w (plain_next w p c).plain cs

@@ -22,8 +22,8 @@ abbrev pub in_range : {F : Type 0} → Range F → ℕ → Bool
 in_range r X = leb r.first X && leb X r.last
 
 -- "the range is one that 17 refuses, or the next significand lies outside it"
-abbrev pub outOfRange : {F : Type 0} → (bad : Bool) → State (Range F) → Bool
-outOfRange bad s = bad || ltb s.next s.over.first || ltb s.over.last s.next
+abbrev pub out_of_range : {F : Type 0} → (bad : Bool) → State (Range F) → Bool
+out_of_range bad s = bad || ltb s.next s.over.first || ltb s.over.last s.next
 
 -- ---- calls
 
@@ -41,12 +41,12 @@ pub record Terms : Type 0 where
   pub size : ℕ
   pub free : ℕ
 
-abbrev pub termsOf : Call → Terms
-termsOf c = record { cap = c.cap; width = c.width; size = length c.list; free = c.free }
+abbrev pub terms_of : Call → Terms
+terms_of c = record { cap = c.cap; width = c.width; size = length c.list; free = c.free }
 
 -- Those of the same call on the free tail of its list.
-abbrev pub tailTerms : Terms → Terms
-tailTerms t = record { cap = t.cap; width = t.width; size = t.size - t.free; free = 0 }
+abbrev pub tail_terms : Terms → Terms
+tail_terms t = record { cap = t.cap; width = t.width; size = t.size - t.free; free = 0 }
 
 -- ---- words
 
@@ -71,9 +71,9 @@ entries l [] = []
 entries l (w ∷ ws) = l.entry w ++ entries l ws
 
 -- For how many entries a list of a size has room from a place on.
-abbrev pub roomIn : Listing → (size place : ℕ) → ℕ
-roomIn l size place = (size - place) / l.places
+abbrev pub room_in : Listing → (size place : ℕ) → ℕ
+room_in l size place = (size - place) / l.places
 
 -- Document 01's lists: an entry is the listed word, in one place; 18, "cap 0", and 19, "first free place at or past the list's end".
-abbrev pub wordList : Listing
-wordList = record { refuses = λ t. (18, eqb t.cap 0) ∷ (19, leb t.size t.free) ∷ []; places = 1; entry = λ w. w ∷ [] }
+abbrev pub word_list : Listing
+word_list = record { refuses = λ t. (18, eqb t.cap 0) ∷ (19, leb t.size t.free) ∷ []; places = 1; entry = λ w. w ∷ [] }

@@ -8,22 +8,22 @@ use Rattle.marks.specs.Answers.{Outcome, refused, accepted}
 use Rattle.search.specs.declared.Place.{Place}
 use Rattle.search.specs.declared.Place.TheVariants.{At, Nowhere}
 use Rattle.search.specs.declared.Found.{Found}
-use Rattle.calls.specs.State.{State, Call, Listing, entries, roomIn}
+use Rattle.calls.specs.State.{State, Call, Listing, entries, room_in}
 use Rattle.calls.specs.Engine.{Engine}
 use Rattle.calls.specs.Call.{Result, ReplyOf, Reply}
-use Rattle.calls.specs.Plain.{span, row, words_of, Fed, Plain, begun, untried, Told, SeenOf, Seen, state_of, plains, plainAfter}
-use Rattle.calls.specs.ByRow.{trail, roundsIn, searchesOf, rowAhead}
+use Rattle.calls.specs.Plain.{span, row, words_of, Fed, Plain, begun, untried, Told, SeenOf, Seen, state_of, plains, plain_after}
+use Rattle.calls.specs.ByRow.{trail, rounds_in, searches_of, row_ahead}
 
 -- ---- what is seen of calls; `call` is any account of a call, good or bad
 
 -- "A call's words are those from its first free place up to but not including the place it returns, read as it returns; a refused call has none."
-abbrev pub toldBy : Call → List ℕ → Outcome Result → Outcome Told
-toldBy c list (refused n) = refused n
-toldBy c list (accepted r) = accepted (record { trials = r.trials; place = r.place; words = slice c.free r.place list })
+abbrev pub told_by : Call → List ℕ → Outcome Result → Outcome Told
+told_by c list (refused n) = refused n
+told_by c list (accepted r) = accepted (record { trials = r.trials; place = r.place; words = slice c.free r.place list })
 
 -- What is compared of a call with the plain sweep.
 abbrev pub seen : {S : Type 0} → Call → ReplyOf S → SeenOf S
-seen c r = record { told = toldBy c r.list r.answer; state = r.state }
+seen c r = record { told = told_by c r.list r.answer; state = r.state }
 
 -- What is seen of each call of a list. "Each call is given the state that the one before returned, refused or not".
 unfoldable pub sweeps : {S : Type 0} → (S → Call → ReplyOf S) → S → List Call → List (SeenOf S)
@@ -31,9 +31,9 @@ sweeps call s [] = []
 sweeps call s (c ∷ cs) = seen c (call s c) ∷ sweeps call (call s c).state cs
 
 -- The state that the last call of a list hands back.
-unfoldable pub stateAfter : {S : Type 0} → (S → Call → ReplyOf S) → S → List Call → S
-stateAfter call s [] = s
-stateAfter call s (c ∷ cs) = stateAfter call (call s c).state cs
+unfoldable pub state_after : {S : Type 0} → (S → Call → ReplyOf S) → S → List Call → S
+state_after call s [] = s
+state_after call s (c ∷ cs) = state_after call (call s c).state cs
 
 -- P of each call of a list, with the state that it is given and its reply.
 abbrev pub Each : {S : Type 0} → (S → Call → ReplyOf S → Type 0) → (S → Call → ReplyOf S) → S → List Call → Type 0
@@ -48,34 +48,34 @@ IfAccepted P (accepted a) = P a
 -- ---- sums over calls
 
 -- The trials of one call; a refused one has none.
-abbrev pub trialsTold : Outcome Told → ℕ
-trialsTold (refused n) = 0
-trialsTold (accepted t) = t.trials
+abbrev pub trials_told : Outcome Told → ℕ
+trials_told (refused n) = 0
+trials_told (accepted t) = t.trials
 
 -- The words of one call.
-abbrev pub wordsTold : Outcome Told → List ℕ
-wordsTold (refused n) = []
-wordsTold (accepted t) = t.words
+abbrev pub words_told : Outcome Told → List ℕ
+words_told (refused n) = []
+words_told (accepted t) = t.words
 
 -- 1 for an accepted call.
-abbrev pub acceptedTold : Outcome Told → ℕ
-acceptedTold (refused n) = 0
-acceptedTold (accepted t) = 1
+abbrev pub accepted_told : Outcome Told → ℕ
+accepted_told (refused n) = 0
+accepted_told (accepted t) = 1
 
 -- The trials of calls, added up.
-unfoldable pub trialsIn : {S : Type 0} → List (SeenOf S) → ℕ
-trialsIn [] = 0
-trialsIn (x ∷ l) = trialsTold x.told + trialsIn l
+unfoldable pub trials_in : {S : Type 0} → List (SeenOf S) → ℕ
+trials_in [] = 0
+trials_in (x ∷ l) = trials_told x.told + trials_in l
 
 -- The words of calls, joined.
 unfoldable pub words_in : {S : Type 0} → List (SeenOf S) → List ℕ
 words_in [] = []
-words_in (x ∷ l) = wordsTold x.told ++ words_in l
+words_in (x ∷ l) = words_told x.told ++ words_in l
 
 -- The number of accepted calls.
-unfoldable pub acceptedIn : {S : Type 0} → List (SeenOf S) → ℕ
-acceptedIn [] = 0
-acceptedIn (x ∷ l) = acceptedTold x.told + acceptedIn l
+unfoldable pub accepted_in : {S : Type 0} → List (SeenOf S) → ℕ
+accepted_in [] = 0
+accepted_in (x ∷ l) = accepted_told x.told + accepted_in l
 
 -- ---- the parts of demand 3
 
@@ -127,20 +127,20 @@ pub record HoldsAs (l : Listing) (mark : ℕ → Mark) (a b : ℕ) (words : List
   pub holds : Holds mark a b listed
 
 -- An accepted call's searches, read off the row of suspects.
-abbrev pub madeBy : {U : Type 0} → (U → ℕ → Bool) → Engine U → State U → Result → List Found
-madeBy suspect e s r = trail (e.sections s.over) s.next r.trials (rowAhead suspect e s)
+abbrev pub made_by : {U : Type 0} → (U → ℕ → Bool) → Engine U → State U → Result → List Found
+made_by suspect e s r = trail (e.sections s.over) s.next r.trials (row_ahead suspect e s)
 
 -- Where a call stopped, by the state that it hands back: at a suspect, or at none.
-abbrev pub stopOf : {U : Type 0} → State U → Place
-stopOf t = cond t.finished Nowhere (At t.next)
+abbrev pub stop_of : {U : Type 0} → State U → Place
+stop_of t = cond t.finished Nowhere (At t.next)
 
 -- An accepted call's searches are as many as document 01 has it; t is the state that it hands back.
 abbrev pub SearchesRight : {U : Type 0} → (U → ℕ → Bool) → Engine U → (s t : State U) → Result → Type 0
-SearchesRight suspect e s t r = length (madeBy suspect e s r) ≡ searchesOf (suspect s.over) (e.sections s.over) s.next r.trials (stopOf t)
+SearchesRight suspect e s t r = length (made_by suspect e s r) ≡ searches_of (suspect s.over) (e.sections s.over) s.next r.trials (stop_of t)
 
 -- An accepted call's rounds are those of its searches, added up, and at most B for each trial and for as many searches more as the engine has it.
 pub record RoundsRight {U : Type 0} (suspect : U → ℕ → Bool) (e : Engine U) (B : U → ℕ) (s t : State U) (r : Result) : Type 0 where
-  pub are : r.rounds ≡ roundsIn (madeBy suspect e s r)
+  pub are : r.rounds ≡ rounds_in (made_by suspect e s r)
   pub few : r.rounds ≤ B s.over * (r.trials + e.beyond s t)
 
 -- "Trials are capped": an accepted call tries at most its cap.
@@ -149,20 +149,20 @@ Capped c r = r.trials ≤ c.cap
 
 -- An accepted call tries at least the smallest of cap, room for entries and suspects left.
 abbrev pub Ample : {U : Type 0} → (U → ℕ → Bool) → Engine U → State U → Call → Result → Type 0
-Ample suspect e s c r = min c.cap (min (roomIn (e.listing s.over) (length c.list) c.free) (length (rowAhead suspect e s))) ≤ r.trials
+Ample suspect e s c r = min c.cap (min (room_in (e.listing s.over) (length c.list) c.free) (length (row_ahead suspect e s))) ≤ r.trials
 
 -- What the plain sweep is fed for what is swept.
-abbrev pub fedBy : {U : Type 0} → (U → ℕ → Bool) → Engine U → U → Fed U
-fedBy suspect e u =
+abbrev pub fed_by : {U : Type 0} → (U → ℕ → Bool) → Engine U → U → Fed U
+fed_by suspect e u =
     record { over = u; first = e.first u; last = e.last u; mark = e.mark u; suspects = row (suspect u) (e.first u) (suc (e.last u)); listing = e.listing u }
 
 -- What it shows of calls from a new state on.
 abbrev pub plainly : {U : Type 0} → (U → ℕ → Bool) → Engine U → U → List Call → List (Seen U)
-plainly suspect e u calls = plains (state_of (fedBy suspect e u)) (fedBy suspect e u) (begun (fedBy suspect e u)) calls
+plainly suspect e u calls = plains (state_of (fed_by suspect e u)) (fed_by suspect e u) (begun (fed_by suspect e u)) calls
 
 -- Where it is after them.
-abbrev pub plainEnd : {U : Type 0} → (U → ℕ → Bool) → Engine U → U → List Call → Plain
-plainEnd suspect e u calls = plainAfter (fedBy suspect e u) (begun (fedBy suspect e u)) calls
+abbrev pub plain_end : {U : Type 0} → (U → ℕ → Bool) → Engine U → U → List Call → Plain
+plain_end suspect e u calls = plain_after (fed_by suspect e u) (begun (fed_by suspect e u)) calls
 
 -- ---- demand 3
 
@@ -174,14 +174,14 @@ pub record Whole {U : Type 0} (suspect : U → ℕ → Bool) (e : Engine U) (B :
   -- the words of a call are all that it writes: places before its first free place and unused ones are as they were, and a refused call leaves the list
   pub lists : Each (λ s c r. ListKept c r.answer r.list) call s calls
   -- joined words hold exactly the significands in range that are not right below the first suspect not yet tried (all if none is left), once each, ascending, with marks
-  pub words : HoldsAs (e.listing s.over) (e.mark s.over) (e.first s.over) (end_of (e.last s.over) (untried (fedBy suspect e s.over) (plainEnd suspect e s.over calls))) (words_in (sweeps call s calls))
+  pub words : HoldsAs (e.listing s.over) (e.mark s.over) (e.first s.over) (end_of (e.last s.over) (untried (fed_by suspect e s.over) (plain_end suspect e s.over calls))) (words_in (sweeps call s calls))
   -- trials add up, to the number of suspects tried
-  pub trials : trialsIn (sweeps call s calls) ≡ (plainEnd suspect e s.over calls).tried
+  pub trials : trials_in (sweeps call s calls) ≡ (plain_end suspect e s.over calls).tried
   -- it is finished exactly when all suspects are tried and a call was accepted
   -- (shut out: one that calls itself finished with nothing tried)
-  pub finished : ((stateAfter call s calls).finished ≡ true) ↔ ((1 ≤ acceptedIn (sweeps call s calls)) × (trialsIn (sweeps call s calls) ≡ length (fedBy suspect e s.over).suspects))
+  pub finished : ((state_after call s calls).finished ≡ true) ↔ ((1 ≤ accepted_in (sweeps call s calls)) × (trials_in (sweeps call s calls) ≡ length (fed_by suspect e s.over).suspects))
   -- within as many accepted calls as suspects, or one where there are none
-  pub latest : max 1 (length (fedBy suspect e s.over).suspects) ≤ acceptedIn (sweeps call s calls) → (stateAfter call s calls).finished ≡ true
+  pub latest : max 1 (length (fed_by suspect e s.over).suspects) ≤ accepted_in (sweeps call s calls) → (state_after call s calls).finished ≡ true
   -- "Trials are capped"
   -- (shut out: one that lists all in its first call past the cap)
   pub capped : Each (λ s c r. IfAccepted (Capped c) r.answer) call s calls

@@ -23,7 +23,7 @@
 // The factor, the state and the kit's state are the exported words, at first all 0. A refusal is two decimal digits, and so is a mark: 01 right, 02 open, 03 wrong. A product, a quotient and a reading's answer end in the direction: 01 below, 02 equal, 03 above; those of significands then in the sign, 00 plus or 01 minus. Any other line is answered with 24.
 ghost use Rattle.std.specs.Prelude.{◌<◌, ◌≤◌};
 ghost use Rattle.factor.specs.SetUp.{Sound};
-ghost use Rattle.wide.specs.Value.{halfWord};
+ghost use Rattle.wide.specs.Value.{half_word};
 
 use exports::TakenFactor;
 use factor::Factor;
@@ -311,7 +311,7 @@ fn tally(state: &[u64; 14], first: u64, last: u64) {
 
 // The next suspect of a factor that was accepted.
 fn next(f: Factor, high: bool, x: u64) -> Found
-    requires { Sound f × (x ≤ halfWord) }
+    requires { Sound f × (x ≤ half_word) }
 {
     let windows = suspects::windows_of(f);
     let low_half = windows.low;

@@ -8,36 +8,36 @@ use Rattle.marks.specs.Answers.{Outcome, refused, accepted, answer, and_then, Ma
 use Rattle.rounding.specs.declared.Direction.{Direction}
 use Rattle.factor.specs.declared.Description.{Description}
 use Rattle.factor.specs.declared.Factor.{Factor}
-use Rattle.factor.specs.SetUp.{setUp}
+use Rattle.factor.specs.SetUp.{set_up}
 use Rattle.product.specs.declared.Device.{Device}
 use Rattle.product.specs.declared.SignedProduct.{SignedProduct}
 use Rattle.product.specs.Answer.{multiplied}
 use Rattle.quotient.specs.declared.SignedQuotient.{SignedQuotient}
 use Rattle.quotient.specs.Answer.{divided}
 use Rattle.reading.specs.Reading.{DirectedNumber, applied}
-use Rattle.reading.specs.Divided.{dividedReading}
+use Rattle.reading.specs.Divided.{divided_reading}
 use Rattle.words.specs.Words.{unsigned}
 use Rattle.calls.specs.State.{Range, State}
-use Rattle.calls.specs.Call.{newState, Result, Reply, sweepCall}
+use Rattle.calls.specs.Call.{new_state, Result, Reply, sweep_call}
 use Rattle.sweep.specs.Engine.{range, engine}
 use Rattle.sweep.specs.Answers.{call_of}
 use Rattle.tally.specs.declared.Counts.{Counts}
 use Rattle.tally.specs.Tally.{tallied}
 use Rattle.exports.specs.declared.TakenFactor.{TakenFactor}
-use Rattle.exports.specs.Words.{flagWord, factorLength, factorFrom, factorWords, damaged, stateLength, state_of, stateWords}
+use Rattle.exports.specs.Words.{flag_word, factor_length, factor_from, factor_words, damaged, state_length, state_of, state_words}
 
 -- ---- what is taken from a caller's lists
 -- a list is too short: it has fewer words than are due
-abbrev pub tooShort : (length due : ℕ) → ℕ × Bool
-tooShort length due = (255, ltb length due)
+abbrev pub too_short : (length due : ℕ) → ℕ × Bool
+too_short length due = (255, ltb length due)
 
 -- the conditions under which the words of a factor or of a state are not taken: they are too few, the list for the answer is too short, or they are damaged
 abbrev pub unfit : (words : List ℕ) (due room needed : ℕ) → List (ℕ × Bool)
-unfit words due room needed = tooShort (length words) due ∷ tooShort room needed ∷ (31, damaged words) ∷ []
+unfit words due room needed = too_short (length words) due ∷ too_short room needed ∷ (31, damaged words) ∷ []
 
 -- the factor in such words
 unfoldable pub taken : (words : List ℕ) (due room needed : ℕ) → Outcome Factor
-taken words due room needed = answer (unfit words due room needed) (factorFrom words)
+taken words due room needed = answer (unfit words due room needed) (factor_from words)
 
 -- what each case of its answer says
 abbrev pub taken_of : TakenFactor → Outcome Factor
@@ -55,87 +55,87 @@ abbrev pub leaves : Answer → List ℕ → List ℕ
 leaves a to = sets to 0 a.words
 
 -- the number and the words of a value, or the refusal
-abbrev pub toWords : {A : Type 0} → (A → ℕ) → (A → List ℕ) → Outcome A → Answer
-toWords number words (accepted a) = record { number = number a; words = words a }
-toWords number words (refused k) = record { number = k; words = [] }
+abbrev pub to_words : {A : Type 0} → (A → ℕ) → (A → List ℕ) → Outcome A → Answer
+to_words number words (accepted a) = record { number = number a; words = words a }
+to_words number words (refused k) = record { number = k; words = [] }
 
 -- a mark's number
-abbrev pub markNumber : Mark → ℕ
-markNumber Mark.Right = 1
-markNumber Mark.Open = 2
-markNumber Mark.Wrong = 3
+abbrev pub mark_number : Mark → ℕ
+mark_number Mark.Right = 1
+mark_number Mark.Open = 2
+mark_number Mark.Wrong = 3
 
 -- a direction's number (request W4)
-abbrev pub directionNumber : Direction → ℕ
-directionNumber Direction.Below = 1
-directionNumber Direction.Equal = 2
-directionNumber Direction.Above = 3
+abbrev pub direction_number : Direction → ℕ
+direction_number Direction.Below = 1
+direction_number Direction.Equal = 2
+direction_number Direction.Above = 3
 
 -- the number of the mark and the words of the value, or the refusal
-abbrev pub markedAnswer : {A : Type 0} → (A → List ℕ) → Outcome (Marked A) → Answer
-markedAnswer words o = toWords (λ a. markNumber a.mark) (λ a. words a.value) o
+abbrev pub marked_answer : {A : Type 0} → (A → List ℕ) → Outcome (Marked A) → Answer
+marked_answer words o = to_words (λ a. mark_number a.mark) (λ a. words a.value) o
 
 -- 0 and the words of a value that has no mark, or the refusal
-abbrev pub plainAnswer : {A : Type 0} → (A → List ℕ) → Outcome A → Answer
-plainAnswer words o = toWords (λ a. 0) words o
+abbrev pub plain_answer : {A : Type 0} → (A → List ℕ) → Outcome A → Answer
+plain_answer words o = to_words (λ a. 0) words o
 
 -- ---- set-up: 0 and the factor, or the refusal
-abbrev pub setUpAnswer : Outcome Factor → Answer
-setUpAnswer o = plainAnswer factorWords o
+abbrev pub set_up_answer : Outcome Factor → Answer
+set_up_answer o = plain_answer factor_words o
 
-unfoldable pub setUpTo : Description → (out : List ℕ) → Answer
-unfolding setUp factorWords
-setUpTo d out = setUpAnswer (and_then (answer (tooShort (length out) factorLength ∷ []) d) setUp)
+unfoldable pub set_up_to : Description → (out : List ℕ) → Answer
+unfolding set_up factor_words
+set_up_to d out = set_up_answer (and_then (answer (too_short (length out) factor_length ∷ []) d) set_up)
 
 -- ---- a product: 1 right, 2 open, 3 wrong, with significand, binade, direction and sign, or the refusal
-abbrev pub productWords : SignedProduct → List ℕ
-productWords v = v.product.significand ∷ v.product.binade ∷ directionNumber v.direction ∷ flagWord v.minus ∷ []
+abbrev pub product_words : SignedProduct → List ℕ
+product_words v = v.product.significand ∷ v.product.binade ∷ direction_number v.direction ∷ flag_word v.minus ∷ []
 
 -- on a device
-unfoldable pub multiplyTo : Device → (factor : List ℕ) (X : ℕ) (out : List ℕ) → Answer
+unfoldable pub multiply_to : Device → (factor : List ℕ) (X : ℕ) (out : List ℕ) → Answer
 unfolding multiplied taken
-multiplyTo d factor X out = markedAnswer productWords (and_then (taken factor factorLength (length out) 4) (λ f. multiplied d f X))
+multiply_to d factor X out = marked_answer product_words (and_then (taken factor factor_length (length out) 4) (λ f. multiplied d f X))
 
 -- ---- a reading: 1 right, 2 open, 3 wrong, with the product's bits and direction, or the refusal
-abbrev pub readingWords : DirectedNumber → List ℕ
-readingWords y = to_bits binary32 y.number ∷ directionNumber y.direction ∷ []
+abbrev pub reading_words : DirectedNumber → List ℕ
+reading_words y = to_bits binary32 y.number ∷ direction_number y.direction ∷ []
 
-abbrev pub readingAnswer : Outcome (Marked DirectedNumber) → Answer
-readingAnswer o = markedAnswer readingWords o
+abbrev pub reading_answer : Outcome (Marked DirectedNumber) → Answer
+reading_answer o = marked_answer reading_words o
 
 -- on a device
-unfoldable pub readTo : Device → (factor : List ℕ) (reading : ℕ) (out : List ℕ) → Answer
+unfoldable pub read_to : Device → (factor : List ℕ) (reading : ℕ) (out : List ℕ) → Answer
 unfolding applied taken to_bits of_bits
-readTo d factor reading out = readingAnswer (and_then (taken factor factorLength (length out) 2) (λ f. applied d f (of_bits binary32 reading)))
+read_to d factor reading out = reading_answer (and_then (taken factor factor_length (length out) 2) (λ f. applied d f (of_bits binary32 reading)))
 
 -- ---- a tally: 0 with how many significands are right, wrong and open, or the refusal
-abbrev pub tallyWords : Counts → List ℕ
-tallyWords t = t.rights ∷ t.wrongs ∷ t.opens ∷ []
+abbrev pub tally_words : Counts → List ℕ
+tally_words t = t.rights ∷ t.wrongs ∷ t.opens ∷ []
 
-unfoldable pub tallyTo : (factor : List ℕ) (first last : ℕ) (out : List ℕ) → Answer
+unfoldable pub tally_to : (factor : List ℕ) (first last : ℕ) (out : List ℕ) → Answer
 unfolding tallied taken
-tallyTo factor first last out = plainAnswer tallyWords (and_then (taken factor factorLength (length out) 3) (λ f. tallied f first last))
+tally_to factor first last out = plain_answer tally_words (and_then (taken factor factor_length (length out) 3) (λ f. tallied f first last))
 
 -- ---- a quotient: 0 with significand, binade, which is a word in two's complement, direction and sign, or the refusal
-abbrev pub quotientWords : SignedQuotient → List ℕ
-quotientWords v = v.quotient.significand ∷ unsigned 64 v.quotient.binade ∷ directionNumber v.direction ∷ flagWord v.minus ∷ []
+abbrev pub quotient_words : SignedQuotient → List ℕ
+quotient_words v = v.quotient.significand ∷ unsigned 64 v.quotient.binade ∷ direction_number v.direction ∷ flag_word v.minus ∷ []
 
-unfoldable pub divideTo : (factor : List ℕ) (X : ℕ) (out : List ℕ) → Answer
+unfoldable pub divide_to : (factor : List ℕ) (X : ℕ) (out : List ℕ) → Answer
 unfolding divided taken
-divideTo factor X out = plainAnswer quotientWords (and_then (taken factor factorLength (length out) 4) (λ f. divided f X))
+divide_to factor X out = plain_answer quotient_words (and_then (taken factor factor_length (length out) 4) (λ f. divided f X))
 
 -- ---- a reading's quotient: 0 with its bits and direction, or the refusal
-unfoldable pub divideReadingTo : (factor : List ℕ) (reading : ℕ) (out : List ℕ) → Answer
-unfolding dividedReading taken to_bits of_bits
-divideReadingTo factor reading out = plainAnswer readingWords (and_then (taken factor factorLength (length out) 2) (λ f. dividedReading f (of_bits binary32 reading)))
+unfoldable pub divide_reading_to : (factor : List ℕ) (reading : ℕ) (out : List ℕ) → Answer
+unfolding divided_reading taken to_bits of_bits
+divide_reading_to factor reading out = plain_answer reading_words (and_then (taken factor factor_length (length out) 2) (λ f. divided_reading f (of_bits binary32 reading)))
 
 -- ---- a new sweep: 0 and the state, or the refusal
-abbrev pub newSweepAnswer : Outcome (State (Range Factor)) → Answer
-newSweepAnswer o = plainAnswer stateWords o
+abbrev pub new_sweep_answer : Outcome (State (Range Factor)) → Answer
+new_sweep_answer o = plain_answer state_words o
 
-unfoldable pub newSweepTo : (factor : List ℕ) (first last : ℕ) (out : List ℕ) → Answer
-unfolding taken stateWords
-newSweepTo factor first last out = newSweepAnswer (and_then (taken factor factorLength (length out) stateLength) (λ f. newState engine (range f first last)))
+unfoldable pub new_sweep_to : (factor : List ℕ) (first last : ℕ) (out : List ℕ) → Answer
+unfolding taken state_words
+new_sweep_to factor first last out = new_sweep_answer (and_then (taken factor factor_length (length out) state_length) (λ f. new_state engine (range f first last)))
 
 -- ---- a sweep call: 0, the state handed back, the list as it then is, and trials, rounds and place; or the refusal, and nothing written
 pub record SweepWords : Type 0 where
@@ -145,21 +145,21 @@ pub record SweepWords : Type 0 where
   pub counts : List ℕ
 
 -- a refusal leaves all as it was
-abbrev pub refusedWith : ℕ → (list : List ℕ) → SweepWords
-refusedWith k list = record { number = k; state = []; list = list; counts = [] }
+abbrev pub refused_with : ℕ → (list : List ℕ) → SweepWords
+refused_with k list = record { number = k; state = []; list = list; counts = [] }
 
-abbrev pub sweepAnswer : Outcome Result → State (Range Factor) → List ℕ → SweepWords
-sweepAnswer (accepted r) s list = record { number = 0; state = stateWords s; list = list; counts = r.trials ∷ r.rounds ∷ r.place ∷ [] }
-sweepAnswer (refused k) s list = refusedWith k list
+abbrev pub sweep_answer : Outcome Result → State (Range Factor) → List ℕ → SweepWords
+sweep_answer (accepted r) s list = record { number = 0; state = state_words s; list = list; counts = r.trials ∷ r.rounds ∷ r.place ∷ [] }
+sweep_answer (refused k) s list = refused_with k list
 
-abbrev pub replyWords : Reply (Range Factor) → SweepWords
-replyWords r = sweepAnswer r.answer r.state r.list
+abbrev pub reply_words : Reply (Range Factor) → SweepWords
+reply_words r = sweep_answer r.answer r.state r.list
 
 -- the reply to a call, where its factor is taken
-abbrev pub replyTo : (list : List ℕ) → Outcome Factor → (Factor → Reply (Range Factor)) → SweepWords
-replyTo list (accepted f) reply = replyWords (reply f)
-replyTo list (refused k) reply = refusedWith k list
+abbrev pub reply_to : (list : List ℕ) → Outcome Factor → (Factor → Reply (Range Factor)) → SweepWords
+reply_to list (accepted f) reply = reply_words (reply f)
+reply_to list (refused k) reply = refused_with k list
 
-unfoldable pub sweepTo : (state : List ℕ) (cap : ℕ) (list : List ℕ) (free : ℕ) (counts : List ℕ) → SweepWords
-unfolding taken stateWords
-sweepTo state cap list free counts = replyTo list (taken state stateLength (length counts) 3) (λ f. sweepCall engine (state_of f state) (call_of cap list free))
+unfoldable pub sweep_to : (state : List ℕ) (cap : ℕ) (list : List ℕ) (free : ℕ) (counts : List ℕ) → SweepWords
+unfolding taken state_words
+sweep_to state cap list free counts = reply_to list (taken state state_length (length counts) 3) (λ f. sweep_call engine (state_of f state) (call_of cap list free))

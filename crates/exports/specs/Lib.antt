@@ -2,11 +2,3 @@
 pub mod Words
 pub mod Answers
 pub mod Kits
-pub mod KitWordLaws
-pub mod AnswerLaws
-pub mod KitAnswerLaws
-pub mod WordLaws
-pub mod Stored
-pub mod Demand3
-pub mod KitDemand3
-pub mod Examples

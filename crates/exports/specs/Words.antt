@@ -3,7 +3,7 @@ use Rattle.std.specs.Prelude.{Bool, cond, not, ◌||◌, List, [], ◌∷◌, �
 use Rattle.std.specs.Float.{binary32}
 use Rattle.std.specs.Float.Ieee.{to_bits, of_bits}
 use Rattle.factor.specs.declared.Factor.{Factor}
-use Rattle.words.specs.Words.{unsigned, signed, low32, pastHalf}
+use Rattle.words.specs.Words.{unsigned, signed, low32, past_half}
 use Rattle.calls.specs.State.{Range, State}
 use Rattle.sweep.specs.Engine.{range}
 
@@ -13,21 +13,21 @@ abbrev pub word : List ℕ → ℕ → ℕ
 word ws i = get_or ws i 0
 
 -- a yes or no as a word, and from one: any word but 0 is a yes
-abbrev pub flagWord : Bool → ℕ
-flagWord b = cond b 1 0
+abbrev pub flag_word : Bool → ℕ
+flag_word b = cond b 1 0
 
-abbrev pub flagFrom : ℕ → Bool
-flagFrom w = not (eqb w 0)
+abbrev pub flag_from : ℕ → Bool
+flag_from w = not (eqb w 0)
 
 -- ---- a factor as 10 words: whether it lies below zero, bits, lower end, upper end, high significand, low significand, places, both floats by their bits, scale
-abbrev pub factorLength : ℕ
-factorLength = 10
+abbrev pub factor_length : ℕ
+factor_length = 10
 
-unfoldable pub factorFrom : List ℕ → Factor
+unfoldable pub factor_from : List ℕ → Factor
 unfolding of_bits
-factorFrom ws =
+factor_from ws =
     record {
-      minus = flagFrom (word ws 0);
+      minus = flag_from (word ws 0);
       precision = record { bits = low32 (word ws 1) };
       lower = word ws 2;
       upper = word ws 3;
@@ -35,10 +35,10 @@ factorFrom ws =
       applied = record { high = of_bits binary32 (low32 (word ws 7)); low = of_bits binary32 (low32 (word ws 8)); scale = signed 32 (low32 (word ws 9)) };
     }
 
-unfoldable pub factorWords : Factor → List ℕ
+unfoldable pub factor_words : Factor → List ℕ
 unfolding to_bits
-factorWords f =
-    flagWord f.minus
+factor_words f =
+    flag_word f.minus
     ∷ f.precision.bits
     ∷ f.lower
     ∷ f.upper
@@ -52,20 +52,20 @@ factorWords f =
 
 -- damage: precision, places, floats and scale are written with an upper half of 0, so a word of theirs with another one was altered
 unfoldable pub damaged : List ℕ → Bool
-damaged ws = pastHalf (word ws 1) || pastHalf (word ws 6) || pastHalf (word ws 7) || pastHalf (word ws 8) || pastHalf (word ws 9)
+damaged ws = past_half (word ws 1) || past_half (word ws 6) || past_half (word ws 7) || past_half (word ws 8) || past_half (word ws 9)
 
 -- ---- a sweep's state as 14 words: the factor's, then first, last and next significand, and the finished mark
-abbrev pub stateLength : ℕ
-stateLength = 14
+abbrev pub state_length : ℕ
+state_length = 14
 
 -- the state over a factor, from the words behind the factor's
 abbrev pub state_of : Factor → List ℕ → State (Range Factor)
-state_of f ws = record { over = range f (word ws 10) (word ws 11); next = word ws 12; finished = flagFrom (word ws 13) }
+state_of f ws = record { over = range f (word ws 10) (word ws 11); next = word ws 12; finished = flag_from (word ws 13) }
 
-unfoldable pub stateFrom : List ℕ → State (Range Factor)
-unfolding factorFrom
-stateFrom ws = state_of (factorFrom ws) ws
+unfoldable pub state_from : List ℕ → State (Range Factor)
+unfolding factor_from
+state_from ws = state_of (factor_from ws) ws
 
-unfoldable pub stateWords : State (Range Factor) → List ℕ
-unfolding factorWords
-stateWords s = factorWords s.over.factor ++ (s.over.first ∷ s.over.last ∷ s.next ∷ flagWord s.finished ∷ [])
+unfoldable pub state_words : State (Range Factor) → List ℕ
+unfolding factor_words
+state_words s = factor_words s.over.factor ++ (s.over.first ∷ s.over.last ∷ s.next ∷ flag_word s.finished ∷ [])

@@ -2,13 +2,13 @@
 ghost use Rattle.std.specs.Prelude.{◌≡◌, ◌≤◌, length, take, drop, [], ◌∷◌};
 ghost use Rattle.std.proofs.lemmas.List.Edits.{sets};
 ghost use Rattle.product.specs.declared.Device.{Device};
-ghost use Rattle.reading.specs.Reading.{outcomeOf as readingSays};
+ghost use Rattle.reading.specs.Reading.{outcome_of as readingSays};
 ghost use Rattle.sweep.specs.Answers.{view_of};
-ghost use Rattle.marks.specs.Answers.{refusalOf, First};
-ghost use Rattle.kit.specs.Answers.{kitOf, view_of as kitView};
-ghost use Rattle.exports.specs.Kits.{kitLength, kitStateLength, anyDamaged, kitFrom, kitStateOf, behindKit, kitUnfit, formTo, newKitTo, kitSweepTo, cleanTo};
-ghost use Rattle.exports.specs.Words.{flagWord, flagFrom, factorFrom, factorWords, damaged, state_of, stateWords};
-ghost use Rattle.exports.specs.Answers.{taken, taken_of, leaves, setUpTo, directionNumber, productWords, quotientWords, readingWords, multiplyTo, readingAnswer, readTo, tallyWords, tallyTo, divideTo, divideReadingTo, newSweepTo, sweepTo};
+ghost use Rattle.marks.specs.Answers.{refusal_of, First};
+ghost use Rattle.kit.specs.Answers.{kit_of, view_of as kitView};
+ghost use Rattle.exports.specs.Kits.{kit_length, kit_state_length, any_damaged, kit_from, kit_state_of, behind_kit, kit_unfit, form_to, new_kit_to, kit_sweep_to, clean_to};
+ghost use Rattle.exports.specs.Words.{flag_word, flag_from, factor_from, factor_words, damaged, state_of, state_words};
+ghost use Rattle.exports.specs.Answers.{taken, taken_of, leaves, set_up_to, direction_number, product_words, quotient_words, reading_words, multiply_to, reading_answer, read_to, tally_words, tally_to, divide_to, divide_reading_to, new_sweep_to, sweep_to};
 
 use factor::{Applied, Description, Factor, Parts, Precision, SetUp};
 use kit::{Kit, KitAnswer, KitState, Verdict};
@@ -57,7 +57,7 @@ pub enum TakenFactor {
 // A factor from its words; the sign is minus where its word is not 0.
 fn factor_from(words: &[u64]) -> Factor
     requires { 10 ≤ length words.now }
-    ensures { result ≡ factorFrom words.now }
+    ensures { result ≡ factor_from words.now }
 {
     let precision = Precision {
         bits: words::low_half(words[1]),
@@ -114,7 +114,7 @@ pub fn take_factor(words: &[u64], due: usize, room: usize, needed: usize) -> Tak
 // The words of a factor.
 fn put_factor(f: Factor, out: &mut [u64])
     requires { 10 ≤ length out.old }
-    ensures { out.new ≡ sets out.old 0 (factorWords f) }
+    ensures { out.new ≡ sets out.old 0 (factor_words f) }
 {
     out[0] = f.minus as u64;
     out[1] = f.precision.bits as u64;
@@ -130,7 +130,7 @@ fn put_factor(f: Factor, out: &mut [u64])
 
 // A direction as a word: 1 below, 2 equal, 3 above.
 fn direction_number(d: Direction) -> u32
-    ensures { result ≡ directionNumber d }
+    ensures { result ≡ direction_number d }
 {
     match d {
         Direction::Below => 1,
@@ -143,7 +143,7 @@ fn direction_number(d: Direction) -> u32
 fn put_product(mark: u32, v: SignedProduct, out: &mut [u64]) -> u32
     requires { 4 ≤ length out.old }
     ensures value { result ≡ mark }
-    ensures out_after { out.new ≡ sets out.old 0 (productWords v) }
+    ensures out_after { out.new ≡ sets out.old 0 (product_words v) }
 {
     let p = v.product;
     let direction = v.direction;
@@ -158,7 +158,7 @@ fn put_product(mark: u32, v: SignedProduct, out: &mut [u64]) -> u32
 fn put_quotient(v: SignedQuotient, out: &mut [u64]) -> u32
     requires { 4 ≤ length out.old }
     ensures value { result ≡ 0 }
-    ensures out_after { out.new ≡ sets out.old 0 (quotientWords v) }
+    ensures out_after { out.new ≡ sets out.old 0 (quotient_words v) }
 {
     let q = v.quotient;
     let direction = v.direction;
@@ -173,7 +173,7 @@ fn put_quotient(v: SignedQuotient, out: &mut [u64]) -> u32
 fn put_reading(number: u32, y: f32, d: Direction, out: &mut [u32]) -> u32
     requires { 2 ≤ length out.old }
     ensures value { result ≡ number }
-    ensures out_after { out.new ≡ sets out.old 0 (readingWords (record { number = y; direction = d })) }
+    ensures out_after { out.new ≡ sets out.old 0 (reading_words (record { number = y; direction = d })) }
 {
     out[0] = floats::bits_of(y);
     out[1] = direction_number(d);
@@ -183,8 +183,8 @@ fn put_reading(number: u32, y: f32, d: Direction, out: &mut [u32]) -> u32
 // What either device answers to a reading: a product's bits, their direction and its mark, or the refusal.
 fn tell_reading(a: ReadingAnswer, out: &mut [u32]) -> u32
     requires { 2 ≤ length out.old }
-    ensures value { result ≡ (readingAnswer (readingSays a)).number }
-    ensures out_after { out.new ≡ leaves (readingAnswer (readingSays a)) out.old }
+    ensures value { result ≡ (reading_answer (readingSays a)).number }
+    ensures out_after { out.new ≡ leaves (reading_answer (readingSays a)) out.old }
 {
     match a {
         ReadingAnswer::Right(y, d) => put_reading(1, y, d, out),
@@ -198,7 +198,7 @@ fn tell_reading(a: ReadingAnswer, out: &mut [u32]) -> u32
 fn put_counts(t: Counts, out: &mut [u64]) -> u32
     requires { 3 ≤ length out.old }
     ensures value { result ≡ 0 }
-    ensures out_after { out.new ≡ sets out.old 0 (tallyWords t) }
+    ensures out_after { out.new ≡ sets out.old 0 (tally_words t) }
 {
     out[0] = t.rights;
     out[1] = t.wrongs;
@@ -223,7 +223,7 @@ fn state_of(factor: Factor, words: &[u64]) -> SweepState
 // The words of a sweep's state.
 fn put_state(s: SweepState, out: &mut [u64])
     requires { 14 ≤ length out.old }
-    ensures { out.new ≡ sets out.old 0 (stateWords (view_of s)) }
+    ensures { out.new ≡ sets out.old 0 (state_words (view_of s)) }
 {
     let f = s.factor;
     put_factor(f, out);
@@ -235,8 +235,8 @@ fn put_state(s: SweepState, out: &mut [u64])
 
 // A significand multiplied on a device, as a number and words. The factor's words are lent on: a slice that is passed on as it came goes through memory, which costs 3 ns.
 fn multiply_on(d: Device, factor: &[u64], x: u64, out: &mut [u64]) -> u32
-    ensures value { result ≡ (multiplyTo d factor.now x out.old).number }
-    ensures out_after { out.new ≡ leaves (multiplyTo d factor.now x out.old) out.old }
+    ensures value { result ≡ (multiply_to d factor.now x out.old).number }
+    ensures out_after { out.new ≡ leaves (multiply_to d factor.now x out.old) out.old }
 {
     match take_factor(&factor[..], FACTOR_WORDS, out.len(), PRODUCT_WORDS) {
         TakenFactor::Accepted(f) => match product::multiply(d, f, x) {
@@ -251,8 +251,8 @@ fn multiply_on(d: Device, factor: &[u64], x: u64, out: &mut [u64]) -> u32
 
 // A reading, given by its bits, multiplied on a device, as a number and words; the factor's words are lent on here too.
 fn read_on(d: Device, factor: &[u64], reading: u32, out: &mut [u32]) -> u32
-    ensures value { result ≡ (readTo d factor.now reading out.old).number }
-    ensures out_after { out.new ≡ leaves (readTo d factor.now reading out.old) out.old }
+    ensures value { result ≡ (read_to d factor.now reading out.old).number }
+    ensures out_after { out.new ≡ leaves (read_to d factor.now reading out.old) out.old }
 {
     match take_factor(&factor[..], FACTOR_WORDS, out.len(), READING_WORDS) {
         TakenFactor::Accepted(f) => {
@@ -272,8 +272,8 @@ pub extern "C" fn gusnalip_set_up(
     upper: u64,
     out: &mut [u64],
 ) -> u32
-    ensures value { result ≡ (setUpTo (record { minus = flagFrom minus; precision = precision; scale = scale; lower = lower; upper = upper }) out.old).number }
-    ensures out_after { out.new ≡ leaves (setUpTo (record { minus = flagFrom minus; precision = precision; scale = scale; lower = lower; upper = upper }) out.old) out.old }
+    ensures value { result ≡ (set_up_to (record { minus = flag_from minus; precision = precision; scale = scale; lower = lower; upper = upper }) out.old).number }
+    ensures out_after { out.new ≡ leaves (set_up_to (record { minus = flag_from minus; precision = precision; scale = scale; lower = lower; upper = upper }) out.old) out.old }
 {
     if out.len() < FACTOR_WORDS {
         return TOO_SHORT;
@@ -297,8 +297,8 @@ pub extern "C" fn gusnalip_set_up(
 // Multiplies a significand: 1 right, 2 open, 3 wrong, with significand, binade, direction (1 below, 2 equal, 3 above) and sign (0 plus, 1 minus), or the refusal; 255 where a list is too short, 31 where the factor's words are damaged.
 #[unsafe(no_mangle)]
 pub extern "C" fn gusnalip_multiply(factor: &[u64], x: u64, out: &mut [u64]) -> u32
-    ensures value { result ≡ (multiplyTo Device.TwoStep factor.now x out.old).number }
-    ensures out_after { out.new ≡ leaves (multiplyTo Device.TwoStep factor.now x out.old) out.old }
+    ensures value { result ≡ (multiply_to Device.TwoStep factor.now x out.old).number }
+    ensures out_after { out.new ≡ leaves (multiply_to Device.TwoStep factor.now x out.old) out.old }
 {
     multiply_on(Device::TwoStep, factor, x, out)
 }
@@ -306,8 +306,8 @@ pub extern "C" fn gusnalip_multiply(factor: &[u64], x: u64, out: &mut [u64]) -> 
 // The same on the one-step device.
 #[unsafe(no_mangle)]
 pub extern "C" fn gusnalip_multiply_once(factor: &[u64], x: u64, out: &mut [u64]) -> u32
-    ensures value { result ≡ (multiplyTo Device.OneStep factor.now x out.old).number }
-    ensures out_after { out.new ≡ leaves (multiplyTo Device.OneStep factor.now x out.old) out.old }
+    ensures value { result ≡ (multiply_to Device.OneStep factor.now x out.old).number }
+    ensures out_after { out.new ≡ leaves (multiply_to Device.OneStep factor.now x out.old) out.old }
 {
     multiply_on(Device::OneStep, factor, x, out)
 }
@@ -315,8 +315,8 @@ pub extern "C" fn gusnalip_multiply_once(factor: &[u64], x: u64, out: &mut [u64]
 // Multiplies a reading given by its bits: 1 right, 2 open, 3 wrong, with the product's bits and direction, or the refusal; 255 where a list is too short, 31 where the factor's words are damaged.
 #[unsafe(no_mangle)]
 pub extern "C" fn gusnalip_read(factor: &[u64], reading: u32, out: &mut [u32]) -> u32
-    ensures value { result ≡ (readTo Device.TwoStep factor.now reading out.old).number }
-    ensures out_after { out.new ≡ leaves (readTo Device.TwoStep factor.now reading out.old) out.old }
+    ensures value { result ≡ (read_to Device.TwoStep factor.now reading out.old).number }
+    ensures out_after { out.new ≡ leaves (read_to Device.TwoStep factor.now reading out.old) out.old }
 {
     read_on(Device::TwoStep, factor, reading, out)
 }
@@ -324,8 +324,8 @@ pub extern "C" fn gusnalip_read(factor: &[u64], reading: u32, out: &mut [u32]) -
 // The same on the one-step device.
 #[unsafe(no_mangle)]
 pub extern "C" fn gusnalip_read_once(factor: &[u64], reading: u32, out: &mut [u32]) -> u32
-    ensures value { result ≡ (readTo Device.OneStep factor.now reading out.old).number }
-    ensures out_after { out.new ≡ leaves (readTo Device.OneStep factor.now reading out.old) out.old }
+    ensures value { result ≡ (read_to Device.OneStep factor.now reading out.old).number }
+    ensures out_after { out.new ≡ leaves (read_to Device.OneStep factor.now reading out.old) out.old }
 {
     read_on(Device::OneStep, factor, reading, out)
 }
@@ -333,8 +333,8 @@ pub extern "C" fn gusnalip_read_once(factor: &[u64], reading: u32, out: &mut [u3
 // Tallies a range on the one-step device: 0 with how many significands are right, wrong and open, or the refusal; 255 where a list is too short, 31 where the factor's words are damaged.
 #[unsafe(no_mangle)]
 pub extern "C" fn gusnalip_tally(factor: &[u64], first: u64, last: u64, out: &mut [u64]) -> u32
-    ensures value { result ≡ (tallyTo factor.now first last out.old).number }
-    ensures out_after { out.new ≡ leaves (tallyTo factor.now first last out.old) out.old }
+    ensures value { result ≡ (tally_to factor.now first last out.old).number }
+    ensures out_after { out.new ≡ leaves (tally_to factor.now first last out.old) out.old }
 {
     match take_factor(factor, FACTOR_WORDS, out.len(), TALLY_WORDS) {
         TakenFactor::Accepted(f) => match tally::tally_range(f, first, last) {
@@ -348,8 +348,8 @@ pub extern "C" fn gusnalip_tally(factor: &[u64], first: u64, last: u64, out: &mu
 // Divides a significand: 0 with the quotient's significand, its binade, a word in two's complement, its direction and its sign, or the refusal; 255 where a list is too short, 31 where the factor's words are damaged.
 #[unsafe(no_mangle)]
 pub extern "C" fn gusnalip_divide(factor: &[u64], x: u64, out: &mut [u64]) -> u32
-    ensures value { result ≡ (divideTo factor.now x out.old).number }
-    ensures out_after { out.new ≡ leaves (divideTo factor.now x out.old) out.old }
+    ensures value { result ≡ (divide_to factor.now x out.old).number }
+    ensures out_after { out.new ≡ leaves (divide_to factor.now x out.old) out.old }
 {
     match take_factor(factor, FACTOR_WORDS, out.len(), QUOTIENT_WORDS) {
         TakenFactor::Accepted(f) => match quotient::divide(f, x) {
@@ -363,8 +363,8 @@ pub extern "C" fn gusnalip_divide(factor: &[u64], x: u64, out: &mut [u64]) -> u3
 // Divides a reading given by its bits: 0 with the quotient's bits and direction, or the refusal; 255 where a list is too short, 31 where the factor's words are damaged.
 #[unsafe(no_mangle)]
 pub extern "C" fn gusnalip_divide_reading(factor: &[u64], reading: u32, out: &mut [u32]) -> u32
-    ensures value { result ≡ (divideReadingTo factor.now reading out.old).number }
-    ensures out_after { out.new ≡ leaves (divideReadingTo factor.now reading out.old) out.old }
+    ensures value { result ≡ (divide_reading_to factor.now reading out.old).number }
+    ensures out_after { out.new ≡ leaves (divide_reading_to factor.now reading out.old) out.old }
 {
     match take_factor(factor, FACTOR_WORDS, out.len(), READING_WORDS) {
         TakenFactor::Accepted(f) => match reading::divide(f, floats::float_from(reading)) {
@@ -378,8 +378,8 @@ pub extern "C" fn gusnalip_divide_reading(factor: &[u64], reading: u32, out: &mu
 // A new sweep: 0 and the state's 14 words, or the refusal; 255 where a list is too short, 31 where the factor's words are damaged.
 #[unsafe(no_mangle)]
 pub extern "C" fn gusnalip_new_sweep(factor: &[u64], first: u64, last: u64, out: &mut [u64]) -> u32
-    ensures value { result ≡ (newSweepTo factor.now first last out.old).number }
-    ensures out_after { out.new ≡ leaves (newSweepTo factor.now first last out.old) out.old }
+    ensures value { result ≡ (new_sweep_to factor.now first last out.old).number }
+    ensures out_after { out.new ≡ leaves (new_sweep_to factor.now first last out.old) out.old }
 {
     match take_factor(factor, FACTOR_WORDS, out.len(), STATE_WORDS) {
         TakenFactor::Accepted(f) => match sweep::new_state(f, first, last) {
@@ -402,10 +402,10 @@ pub extern "C" fn gusnalip_sweep(
     free: usize,
     counts: &mut [u64],
 ) -> u32
-    ensures value { result ≡ (sweepTo state.old cap list.old free counts.old).number }
-    ensures state_after { state.new ≡ sets state.old 0 (sweepTo state.old cap list.old free counts.old).state }
-    ensures list_after { list.new ≡ (sweepTo state.old cap list.old free counts.old).list }
-    ensures counts_after { counts.new ≡ sets counts.old 0 (sweepTo state.old cap list.old free counts.old).counts }
+    ensures value { result ≡ (sweep_to state.old cap list.old free counts.old).number }
+    ensures state_after { state.new ≡ sets state.old 0 (sweep_to state.old cap list.old free counts.old).state }
+    ensures list_after { list.new ≡ (sweep_to state.old cap list.old free counts.old).list }
+    ensures counts_after { counts.new ≡ sets counts.old 0 (sweep_to state.old cap list.old free counts.old).counts }
 {
     match take_factor(state, STATE_WORDS, counts.len(), COUNT_WORDS) {
         TakenFactor::Accepted(f) => match sweep::sweep_call(state_of(f, state), cap, list, free) {
@@ -425,8 +425,8 @@ pub extern "C" fn gusnalip_sweep(
 
 // A kit from its words: the number, and every place, be it counted or not.
 fn kit_from(words: &[u64]) -> Kit
-    requires { kitLength ≤ length words.now }
-    ensures { kitOf result ≡ kitFrom words.now }
+    requires { kit_length ≤ length words.now }
+    ensures { kit_of result ≡ kit_from words.now }
 {
     let first = factor_from(&words[1..]);
     let mut factors = [first; KIT_PLACES];
@@ -443,8 +443,8 @@ fn kit_from(words: &[u64]) -> Kit
 
 // Whether the words of one of so many factors of a kit are damaged.
 fn any_damaged(words: &[u64], count: usize) -> bool
-    requires { (kitLength ≤ length words.now) × (count ≤ 96) }
-    ensures { result ≡ anyDamaged count (drop 1 words.now) }
+    requires { (kit_length ≤ length words.now) × (count ≤ 96) }
+    ensures { result ≡ any_damaged count (drop 1 words.now) }
 {
     let mut i = 0;
     while i < count {
@@ -458,8 +458,8 @@ fn any_damaged(words: &[u64], count: usize) -> bool
 
 // Whether a kit in a caller's words, of which so many are due, is taken, for an answer that needs so much room: 255 where either is too short, 42 by the number, 31 where words of a factor that is counted are damaged.
 fn take_kit(words: &[u64], due: usize, room: usize, needed: usize) -> Judgement
-    requires { kitLength ≤ due }
-    ensures { First (kitUnfit words.now due room needed) (refusalOf result) }
+    requires { kit_length ≤ due }
+    ensures { First (kit_unfit words.now due room needed) (refusal_of result) }
 {
     if words.len() < due {
         return Judgement::Refused(TOO_SHORT);
@@ -479,8 +479,8 @@ fn take_kit(words: &[u64], due: usize, room: usize, needed: usize) -> Judgement
 
 // A kit sweep's state over a kit, from the words behind the kit's.
 fn kit_state_of(kit: Kit, words: &[u64]) -> KitState
-    requires { kitStateLength ≤ length words.now }
-    ensures { kitView result ≡ kitStateOf (kitOf kit) words.now }
+    requires { kit_state_length ≤ length words.now }
+    ensures { kitView result ≡ kit_state_of (kit_of kit) words.now }
 {
     KitState {
         kit,
@@ -492,8 +492,8 @@ fn kit_state_of(kit: Kit, words: &[u64]) -> KitState
 
 // The words of a kit as they were given.
 fn copy_kit(kit: &[u64], out: &mut [u64])
-    requires { (kitLength ≤ length kit.now) × (kitLength ≤ length out.old) }
-    ensures { out.new ≡ sets out.old 0 (take kitLength kit.now) }
+    requires { (kit_length ≤ length kit.now) × (kit_length ≤ length out.old) }
+    ensures { out.new ≡ sets out.old 0 (take kit_length kit.now) }
 {
     let mut i = 0;
     while i < KIT_WORDS {
@@ -504,8 +504,8 @@ fn copy_kit(kit: &[u64], out: &mut [u64])
 
 // The words behind a kit's: place, next significand and finished mark.
 fn put_behind(place: usize, next: u64, finished: bool, out: &mut [u64])
-    requires { kitStateLength ≤ length out.old }
-    ensures { out.new ≡ sets out.old kitLength (place ∷ next ∷ flagWord finished ∷ []) }
+    requires { kit_state_length ≤ length out.old }
+    ensures { out.new ≡ sets out.old kit_length (place ∷ next ∷ flag_word finished ∷ []) }
 {
     out[961] = place as u64;
     out[962] = next;
@@ -515,7 +515,7 @@ fn put_behind(place: usize, next: u64, finished: bool, out: &mut [u64])
 // Forms a kit: 0, or the refusal 42, 31 or 43; 255 where the list is too short.
 #[unsafe(no_mangle)]
 pub extern "C" fn gusnalip_form_kit(kit: &[u64]) -> u32
-    ensures { result ≡ formTo kit.now }
+    ensures { result ≡ form_to kit.now }
 {
     match take_kit(kit, KIT_WORDS, 0, 0) {
         Judgement::Refused(k) => k,
@@ -529,8 +529,8 @@ pub extern "C" fn gusnalip_form_kit(kit: &[u64]) -> u32
 // A new kit sweep: 0 and the state's 964 words, or the refusal 42, 31 or 43; 255 where a list is too short.
 #[unsafe(no_mangle)]
 pub extern "C" fn gusnalip_new_kit_sweep(kit: &[u64], out: &mut [u64]) -> u32
-    ensures value { result ≡ (newKitTo kit.now out.old).number }
-    ensures out_after { out.new ≡ leaves (newKitTo kit.now out.old) out.old }
+    ensures value { result ≡ (new_kit_to kit.now out.old).number }
+    ensures out_after { out.new ≡ leaves (new_kit_to kit.now out.old) out.old }
 {
     match take_kit(kit, KIT_WORDS, out.len(), KIT_STATE_WORDS) {
         Judgement::Refused(k) => k,
@@ -559,10 +559,10 @@ pub extern "C" fn gusnalip_kit_sweep(
     free: usize,
     counts: &mut [u64],
 ) -> u32
-    ensures value { result ≡ (kitSweepTo state.old cap list.old free counts.old).number }
-    ensures state_after { state.new ≡ sets state.old kitLength (kitSweepTo state.old cap list.old free counts.old).state }
-    ensures list_after { list.new ≡ (kitSweepTo state.old cap list.old free counts.old).list }
-    ensures counts_after { counts.new ≡ sets counts.old 0 (kitSweepTo state.old cap list.old free counts.old).counts }
+    ensures value { result ≡ (kit_sweep_to state.old cap list.old free counts.old).number }
+    ensures state_after { state.new ≡ sets state.old kit_length (kit_sweep_to state.old cap list.old free counts.old).state }
+    ensures list_after { list.new ≡ (kit_sweep_to state.old cap list.old free counts.old).list }
+    ensures counts_after { counts.new ≡ sets counts.old 0 (kit_sweep_to state.old cap list.old free counts.old).counts }
 {
     match take_kit(state, KIT_STATE_WORDS, counts.len(), COUNT_WORDS) {
         Judgement::Refused(k) => k,
@@ -587,7 +587,7 @@ pub extern "C" fn gusnalip_kit_sweep(
 // Whether a kit is clean, by its state and how many entries its calls wrote since the new one: 1 clean, 2 not clean, 3 not finished, or the refusal 42, 31, 43 or 32; 255 where the list is too short.
 #[unsafe(no_mangle)]
 pub extern "C" fn gusnalip_kit_clean(state: &[u64], entries: u64) -> u32
-    ensures { result ≡ cleanTo state.now entries }
+    ensures { result ≡ clean_to state.now entries }
 {
     match take_kit(state, KIT_STATE_WORDS, 0, 0) {
         Judgement::Refused(k) => k,

@@ -8,12 +8,12 @@ use lib.Pow.{pow_pos}
 use Rattle.rounding.specs.declared.Rounded.{Rounded}
 use Rattle.rounding.specs.declared.RoundedSigned.{RoundedSigned}
 use Rattle.rounding.specs.Round.{rounded}
-use Rattle.rounding.specs.RoundLaws.{shifted, rounded-same, rounded-scale}
-use Rattle.rounding.specs.Signed.{negative, signed_of, roundedSigned}
+use Rattle.rounding.proofs.RoundLaws.{shifted, rounded_same, rounded_scale}
+use Rattle.rounding.specs.Signed.{negative, signed_of, rounded_signed}
 use Rattle.factor.specs.Context.{Context, Fine}
-use Rattle.factor.specs.UnitParts.{partsFrom}
-use Rattle.rounding.specs.Directed.{size_of}
-use Rattle.factor.specs.LowForm.{low-form}
+use Rattle.factor.specs.UnitParts.{parts_from}
+use Rattle.rounding.proofs.Directed.{size_of}
+use Rattle.factor.proofs.LowForm.{low_form}
 
 -- a - (b + a) is - b
 back : (a b : ℤ) → a -ℤ (b +ℤ a) ≡ neg_ℤ b
@@ -29,11 +29,11 @@ module _ (K : Context) (ok : Fine K) where
 
   -- a whole number rounded, and the same number over 2 ^ E
   scaled : (R : ℕ) → 0 < R → rounded rule n R 1 ≡ shifted E (rounded rule n R (2 ^ E))
-  scaled R h = rounded-same rule n P R 1 (R * 2 ^ E) (2 ^ E) (omega arith) (pow_pos E) (omega arith) ∙ rounded-scale rule n P R (2 ^ E) E h (pow_pos E)
+  scaled R h = rounded_same rule n P R 1 (R * 2 ^ E) (2 ^ E) (omega arith) (pow_pos E) (omega arith) ∙ rounded_scale rule n P R (2 ^ E) E h (pow_pos E)
 
   -- no rest
-  pub parts_none : (h : ℕ) (z : ℤ) (r : RoundedSigned) → r ≡ roundedSigned rule n z → nat_abs z ≡ 0 → (r.significand ≡ (partsFrom K h z).low) × (0 ≡ (partsFrom K h z).places)
-  unfolding roundedSigned partsFrom rounded
+  pub parts_none : (h : ℕ) (z : ℤ) (r : RoundedSigned) → r ≡ rounded_signed rule n z → nat_abs z ≡ 0 → (r.significand ≡ (parts_from K h z).low) × (0 ≡ (parts_from K h z).places)
+  unfolding rounded_signed parts_from rounded
   parts_none h z r e m = (
     ap (λ (q : RoundedSigned). q.significand) e ∙ ap (λ (k : ℕ). signed_of (negative z) (rounded rule n k 1).significand) m ∙ ap (λ (k : ℕ). signed_of (negative z) (rounded rule n k (2 ^ E)).significand) (sym m),
     ap (λ (k : ℕ). nat_abs (rounded rule n k (2 ^ E)).exponent) (sym m),
@@ -45,12 +45,12 @@ module _ (K : Context) (ok : Fine K) where
     pub exponent : pos E -ℤ r.exponent ≡ pos places
     pub few : places < E + n
 
-  pub parts-some : (h : ℕ) (z : ℤ) (r : RoundedSigned) → r ≡ roundedSigned rule n z → 0 < nat_abs z → nat_abs z ≤ 2 ^ (E - n)
-      → Placed r (partsFrom K h z).low (partsFrom K h z).places
-  unfolding roundedSigned partsFrom
-  parts-some h z r e m w =
+  pub parts_some : (h : ℕ) (z : ℤ) (r : RoundedSigned) → r ≡ rounded_signed rule n z → 0 < nat_abs z → nat_abs z ≤ 2 ^ (E - n)
+      → Placed r (parts_from K h z).low (parts_from K h z).places
+  unfolding rounded_signed parts_from
+  parts_some h z r e m w =
       let t = scaled (nat_abs z) m in
-      let f = low-form K ok (nat_abs z) m w in
+      let f = low_form K ok (nat_abs z) m w in
       let x : r.exponent ≡ neg_ℤ (pos f.places) +ℤ pos E = ap (λ (q : RoundedSigned). q.exponent) e ∙ ap (λ (q : Rounded). q.exponent) t ∙ ap (λ (k : ℤ). k +ℤ pos E) f.exponent in
       let q : f.places ≡ nat_abs (rounded rule n (nat_abs z) (2 ^ E)).exponent = sym (ap nat_abs f.exponent ∙ size_of true f.places) in
       record {

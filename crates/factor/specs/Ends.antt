@@ -1,6 +1,6 @@
 -- The ends of a factor, whole numbers over 2 ^ E, the fractions between two of them, and the factor's sign on such a fraction. Definitions only. Assumes nothing.
 use Rattle.std.specs.Prelude.{◌≡◌, false, ℕ, suc, ◌*◌, ◌^◌, ◌≤◌, ◌<◌}
-use Rattle.rounding.specs.Fraction.{Fraction, signedAs}
+use Rattle.rounding.specs.Fraction.{Fraction, signed_as}
 use Rattle.factor.specs.declared.Factor.{Factor}
 use Rattle.factor.specs.Context.{Context}
 
@@ -17,5 +17,5 @@ pub record Between (K : Context) (L U : ℕ) (C : Fraction) : Type 0 where
   pub most : C.num * 2 ^ K.E ≤ U * C.den
 
 -- with the factor's sign, as the ends describe its size (request W5): C, or - C
-abbrev pub signedBy : Factor → Fraction → Fraction
-signedBy f C = signedAs f.minus C
+abbrev pub signed_by : Factor → Fraction → Fraction
+signed_by f C = signed_as f.minus C

@@ -15,16 +15,16 @@ module _ (K : Context) where
   open K use {rule, n, E}
 
   -- high part: Ch = RN(C), C being c / 2 ^ E
-  abbrev pub highPart : ℕ → Fraction
-  highPart c = RN rule n (over c E)
+  abbrev pub high_part : ℕ → Fraction
+  high_part c = RN rule n (over c E)
 
   -- C - Ch
   abbrev pub rest : ℕ → Fraction
-  rest c = less (over c E) (highPart c)
+  rest c = less (over c E) (high_part c)
 
   -- low part: Cl = RN(C - Ch)
-  abbrev pub lowPart : ℕ → Fraction
-  lowPart c = RN rule n (rest c)
+  abbrev pub low_part : ℕ → Fraction
+  low_part c = RN rule n (rest c)
 
   -- the high significand over 2 ^ (n - 1), and the low part as a signed whole number over a power of two, 0 over 1 where it is zero
   unfoldable pub parts_at : ℕ → Parts
@@ -32,4 +32,4 @@ module _ (K : Context) where
   parts_at c =
       let d = rest c in
       let r = rounded rule n d.num d.den in
-      record { high = counted (n - 1) (highPart c); low = signed_of d.minus r.significand; places = nat_abs r.exponent }
+      record { high = counted (n - 1) (high_part c); low = signed_of d.minus r.significand; places = nat_abs r.exponent }

@@ -10,46 +10,46 @@ unfoldable pub scale_of : ℕ → ℕ
 scale_of n = 62
 
 -- a search takes at most so many rounds
-abbrev pub roundsOf : ℕ → ℕ
-roundsOf n = 64
+abbrev pub rounds_of : ℕ → ℕ
+rounds_of n = 64
 
 -- least and largest significand
-abbrev pub leastOf : ℕ → ℕ
-leastOf n = 2 ^ (n - 1)
+abbrev pub least_of : ℕ → ℕ
+least_of n = 2 ^ (n - 1)
 
 abbrev pub most_of : ℕ → ℕ
 most_of n = 2 ^ n - 1
 
 -- the limits of a precision
-abbrev pub leastPrecision : ℕ
-leastPrecision = 4
+abbrev pub least_precision : ℕ
+least_precision = 4
 
-abbrev pub mostPrecision : ℕ
-mostPrecision = 24
+abbrev pub most_precision : ℕ
+most_precision = 24
 
 -- refusal 11: precision not 4 to 24
-abbrev pub precisionOut : ℕ → Bool
-precisionOut n = ltb n leastPrecision || ltb mostPrecision n
+abbrev pub precision_out : ℕ → Bool
+precision_out n = ltb n least_precision || ltb most_precision n
 
 -- what is known of a precision that was accepted
 pub record ValidPrecision (n : ℕ) : Type 0 where
-  pub least : leastPrecision ≤ n
-  pub most : n ≤ mostPrecision
+  pub least : least_precision ≤ n
+  pub most : n ≤ most_precision
   pub scale : scale_of n ≡ 62
 
 -- the precision, or refusal 11
-abbrev pub newPrecision : ℕ → Outcome Precision
-newPrecision n = answer ((11, precisionOut n) ∷ []) (record { bits = n })
+abbrev pub new_precision : ℕ → Outcome Precision
+new_precision n = answer ((11, precision_out n) ∷ []) (record { bits = n })
 
 -- what each case of its answer says
-abbrev pub precisionSays : PrecisionAnswer → Outcome Precision
-precisionSays (Accepted p) = accepted p
-precisionSays (Refused k) = refused k
+abbrev pub precision_says : PrecisionAnswer → Outcome Precision
+precision_says (Accepted p) = accepted p
+precision_says (Refused k) = refused k
 
 -- refusal 17: a significand outside 2 ^ (n - 1) to 2 ^ n - 1
-abbrev pub significandOut : (n X : ℕ) → Bool
-significandOut n X = ltb X (2 ^ (n - 1)) || leb (2 ^ n) X
+abbrev pub significand_out : (n X : ℕ) → Bool
+significand_out n X = ltb X (2 ^ (n - 1)) || leb (2 ^ n) X
 
 -- of a range: "a significand outside 2^(n−1) to 2^n − 1, or a range's first above its last"
-abbrev pub rangeOut : (n first last : ℕ) → Bool
-rangeOut n first last = significandOut n first || significandOut n last || ltb last first
+abbrev pub range_out : (n first last : ℕ) → Bool
+range_out n first last = significand_out n first || significand_out n last || ltb last first

@@ -6,7 +6,7 @@ use Rattle.std.specs.Float.{Format, binary32}
 use Rattle.std.specs.Float.Ieee.{to_bits}
 use Rattle.marks.specs.Answers.{Outcome, refused, accepted, answer}
 use Rattle.rounding.specs.Fraction.{Fraction}
-use Rattle.floats.specs.Fields.{sameFloat}
+use Rattle.floats.specs.Fields.{same_float}
 use Rattle.factor.specs.declared.Description.{Description}
 use Rattle.factor.specs.declared.Parts.{Parts}
 use Rattle.factor.specs.declared.Applied.{Applied}
@@ -15,98 +15,98 @@ use Rattle.factor.specs.declared.StoredAnswer.{StoredAnswer}
 use Rattle.factor.specs.declared.Factor.{Factor}
 use Rattle.factor.specs.declared.SetUp.{SetUp}
 use Rattle.factor.specs.declared.SetUp.TheVariants.{Accepted, Refused}
-use Rattle.factor.specs.Precision.{ValidPrecision, precisionOut}
-use Rattle.factor.specs.Context.{Context, contextFor, context_of, lowerOf, upperOf}
-use Rattle.factor.specs.Parts.{highPart, lowPart, parts_at}
+use Rattle.factor.specs.Precision.{ValidPrecision, precision_out}
+use Rattle.factor.specs.Context.{Context, context_for, context_of, lower_of, upper_of}
+use Rattle.factor.specs.Parts.{high_part, low_part, parts_at}
 use Rattle.factor.specs.Ends.{End}
 
 -- ---- the conditions
 -- 12: an end not 2 ^ E to 2 ^ (E + 1) - 1
-abbrev pub endOut : Context → ℕ → Bool
-endOut K c = ltb c (2 ^ K.E) || leb (2 ^ suc K.E) c
+abbrev pub end_out : Context → ℕ → Bool
+end_out K c = ltb c (2 ^ K.E) || leb (2 ^ suc K.E) c
 
 -- 14: scale not -100 to 100
-abbrev pub scaleOut : ℤ → Bool
-scaleOut k = lt_z k (negsuc 99) || lt_z (pos 100) k
+abbrev pub scale_out : ℤ → Bool
+scale_out k = lt_z k (negsuc 99) || lt_z (pos 100) k
 
 -- 15: Ch not the same at both ends
-abbrev pub sameHigh : Parts → Parts → Bool
-sameHigh p q = eqb p.high q.high
+abbrev pub same_high : Parts → Parts → Bool
+same_high p q = eqb p.high q.high
 
 -- 16: Cl not the same at both ends
-abbrev pub sameZ : ℤ → ℤ → Bool
-sameZ (pos a) (pos b) = eqb a b
-sameZ (pos a) (negsuc b) = false
-sameZ (negsuc a) (pos b) = false
-sameZ (negsuc a) (negsuc b) = eqb a b
+abbrev pub same_z : ℤ → ℤ → Bool
+same_z (pos a) (pos b) = eqb a b
+same_z (pos a) (negsuc b) = false
+same_z (negsuc a) (pos b) = false
+same_z (negsuc a) (negsuc b) = eqb a b
 
-abbrev pub sameLow : Parts → Parts → Bool
-sameLow p q = sameZ p.low q.low && eqb p.places q.places
+abbrev pub same_low : Parts → Parts → Bool
+same_low p q = same_z p.low q.low && eqb p.places q.places
 
 -- ---- the factor that is set up
--- the float of a fraction's value (which is exact for the parts: `stored-high` and `Stored-low`)
+-- the float of a fraction's value (which is exact for the parts: `stored_high` and `Stored-low`)
 abbrev pub float_in : Format → Fraction → Float
 float_in f x = Ieee.round f x.minus x.num x.den
 
 -- what a handheld applies: the parts at the lower end, which are those of the upper end too
-unfoldable pub appliedOf : Description → Applied
+unfoldable pub applied_of : Description → Applied
 unfolding Ieee.round
-appliedOf d = record { high = float_in binary32 (highPart (contextFor d) d.lower); low = float_in binary32 (lowPart (contextFor d) d.lower); scale = d.scale }
+applied_of d = record { high = float_in binary32 (high_part (context_for d) d.lower); low = float_in binary32 (low_part (context_for d) d.lower); scale = d.scale }
 
 -- all that is stored of a size
-abbrev pub storedBy : Description → Stored
-storedBy d = record { parts = parts_at (contextFor d) d.lower; applied = appliedOf d }
+abbrev pub stored_by : Description → Stored
+stored_by d = record { parts = parts_at (context_for d) d.lower; applied = applied_of d }
 
 -- the factor: sign, precision and both ends as described, and what is stored of the size
-abbrev pub factorWith : Description → Stored → Factor
-factorWith d s = record { minus = d.minus; precision = record { bits = d.precision }; lower = d.lower; upper = d.upper; parts = s.parts; applied = s.applied }
+abbrev pub factor_with : Description → Stored → Factor
+factor_with d s = record { minus = d.minus; precision = record { bits = d.precision }; lower = d.lower; upper = d.upper; parts = s.parts; applied = s.applied }
 
-abbrev pub factorOf : Description → Factor
-factorOf d = factorWith d (storedBy d)
+abbrev pub factor_of : Description → Factor
+factor_of d = factor_with d (stored_by d)
 
 -- ---- set-up
 -- the conditions that refuse a description
 abbrev pub conditions : Description → List (ℕ × Bool)
 conditions d =
-    (11, precisionOut d.precision)
-    ∷ (12, endOut (contextFor d) d.lower || endOut (contextFor d) d.upper)
+    (11, precision_out d.precision)
+    ∷ (12, end_out (context_for d) d.lower || end_out (context_for d) d.upper)
     ∷ (13, ltb d.upper d.lower)
-    ∷ (14, scaleOut d.scale)
-    ∷ (15, not (sameHigh (parts_at (contextFor d) d.lower) (parts_at (contextFor d) d.upper)))
-    ∷ (16, not (sameLow (parts_at (contextFor d) d.lower) (parts_at (contextFor d) d.upper)))
+    ∷ (14, scale_out d.scale)
+    ∷ (15, not (same_high (parts_at (context_for d) d.lower) (parts_at (context_for d) d.upper)))
+    ∷ (16, not (same_low (parts_at (context_for d) d.lower) (parts_at (context_for d) d.upper)))
     ∷ []
 
--- what is stored of the size, unless one of them holds: set-up without what stands beside it (`set-up-stores`)
-unfoldable pub storedOf : Description → Outcome Stored
-unfolding parts_at appliedOf
-storedOf d = answer (conditions d) (storedBy d)
+-- what is stored of the size, unless one of them holds: set-up without what stands beside it (`set_up_stores`)
+unfoldable pub stored_of : Description → Outcome Stored
+unfolding parts_at applied_of
+stored_of d = answer (conditions d) (stored_by d)
 
 -- the factor, unless one of them holds
-unfoldable pub setUp : Description → Outcome Factor
-unfolding parts_at appliedOf
-setUp d = answer (conditions d) (factorOf d)
+unfoldable pub set_up : Description → Outcome Factor
+unfolding parts_at applied_of
+set_up d = answer (conditions d) (factor_of d)
 
 -- what each case says
-abbrev pub storedSays : StoredAnswer → Outcome Stored
-storedSays (StoredAnswer.Accepted s) = accepted s
-storedSays (StoredAnswer.Refused k) = refused k
+abbrev pub stored_says : StoredAnswer → Outcome Stored
+stored_says (StoredAnswer.Accepted s) = accepted s
+stored_says (StoredAnswer.Refused k) = refused k
 
 -- and each case of set-up's answer
-abbrev pub outcomeOf : SetUp → Outcome Factor
-outcomeOf (Accepted f) = accepted f
-outcomeOf (Refused k) = refused k
+abbrev pub outcome_of : SetUp → Outcome Factor
+outcome_of (Accepted f) = accepted f
+outcome_of (Refused k) = refused k
 
 -- ---- the check behind 31
-abbrev pub sameApplied : Applied → Applied → Bool
-sameApplied a b = sameFloat binary32 a.high b.high && (sameFloat binary32 a.low b.low && sameZ a.scale b.scale)
+abbrev pub same_applied : Applied → Applied → Bool
+same_applied a b = same_float binary32 a.high b.high && (same_float binary32 a.low b.low && same_z a.scale b.scale)
 
 -- f stores just s; of a sign there is nothing to compare
-abbrev pub storesJust : Factor → Stored → Bool
-storesJust f s = sameHigh f.parts s.parts && (sameLow f.parts s.parts && sameApplied f.applied s.applied)
+abbrev pub stores_just : Factor → Stored → Bool
+stores_just f s = same_high f.parts s.parts && (same_low f.parts s.parts && same_applied f.applied s.applied)
 
 -- f stores what was set up; nothing where that was refused
 abbrev pub given : Factor → Outcome Stored → Bool
-given f (accepted s) = storesJust f s
+given f (accepted s) = stores_just f s
 given f (refused k) = false
 
 -- a factor as it would be described
@@ -115,17 +115,17 @@ described f = record { minus = f.minus; precision = f.precision.bits; scale = f.
 
 -- 31 stands if this is false: the factor's stored parts are those that its ends, precision and scale set up, and those are not refused
 unfoldable pub intact : Factor → Bool
-unfolding storedOf
-intact f = given f (storedOf (described f))
+unfolding stored_of
+intact f = given f (stored_of (described f))
 
 -- ---- what is known of a factor that was accepted
 pub record Sound (f : Factor) : Type 0 where
   pub precision : ValidPrecision f.precision.bits
-  pub lower-end : End (context_of f) (lowerOf f)
-  pub upper-end : End (context_of f) (upperOf f)
-  pub ordered : lowerOf f ≤ upperOf f
-  pub scale : scaleOut f.applied.scale ≡ false
-  pub same : parts_at (context_of f) (lowerOf f) ≡ parts_at (context_of f) (upperOf f)
-  pub parts : f.parts ≡ parts_at (context_of f) (lowerOf f)
-  pub high-stored : to_bits binary32 f.applied.high ≡ to_bits binary32 (appliedOf (described f)).high
-  pub low-stored : to_bits binary32 f.applied.low ≡ to_bits binary32 (appliedOf (described f)).low
+  pub lower_end : End (context_of f) (lower_of f)
+  pub upper_end : End (context_of f) (upper_of f)
+  pub ordered : lower_of f ≤ upper_of f
+  pub scale : scale_out f.applied.scale ≡ false
+  pub same : parts_at (context_of f) (lower_of f) ≡ parts_at (context_of f) (upper_of f)
+  pub parts : f.parts ≡ parts_at (context_of f) (lower_of f)
+  pub high_stored : to_bits binary32 f.applied.high ≡ to_bits binary32 (applied_of (described f)).high
+  pub low_stored : to_bits binary32 f.applied.low ≡ to_bits binary32 (applied_of (described f)).low

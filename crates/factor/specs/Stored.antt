@@ -10,14 +10,14 @@ use Rattle.factor.specs.declared.Applied.{Applied}
 use Rattle.factor.specs.Context.{Context}
 
 -- ---- the floats of the parts that are kept, and what is stored
-abbrev pub highFrom : Format → (n : ℕ) → Parts → Float
-highFrom f n p = Ieee.round f false p.high (2 ^ (n - 1))
+abbrev pub high_from : Format → (n : ℕ) → Parts → Float
+high_from f n p = Ieee.round f false p.high (2 ^ (n - 1))
 
-abbrev pub lowFrom : Format → Parts → Float
-lowFrom f p = Ieee.round f (negative p.low) (nat_abs p.low) (2 ^ p.places)
+abbrev pub low_from : Format → Parts → Float
+low_from f p = Ieee.round f (negative p.low) (nat_abs p.low) (2 ^ p.places)
 
-abbrev pub appliedFrom : (n : ℕ) → ℤ → Parts → Applied
-appliedFrom n k p = record { high = highFrom binary32 n p; low = lowFrom binary32 p; scale = k }
+abbrev pub applied_from : (n : ℕ) → ℤ → Parts → Applied
+applied_from n k p = record { high = high_from binary32 n p; low = low_from binary32 p; scale = k }
 
 -- parts that floats hold: the low significand zero, or of n bits
 pub record LowStorable (K : Context) (low : ℤ) (places : ℕ) : Type 0 where

@@ -3,16 +3,16 @@
 ghost use Rattle.std.specs.Prelude.{◌≡◌, suc, ◌+◌, ◌-◌, ◌<◌, ◌≤◌, ◌^◌, false, ◌||◌, ltb, nat_abs};
 ghost use Rattle.std.specs.Float.Ieee;
 ghost use Rattle.std.specs.Float.{binary32};
-ghost use Rattle.wide.specs.Value.{halfWord};
+ghost use Rattle.wide.specs.Value.{half_word};
 ghost use Rattle.rounding.specs.Apart.{apart};
 ghost use Rattle.rounding.specs.Signed.{negative, signed_of};
-ghost use Rattle.factor.specs.Precision.{ValidPrecision, scale_of, roundsOf, precisionOut, newPrecision, precisionSays, leastOf, most_of};
-ghost use Rattle.factor.specs.Context.{contextAt};
-ghost use Rattle.factor.specs.UnitParts.{partsFrom};
+ghost use Rattle.factor.specs.Precision.{ValidPrecision, scale_of, rounds_of, precision_out, new_precision, precision_says, least_of, most_of};
+ghost use Rattle.factor.specs.Context.{context_at};
+ghost use Rattle.factor.specs.UnitParts.{parts_from};
 ghost use Rattle.factor.specs.Ends.{End};
 ghost use Rattle.factor.specs.Parts.{parts_at};
-ghost use Rattle.factor.specs.SetUp.{endOut, scaleOut, sameLow, sameApplied, storesJust, storedOf, storedSays, setUp, outcomeOf, intact};
-ghost use Rattle.factor.specs.Stored.{LowStorable, Storable, appliedFrom};
+ghost use Rattle.factor.specs.SetUp.{end_out, scale_out, same_low, same_applied, stores_just, stored_of, stored_says, set_up, outcome_of, intact};
+ghost use Rattle.factor.specs.Stored.{LowStorable, Storable, applied_from};
 
 use rounding::TieRule;
 
@@ -98,7 +98,7 @@ impl Precision {
     const ROUNDS: u64 = 64;
     // Refusal 11: precision not 4 to 24.
     fn is_out(bits: u32) -> bool
-        ensures { result ≡ precisionOut bits }
+        ensures { result ≡ precision_out bits }
     {
         if bits < Precision::LEAST {
             return true;
@@ -108,7 +108,7 @@ impl Precision {
 
     // A precision, or refusal 11.
     pub fn new(bits: u32) -> PrecisionAnswer
-        ensures { precisionSays result ≡ newPrecision bits }
+        ensures { precision_says result ≡ new_precision bits }
     {
         if Precision::is_out(bits) {
             return PrecisionAnswer::Refused(11);
@@ -119,7 +119,7 @@ impl Precision {
     // The least significand, 2 ^ (n - 1).
     pub fn least(self) -> u64
         requires { ValidPrecision self.bits }
-        ensures { result ≡ leastOf self.bits }
+        ensures { result ≡ least_of self.bits }
     {
         let n = self.bits;
         wide::power(n - 1)
@@ -192,7 +192,7 @@ impl Precision {
 
     // A search takes at most so many rounds.
     pub fn rounds(self) -> u64
-        ensures { result ≡ roundsOf self.bits }
+        ensures { result ≡ rounds_of self.bits }
     {
         Precision::ROUNDS
     }
@@ -200,7 +200,7 @@ impl Precision {
 
 // C - Ch in the unit of the ends, signed.
 fn rest_of(end: u64, whole: u64) -> i64
-    requires { apart end whole < halfWord }
+    requires { apart end whole < half_word }
     ensures { result ≡ signed_of (ltb end whole) (apart end whole) }
 {
     if end < whole {
@@ -212,7 +212,7 @@ fn rest_of(end: u64, whole: u64) -> i64
 // The parts from the high significand and the rest: the low part is the rest rounded, its exact sign kept.
 fn parts_from(p: Precision, high: u64, rest: i64) -> Parts
     requires { ValidPrecision p.bits × (nat_abs rest ≤ 2 ^ (scale_of p.bits - p.bits)) }
-    ensures { result ≡ partsFrom (contextAt p.bits) high rest }
+    ensures { result ≡ parts_from (context_at p.bits) high rest }
 {
     let n = p.bits;
     let r = round::round_signed(rest, n, TieRule::ToEven);
@@ -233,8 +233,8 @@ fn parts_from(p: Precision, high: u64, rest: i64) -> Parts
 
 // The parts at one end.
 pub fn parts_at(p: Precision, end: u64) -> Parts
-    requires { ValidPrecision p.bits × End (contextAt p.bits) end }
-    ensures { result ≡ parts_at (contextAt p.bits) end }
+    requires { ValidPrecision p.bits × End (context_at p.bits) end }
+    ensures { result ≡ parts_at (context_at p.bits) end }
 {
     let k = p.step_exponent();
     let near = round::nearest_word(end, k, TieRule::ToEven);
@@ -244,7 +244,7 @@ pub fn parts_at(p: Precision, end: u64) -> Parts
 
 // The low part as a binary32 number; a zero low part is plus zero.
 fn low_float(n: u32, low: i64, places: u32) -> f32
-    requires { ValidPrecision n × LowStorable (contextAt n) low places }
+    requires { ValidPrecision n × LowStorable (context_at n) low places }
     ensures { result ≡ Ieee.round binary32 (negative low) (nat_abs low) (2 ^ places) }
 {
     let size = round::magnitude(low);
@@ -256,8 +256,8 @@ fn low_float(n: u32, low: i64, places: u32) -> f32
 
 // What a handheld applies, from the parts.
 fn stored_parts(p: Precision, parts: Parts, scale: i32) -> Applied
-    requires { ValidPrecision p.bits × Storable (contextAt p.bits) parts }
-    ensures { result ≡ appliedFrom p.bits scale parts }
+    requires { ValidPrecision p.bits × Storable (context_at p.bits) parts }
+    ensures { result ≡ applied_from p.bits scale parts }
 {
     let n = p.bits;
     let high = floats::narrow_float(false, n, parts.high, n - 1);
@@ -268,7 +268,7 @@ fn stored_parts(p: Precision, parts: Parts, scale: i32) -> Applied
 // Refusal 12: an end not 2 ^ E to 2 ^ (E + 1) - 1.
 fn end_out(p: Precision, end: u64) -> bool
     requires { ValidPrecision p.bits }
-    ensures { result ≡ endOut (contextAt p.bits) end }
+    ensures { result ≡ end_out (context_at p.bits) end }
 {
     if end < p.least_end() {
         return true;
@@ -278,7 +278,7 @@ fn end_out(p: Precision, end: u64) -> bool
 
 // Refusal 14: scale not -100 to 100.
 fn scale_out(scale: i32) -> bool
-    ensures { result ≡ scaleOut scale }
+    ensures { result ≡ scale_out scale }
 {
     if scale < -100 {
         return true;
@@ -288,7 +288,7 @@ fn scale_out(scale: i32) -> bool
 
 // Whether two low parts are the same.
 fn same_low(p: Parts, q: Parts) -> bool
-    ensures { result ≡ sameLow p q }
+    ensures { result ≡ same_low p q }
 {
     if p.low == q.low {
         return p.places == q.places;
@@ -299,7 +299,7 @@ fn same_low(p: Parts, q: Parts) -> bool
 // Refusal 12: one end or the other.
 fn ends_out(p: Precision, lower: u64, upper: u64) -> bool
     requires { ValidPrecision p.bits }
-    ensures { result ≡ endOut (contextAt p.bits) lower || endOut (contextAt p.bits) upper }
+    ensures { result ≡ end_out (context_at p.bits) lower || end_out (context_at p.bits) upper }
 {
     if end_out(p, lower) {
         return true;
@@ -309,7 +309,7 @@ fn ends_out(p: Precision, lower: u64, upper: u64) -> bool
 
 // What a description's size sets up, which its sign does not change, or the first refusal whose condition holds.
 fn stored_of(d: Description) -> StoredAnswer
-    ensures { storedSays result ≡ storedOf d }
+    ensures { stored_says result ≡ stored_of d }
 {
     let PrecisionAnswer::Accepted(precision) = Precision::new(d.precision) else {
         return StoredAnswer::Refused(11);
@@ -337,7 +337,7 @@ fn stored_of(d: Description) -> StoredAnswer
 
 // Set-up: the factor, or the first refusal whose condition holds.
 pub fn set_up(d: Description) -> SetUp
-    ensures { outcomeOf result ≡ setUp d }
+    ensures { outcome_of result ≡ set_up d }
 {
     match stored_of(d) {
         StoredAnswer::Refused(number) => SetUp::Refused(number),
@@ -359,7 +359,7 @@ pub fn set_up(d: Description) -> SetUp
 
 // Whether what is stored is the same bit for bit.
 fn same_applied(a: Applied, b: Applied) -> bool
-    ensures { result ≡ sameApplied a b }
+    ensures { result ≡ same_applied a b }
 {
     if floats::same_float(a.high, b.high) {
         if floats::same_float(a.low, b.low) {
@@ -371,7 +371,7 @@ fn same_applied(a: Applied, b: Applied) -> bool
 
 // Whether a factor stores just this, bit for bit. Of a sign there is nothing to compare.
 fn stores(f: Factor, s: Stored) -> bool
-    ensures { result ≡ storesJust f s }
+    ensures { result ≡ stores_just f s }
 {
     let p = f.parts;
     let q = s.parts;

@@ -7,17 +7,17 @@ use Rattle.rounding.specs.declared.Direction.TheVariants.{Below, Equal, Above}
 use Rattle.rounding.specs.Direction.{side_of}
 use Rattle.rounding.specs.Grid.{nearest}
 use Rattle.rounding.specs.Round.{rounded}
-use Rattle.rounding.specs.Fraction.{directionOf}
+use Rattle.rounding.specs.Fraction.{direction_of}
 use Rattle.factor.specs.declared.Description.{Description}
 use Rattle.factor.specs.declared.Parts.{Parts}
 use Rattle.factor.specs.Parts.{parts_at}
 use Rattle.factor.specs.Precision.{scale_of}
-use Rattle.factor.specs.Context.{tieRule}
-use Rattle.factor.specs.SetUp.{setUp, appliedOf, intact}
+use Rattle.factor.specs.Context.{tie_rule}
+use Rattle.factor.specs.SetUp.{set_up, applied_of, intact}
 use Rattle.product.specs.Product.{product}
 use Rattle.product.specs.Marks.{mark}
 use Rattle.product.specs.Answer.{multiplied}
-use Rattle.suspects.specs.Suspects.{isSuspect}
+use Rattle.suspects.specs.Suspects.{is_suspect}
 use Rattle.calls.specs.Plain.{row, pick, span, span_of}
 use Rattle.figures.specs.Table.{unsaid, exactly, Row, All, Holds}
 
@@ -85,9 +85,9 @@ figures =
     ∷ []
 
 -- every row holds
-pub every-figure : All Holds figures
-unfolding figures answer directionOf side_of setUp appliedOf scale_of tieRule parts_at intact multiplied rounded nearest product mark isSuspect row pick span span_of Ieee.round Ieee.size Ieee.span Ieee.climb Ieee.to_bits
-every-figure = (
+pub every_figure : All Holds figures
+unfolding figures answer direction_of side_of set_up applied_of scale_of tie_rule parts_at intact multiplied rounded nearest product mark is_suspect row pick span span_of Ieee.round Ieee.size Ieee.span Ieee.climb Ieee.to_bits
+every_figure = (
   (refl, (refl, (refl, tt)), refl),
   (
     (refl, (refl, tt), refl),

@@ -3,8 +3,8 @@ ghost use Rattle.std.specs.Prelude.{◌≡◌, ◌<◌, ◌^◌};
 ghost use Rattle.std.specs.Float.Ieee;
 ghost use Rattle.std.specs.Float.{binary32};
 ghost use Rattle.std.specs.Float.Ieee.{emax, of_bits, to_bits};
-ghost use Rattle.wide.specs.Value.{wordBits};
-ghost use Rattle.floats.specs.Fields.{sign_of, biasedExponent, trailingSignificand, significandOf, zero_of, sameFloat, floatOf, Normalized, Narrow, unit_at, WholeInUnits, unitsOf};
+ghost use Rattle.wide.specs.Value.{word_bits};
+ghost use Rattle.floats.specs.Fields.{sign_of, biased_exponent, trailing_significand, significand_of, zero_of, same_float, float_of, Normalized, Narrow, unit_at, WholeInUnits, units_of};
 
 // How many digits a significand has, the leading one counted.
 pub const PRECISION: u32 = 24;
@@ -34,21 +34,21 @@ pub fn is_minus(bits: u32) -> bool
 
 // The biased exponent of a pattern.
 pub fn biased_exponent(bits: u32) -> u32
-    ensures { result ≡ biasedExponent binary32 bits }
+    ensures { result ≡ biased_exponent binary32 bits }
 {
     bits % SIGN / LEADING
 }
 
 // The trailing significand of a pattern: its digits below the leading one.
 pub fn trailing_significand(bits: u32) -> u32
-    ensures { result ≡ trailingSignificand binary32 bits }
+    ensures { result ≡ trailing_significand binary32 bits }
 {
     bits % LEADING
 }
 
 // The significand of a normal number's pattern.
 pub fn significand_of(bits: u32) -> u32
-    ensures { result ≡ significandOf binary32 bits }
+    ensures { result ≡ significand_of binary32 bits }
 {
     LEADING + bits % LEADING
 }
@@ -76,7 +76,7 @@ pub fn bits_of(x: f32) -> u32
 
 // Whether two floats are the same bit for bit.
 pub fn same_float(x: f32, y: f32) -> bool
-    ensures { result ≡ sameFloat binary32 x y }
+    ensures { result ≡ same_float binary32 x y }
 {
     bits_of(x) == bits_of(y)
 }
@@ -94,7 +94,7 @@ pub fn zero(minus: bool) -> f32
 // The float of a sign, an exponent and a significand: m * 2 ^ exponent times the smallest positive value.
 pub fn float_of(minus: bool, exponent: u32, m: u32) -> f32
     requires { Normalized binary32 exponent m }
-    ensures { result ≡ floatOf binary32 minus exponent m }
+    ensures { result ≡ float_of binary32 minus exponent m }
 {
     if minus {
         return f32::from_bits(SIGN + (exponent * LEADING + m));
@@ -121,8 +121,8 @@ pub fn unit_at(scale: u32) -> u32
 
 // The size of a number that is whole in units of 2 ^ d times the smallest positive value, counted in them.
 pub fn units_of(x: f32, d: u32) -> u64
-    requires { WholeInUnits binary32 wordBits d (to_bits binary32 x) }
-    ensures { result ≡ unitsOf binary32 d (to_bits binary32 x) }
+    requires { WholeInUnits binary32 word_bits d (to_bits binary32 x) }
+    ensures { result ≡ units_of binary32 d (to_bits binary32 x) }
 {
     let bits = f32::to_bits(x);
     if bits % SIGN == 0 {

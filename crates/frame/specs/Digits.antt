@@ -7,21 +7,21 @@ use Rattle.frame.specs.declared.Field.TheVariants.{Value, Malformed}
 
 -- ---- printed
 -- the byte of the digit for a number below 16: '0' is 48, and 'A', for ten, is 65
-unfoldable pub digitByte : ℕ → ℕ
-digitByte d = cond (ltb d 10) (48 + d) (65 + (d - 10))
+unfoldable pub digit_byte : ℕ → ℕ
+digit_byte d = cond (ltb d 10) (48 + d) (65 + (d - 10))
 
 -- the last w digits of v in a base
 unfoldable pub digits : (base w v : ℕ) → List ℕ
 digits base zero v = []
-digits base (suc w) v = digitByte (v / base ^ w % base) ∷ digits base w v
+digits base (suc w) v = digit_byte (v / base ^ w % base) ∷ digits base w v
 
 -- hexadecimal
-abbrev pub hexDigits : (w v : ℕ) → List ℕ
-hexDigits w v = digits 16 w v
+abbrev pub hex_digits : (w v : ℕ) → List ℕ
+hex_digits w v = digits 16 w v
 
 -- decimal
-abbrev pub decimalDigits : (w v : ℕ) → List ℕ
-decimalDigits w v = digits 10 w v
+abbrev pub decimal_digits : (w v : ℕ) → List ℕ
+decimal_digits w v = digits 10 w v
 
 -- ---- read
 -- from l to h, both included
@@ -29,8 +29,8 @@ abbrev pub between : (l h b : ℕ) → Bool
 between l h b = leb l b && leb b h
 
 -- the value of a byte that is an upper-case hexadecimal digit
-unfoldable pub digitValue : ℕ → Field
-digitValue b = cond (between 48 57 b) (Value (b - 48)) (cond (between 65 70 b) (Value (10 + (b - 65))) Malformed)
+unfoldable pub digit_value : ℕ → Field
+digit_value b = cond (between 48 57 b) (Value (b - 48)) (cond (between 65 70 b) (Value (10 + (b - 65))) Malformed)
 
 -- what is read goes on from a value
 abbrev pub and_then : Field → (ℕ → Field) → Field
@@ -38,13 +38,13 @@ and_then (Value v) f = f v
 and_then Malformed f = Malformed
 
 -- the value of digits that come after others whose value is v
-unfoldable pub valueAfter : (v : ℕ) → List ℕ → Field
-valueAfter v [] = Value v
-valueAfter v (b ∷ bytes) = and_then (digitValue b) (λ d. valueAfter (v * 16 + d) bytes)
+unfoldable pub value_after : (v : ℕ) → List ℕ → Field
+value_after v [] = Value v
+value_after v (b ∷ bytes) = and_then (digit_value b) (λ d. value_after (v * 16 + d) bytes)
 
 -- the value of the w digits that stand from a place on
 unfoldable pub field_at : List ℕ → (at w : ℕ) → Field
-field_at line at w = cond (leb (at + w) (length line)) (valueAfter 0 (slice at (at + w) line)) Malformed
+field_at line at w = cond (leb (at + w) (length line)) (value_after 0 (slice at (at + w) line)) Malformed
 
 -- it is no number of its digits
 abbrev pub malformed : Field → Bool

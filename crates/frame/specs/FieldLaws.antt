@@ -7,59 +7,59 @@ use Rattle.std.proofs.lemmas.List.{drop-append-le}
 use Rattle.std.proofs.lemmas.Bool.{lt-leb}
 use Rattle.frame.specs.declared.Field.{Field}
 use Rattle.frame.specs.declared.Field.TheVariants.{Value, Malformed}
-use Rattle.frame.specs.Digits.{hexDigits, digitValue, and_then, valueAfter, field_at, malformed, number_of}
-use Rattle.frame.specs.DigitLaws.{read-nothing, value-printed, value-below}
+use Rattle.frame.specs.Digits.{hex_digits, digit_value, and_then, value_after, field_at, malformed, number_of}
+use Rattle.frame.specs.DigitLaws.{read_nothing, value_printed, value_below}
 
 -- A field within the line is its digits' value.
-pub field-inside : (line : List ℕ) (at w : ℕ) → at + w ≤ length line → field_at line at w ≡ valueAfter 0 (slice at (at + w) line)
+pub field_inside : (line : List ℕ) (at w : ℕ) → at + w ≤ length line → field_at line at w ≡ value_after 0 (slice at (at + w) line)
 unfolding field_at
-field-inside line at w h = rw (le-leb (at + w) (length line) h)
+field_inside line at w h = rw (le-leb (at + w) (length line) h)
 
 -- A field past the line's end is none.
-pub field-outside : (line : List ℕ) (at w : ℕ) → length line < at + w → field_at line at w ≡ Malformed
+pub field_outside : (line : List ℕ) (at w : ℕ) → length line < at + w → field_at line at w ≡ Malformed
 unfolding field_at
-field-outside line at w h = rw (lt-leb (at + w) (length line) h)
+field_outside line at w h = rw (lt-leb (at + w) (length line) h)
 
 -- The first digit of a part of a line, and the rest.
-pub value-step :
+pub value_step :
     (line : List ℕ) (v from to : ℕ)
     → from < to
     → to ≤ length line
-    → valueAfter v (slice from to line) ≡ and_then (digitValue (get_or line from 0)) (λ (d : ℕ). valueAfter (v * 16 + d) (slice (suc from) to line))
-unfolding valueAfter
-value-step line v from to h l = ap (valueAfter v) (slice-cons from to line 0 h l)
+    → value_after v (slice from to line) ≡ and_then (digit_value (get_or line from 0)) (λ (d : ℕ). value_after (v * 16 + d) (slice (suc from) to line))
+unfolding value_after
+value_step line v from to h l = ap (value_after v) (slice-cons from to line 0 h l)
 
 -- The value of no digits.
-pub value-end : (line : List ℕ) (v at : ℕ) → valueAfter v (slice at at line) ≡ Value v
-unfolding valueAfter
-value-end line v at = ap (valueAfter v) (slice_empty at line)
+pub value_end : (line : List ℕ) (v at : ℕ) → value_after v (slice at at line) ≡ Value v
+unfolding value_after
+value_end line v at = ap (value_after v) (slice_empty at line)
 
 -- What is known of a field whose value was read.
 pub record Held (line : List ℕ) (at w v : ℕ) : Type 0 where
   pub inside : at + w ≤ length line
-  pub text : slice at (at + w) line ≡ hexDigits w v
+  pub text : slice at (at + w) line ≡ hex_digits w v
   pub small : v < 16 ^ w
 
 -- A field that was read is the digits of its value.
-pub field-held : (line : List ℕ) (at w v : ℕ) → field_at line at w ≡ Value v → Held line at w v
-field-held line at w v e = by (dec_le (at + w) (length line))
+pub field_held : (line : List ℕ) (at w v : ℕ) → field_at line at w ≡ Value v → Held line at w v
+field_held line at w v e = by (dec_le (at + w) (length line))
   where
     by : Dec (at + w ≤ length line) → Held line at w v
     by (yes h) =
         let bytes = slice at (at + w) line in
         let n : length bytes ≡ w = length-slice at (at + w) line h ∙ omega arith in
-        let f : valueAfter 0 bytes ≡ Value v = sym (field-inside line at w h) ∙ e in
+        let f : value_after 0 bytes ≡ Value v = sym (field_inside line at w h) ∙ e in
         record {
           inside = h;
-          text = sym (value-printed bytes 0 v f).same ∙ ap (λ (k : ℕ). hexDigits k v) n;
-          small = subst (λ (k : ℕ). v < 16 ^ k) n (value-below bytes v f);
+          text = sym (value_printed bytes 0 v f).same ∙ ap (λ (k : ℕ). hex_digits k v) n;
+          small = subst (λ (k : ℕ). v < 16 ^ k) n (value_below bytes v f);
         }
-    by (no h) = absurd (read-nothing (field_at line at w) v (field-outside line at w (omega (arith, h))) e)
+    by (no h) = absurd (read_nothing (field_at line at w) v (field_outside line at w (omega (arith, h))) e)
 
 -- A field that is not malformed has its number.
-pub well-formed : (f : Field) → malformed f ≡ false → f ≡ Value (number_of f)
-well-formed (Value v) e = refl
-well-formed Malformed e = absurd (true≢false e)
+pub well_formed : (f : Field) → malformed f ≡ false → f ≡ Value (number_of f)
+well_formed (Value v) e = refl
+well_formed Malformed e = absurd (true≢false e)
 
 -- A line from a place on is a field and the rest.
 pub rest_of : (line : List ℕ) (at w : ℕ) → at + w ≤ length line → drop at line ≡ slice at (at + w) line ++ drop (at + w) line

@@ -7,79 +7,79 @@ use Rattle.factor.specs.declared.Description.{Description}
 use Rattle.frame.specs.declared.Field.{Field}
 use Rattle.frame.specs.declared.FrameAnswer.{FrameAnswer}
 use Rattle.frame.specs.declared.FrameAnswer.TheVariants.{Frame, Refused}
-use Rattle.frame.specs.Digits.{hexDigits, field_at, malformed, number_of}
+use Rattle.frame.specs.Digits.{hex_digits, field_at, malformed, number_of}
 use Rattle.frame.specs.Lines.{blank, joined}
 
 -- the digits of an end
-abbrev pub endDigits : ℕ
-endDigits = 16
+abbrev pub end_digits : ℕ
+end_digits = 16
 
 -- ---- read
 -- a byte in two's complement
-abbrev pub signedByte : ℕ → ℤ
-signedByte b = cond (ltb b 128) (pos b) (pos b -ℤ pos 256)
+abbrev pub signed_byte : ℕ → ℤ
+signed_byte b = cond (ltb b 128) (pos b) (pos b -ℤ pos 256)
 
 -- what the precision's byte has added for a negative factor (request W5), whether a byte has it, and the precision without it
-abbrev pub signAdded : ℕ
-signAdded = 0x80
+abbrev pub sign_added : ℕ
+sign_added = 0x80
 
-abbrev pub minusIn : ℕ → Bool
-minusIn b = leb signAdded b
+abbrev pub minus_in : ℕ → Bool
+minus_in b = leb sign_added b
 
-abbrev pub precisionIn : ℕ → ℕ
-precisionIn b = b % signAdded
+abbrev pub precision_in : ℕ → ℕ
+precision_in b = b % sign_added
 
 -- a blank stands there
-abbrev pub blankAt : List ℕ → ℕ → Bool
-blankAt line at = eqb (get_or line at 0) blank
+abbrev pub blank_at : List ℕ → ℕ → Bool
+blank_at line at = eqb (get_or line at 0) blank
 
 -- blanks where the fields meet, and the line's end where the last one ends; each end of the factor has e digits
 unfoldable pub spaced : (e : ℕ) → List ℕ → Bool
-spaced e line = eqb (length line) (7 + 2 * e) && (blankAt line 2 && (blankAt line 5 && blankAt line (6 + e)))
+spaced e line = eqb (length line) (7 + 2 * e) && (blank_at line 2 && (blank_at line 5 && blank_at line (6 + e)))
 
 -- the four fields of a line
-abbrev pub precisionField : List ℕ → Field
-precisionField line = field_at line 0 2
+abbrev pub precision_field : List ℕ → Field
+precision_field line = field_at line 0 2
 
-abbrev pub scaleField : List ℕ → Field
-scaleField line = field_at line 3 2
+abbrev pub scale_field : List ℕ → Field
+scale_field line = field_at line 3 2
 
-abbrev pub lowerField : List ℕ → Field
-lowerField line = field_at line 6 endDigits
+abbrev pub lower_field : List ℕ → Field
+lower_field line = field_at line 6 end_digits
 
-abbrev pub upperField : List ℕ → Field
-upperField line = field_at line (7 + endDigits) endDigits
+abbrev pub upper_field : List ℕ → Field
+upper_field line = field_at line (7 + end_digits) end_digits
 
 -- 24, the line is not a frame: its fields do not stand where a frame's do, or one of them is no number of its digits
 abbrev pub conditions : List ℕ → List (ℕ × Bool)
 conditions line =
-    (24, not (spaced endDigits line))
-    ∷ (24, malformed (precisionField line))
-    ∷ (24, malformed (scaleField line))
-    ∷ (24, malformed (lowerField line))
-    ∷ (24, malformed (upperField line))
+    (24, not (spaced end_digits line))
+    ∷ (24, malformed (precision_field line))
+    ∷ (24, malformed (scale_field line))
+    ∷ (24, malformed (lower_field line))
+    ∷ (24, malformed (upper_field line))
     ∷ []
 
 -- what the fields describe
-abbrev pub describedBy : List ℕ → Description
-describedBy line =
+abbrev pub described_by : List ℕ → Description
+described_by line =
     record {
-      minus = minusIn (number_of (precisionField line));
-      precision = precisionIn (number_of (precisionField line));
-      scale = signedByte (number_of (scaleField line));
-      lower = number_of (lowerField line);
-      upper = number_of (upperField line);
+      minus = minus_in (number_of (precision_field line));
+      precision = precision_in (number_of (precision_field line));
+      scale = signed_byte (number_of (scale_field line));
+      lower = number_of (lower_field line);
+      upper = number_of (upper_field line);
     }
 
 -- a **frame** (document 01): precision with the sign (request W5), scale, L and U, each in its place; 24 stands alone, whatever else is wrong with the line
 unfoldable pub frame_of : List ℕ → Outcome Description
 unfolding spaced field_at
-frame_of line = answer (conditions line) (describedBy line)
+frame_of line = answer (conditions line) (described_by line)
 
 -- what each case of the answer says
-abbrev pub outcomeOf : FrameAnswer → Outcome Description
-outcomeOf (Frame d) = accepted d
-outcomeOf (Refused k) = refused k
+abbrev pub outcome_of : FrameAnswer → Outcome Description
+outcome_of (Frame d) = accepted d
+outcome_of (Refused k) = refused k
 
 -- ---- printed
 -- the byte that is a number in two's complement
@@ -88,25 +88,25 @@ byte_of (pos n) = n
 byte_of (negsuc n) = 255 - n
 
 -- the byte of a sign and a precision
-abbrev pub precisionByte : Bool → ℕ → ℕ
-precisionByte s n = cond s (signAdded + n) n
+abbrev pub precision_byte : Bool → ℕ → ℕ
+precision_byte s n = cond s (sign_added + n) n
 
 -- the fields of a frame
-abbrev pub frameFields : Description → List (List ℕ)
-frameFields f =
-    hexDigits 2 (precisionByte f.minus f.precision)
-    ∷ hexDigits 2 (byte_of f.scale)
-    ∷ hexDigits endDigits f.lower
-    ∷ hexDigits endDigits f.upper
+abbrev pub frame_fields : Description → List (List ℕ)
+frame_fields f =
+    hex_digits 2 (precision_byte f.minus f.precision)
+    ∷ hex_digits 2 (byte_of f.scale)
+    ∷ hex_digits end_digits f.lower
+    ∷ hex_digits end_digits f.upper
     ∷ []
 
 -- the line of a frame
-unfoldable pub frameText : Description → List ℕ
-frameText f = joined (frameFields f) []
+unfoldable pub frame_text : Description → List ℕ
+frame_text f = joined (frame_fields f) []
 
 -- what the fields of a frame can hold
 pub record Printable (f : Description) : Type 0 where
-  pub precision : f.precision < signAdded
+  pub precision : f.precision < sign_added
   pub scale : mag f.scale < 128
-  pub lower : f.lower < 16 ^ endDigits
-  pub upper : f.upper < 16 ^ endDigits
+  pub lower : f.lower < 16 ^ end_digits
+  pub upper : f.upper < 16 ^ end_digits

@@ -6,8 +6,8 @@ abbrev pub blank : ℕ
 blank = 32
 
 -- the byte at the end of a line
-abbrev pub lineFeed : ℕ
-lineFeed = 10
+abbrev pub line_feed : ℕ
+line_feed = 10
 
 -- fields, one blank between, and what follows the last
 abbrev pub joined : List (List ℕ) → List ℕ → List ℕ
@@ -17,4 +17,4 @@ joined (f ∷ (g ∷ fs)) end = f ++ (blank ∷ joined (g ∷ fs) end)
 
 -- a line with its line feed
 abbrev pub line_of : List (List ℕ) → List ℕ
-line_of fs = joined fs (lineFeed ∷ [])
+line_of fs = joined fs (line_feed ∷ [])

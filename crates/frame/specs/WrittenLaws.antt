@@ -9,9 +9,9 @@ use Rattle.frame.specs.DigitLaws.{length_digits}
 use Rattle.frame.specs.Written.{Written}
 
 -- a run of stores, taken apart
-sets-append : (xs ys l : List ℕ) (i : ℕ) → sets l i (xs ++ ys) ≡ sets (sets l i xs) (i + length xs) ys
-sets-append [] ys l i = ap (λ (k : ℕ). sets l k ys) (sym (add-zero i))
-sets-append (x ∷ xs) ys l i = sets-append xs ys (set l i x) (suc i) ∙ ap (λ (k : ℕ). sets (sets (set l i x) (suc i) xs) k ys) (omega arith)
+sets_append : (xs ys l : List ℕ) (i : ℕ) → sets l i (xs ++ ys) ≡ sets (sets l i xs) (i + length xs) ys
+sets_append [] ys l i = ap (λ (k : ℕ). sets l k ys) (sym (add-zero i))
+sets_append (x ∷ xs) ys l i = sets_append xs ys (set l i x) (suc i) ∙ ap (λ (k : ℕ). sets (sets (set l i x) (suc i) xs) k ys) (omega arith)
 
 -- a store in front of a run may come last
 pub set_before : (xs l : List ℕ) (i j x : ℕ) → i < j → set (sets l j xs) i x ≡ sets (set l i x) j xs
@@ -23,17 +23,17 @@ pub written_then :
     {l₁ l₂ l₃ xs ys : List ℕ} {i j k : ℕ} → Written l₁ i xs l₂ j → Written l₂ j ys l₃ k → Written l₁ i (xs ++ ys) l₃ k
 written_then {l₁} {l₂} {l₃} {xs} {ys} {i} {j} {k} a b =
     record {
-      list = b.list ∙ ap (λ (l : List ℕ). sets l j ys) a.list ∙ ap (λ (p : ℕ). sets (sets l₁ i xs) p ys) a.place ∙ sym (sets-append xs ys l₁ i);
+      list = b.list ∙ ap (λ (l : List ℕ). sets l j ys) a.list ∙ ap (λ (p : ℕ). sets (sets l₁ i xs) p ys) a.place ∙ sym (sets_append xs ys l₁ i);
       place = omega (arith, a.place, b.place, length-append xs ys);
     }
 
 -- The buffer is as long as it was.
-pub written-length : {l₁ l₂ xs : List ℕ} {i j : ℕ} → Written l₁ i xs l₂ j → length l₂ ≡ length l₁
-written-length {l₁} {l₂} {xs} {i} {j} a = ap length a.list ∙ length-sets l₁ i xs
+pub written_length : {l₁ l₂ xs : List ℕ} {i j : ℕ} → Written l₁ i xs l₂ j → length l₂ ≡ length l₁
+written_length {l₁} {l₂} {xs} {i} {j} a = ap length a.list ∙ length-sets l₁ i xs
 
 -- Bytes that are written from the beginning on, and fit, are the first ones.
-pub written-front : {l₁ l₂ xs : List ℕ} {j : ℕ} → Written l₁ 0 xs l₂ j → j ≤ length l₁ → take j l₂ ≡ xs
-written-front {l₁} {l₂} {xs} {j} a h =
+pub written_front : {l₁ l₂ xs : List ℕ} {j : ℕ} → Written l₁ 0 xs l₂ j → j ≤ length l₁ → take j l₂ ≡ xs
+written_front {l₁} {l₂} {xs} {j} a h =
     let fits : 0 + length xs ≤ length l₁ = omega (arith, a.place) in
     let size : length xs ≡ j = omega (arith, a.place) in
     ap (take j) (a.list ∙ sets-eq xs l₁ 0 fits) ∙ take_at xs (drop (0 + length xs) l₁) j size
@@ -49,9 +49,9 @@ written_byte l i x = record { list = refl; place = refl }
 -- ---- fields, each with the byte after it
 module _ (base w v x : ℕ) {l₁ l₂ : List ℕ} {i j : ℕ} (field : Written l₁ i (digits base w v ++ (x ∷ [])) l₂ j) where
   -- A field, and then the rest of its line.
-  pub written-field : {l₃ rest : List ℕ} {k : ℕ} → Written l₂ j rest l₃ k → Written l₁ i (digits base w v ++ (x ∷ rest)) l₃ k
-  written-field {l₃} {rest} {k} after = subst (λ (xs : List ℕ). Written l₁ i xs l₃ k) (append_snoc (digits base w v) x rest) (written_then field after)
+  pub written_field : {l₃ rest : List ℕ} {k : ℕ} → Written l₂ j rest l₃ k → Written l₁ i (digits base w v ++ (x ∷ rest)) l₃ k
+  written_field {l₃} {rest} {k} after = subst (λ (xs : List ℕ). Written l₁ i xs l₃ k) (append_snoc (digits base w v) x rest) (written_then field after)
 
   -- What is left of the room.
   pub field_room : (more : ℕ) → i + (w + 1 + more) ≤ length l₁ → j + more ≤ length l₂
-  field_room more h = omega (arith, field.place, written-length field, length-append (digits base w v) (x ∷ []), length_digits base w v)
+  field_room more h = omega (arith, field.place, written_length field, length-append (digits base w v) (x ∷ []), length_digits base w v)

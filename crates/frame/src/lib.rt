@@ -1,8 +1,8 @@
 // Frames and report (document 01): a line read as a frame, and the lines that are printed, byte for byte.
 ghost use Rattle.std.specs.Prelude.{◌≡◌, [], ◌∷◌, ◌++◌, ◌+◌, ◌*◌, ◌<◌, ◌≤◌, length};
-ghost use Rattle.frame.specs.Digits.{digitByte, digits, digitValue, field_at};
-ghost use Rattle.frame.specs.Frame.{signedByte, spaced, frame_of, outcomeOf};
-ghost use Rattle.frame.specs.Report.{verdictOf, word_line, reportLine, refusalLine};
+ghost use Rattle.frame.specs.Digits.{digit_byte, digits, digit_value, field_at};
+ghost use Rattle.frame.specs.Frame.{signed_byte, spaced, frame_of, outcome_of};
+ghost use Rattle.frame.specs.Report.{verdict_of, word_line, report_line, refusal_line};
 ghost use Rattle.frame.specs.Written.{Written};
 
 use factor::Description;
@@ -51,7 +51,7 @@ pub struct Report {
 
 // The value of an upper-case hexadecimal digit.
 fn digit_value(b: u8) -> Field
-    ensures { result ≡ digitValue b }
+    ensures { result ≡ digit_value b }
 {
     if b < 48 {
         return Field::Malformed;
@@ -112,7 +112,7 @@ fn is_spaced(line: &[u8], e: usize) -> bool
 // A byte in two's complement.
 fn signed_byte(b: u64) -> i32
     requires { b < 256 }
-    ensures { result ≡ signedByte b }
+    ensures { result ≡ signed_byte b }
 {
     if b < 128 {
         return b as i32;
@@ -122,7 +122,7 @@ fn signed_byte(b: u64) -> i32
 
 // What a line says: the description of a factor, or refusal 24.
 pub fn read_frame(line: &[u8]) -> FrameAnswer
-    ensures { outcomeOf result ≡ frame_of line.now }
+    ensures { outcome_of result ≡ frame_of line.now }
 {
     if !is_spaced(line, END_DIGITS) {
         return FrameAnswer::Refused(NOT_A_FRAME);
@@ -155,7 +155,7 @@ pub fn read_frame(line: &[u8]) -> FrameAnswer
 // The digit for a number below 16.
 fn digit_byte(d: u64) -> u8
     requires { d < 16 }
-    ensures { result ≡ digitByte d }
+    ensures { result ≡ digit_byte d }
 {
     if d < 10 {
         return 48 + d as u8;
@@ -199,7 +199,7 @@ pub fn put_word(buf: &mut [u8], at: usize, width: usize, v: u64) -> usize
 
 // The verdict: 0 clean, 1 some wrong, 2 open only.
 fn verdict(wrongs: u64, opens: u64) -> u64
-    ensures { result ≡ verdictOf wrongs opens }
+    ensures { result ≡ verdict_of wrongs opens }
 {
     if wrongs != 0 {
         return 1;
@@ -213,7 +213,7 @@ fn verdict(wrongs: u64, opens: u64) -> u64
 // The report on a frame, its counts of `width` digits.
 pub fn put_report(buf: &mut [u8], at: usize, width: usize, report: Report) -> usize
     requires { at + (11 + 3 * width) ≤ length buf.old }
-    ensures { Written buf.old at (reportLine width report) buf.new result }
+    ensures { Written buf.old at (report_line width report) buf.new result }
 {
     let a = put_field(buf, at, 4, HEXADECIMAL, report.number, BLANK);
     let b = put_field(
@@ -232,7 +232,7 @@ pub fn put_report(buf: &mut [u8], at: usize, width: usize, report: Report) -> us
 // The line of a refused frame: its number, FF and the refusal in two decimal digits.
 pub fn put_refusal(buf: &mut [u8], at: usize, number: u64, refusal: u32) -> usize
     requires { at + 11 ≤ length buf.old }
-    ensures { Written buf.old at (refusalLine number refusal) buf.new result }
+    ensures { Written buf.old at (refusal_line number refusal) buf.new result }
 {
     let a = put_field(buf, at, 4, HEXADECIMAL, number, BLANK);
     let b = put_field(buf, a, 2, HEXADECIMAL, 255, BLANK);

@@ -4,13 +4,13 @@ use Rattle.std.proofs.Common.{sym, ap, ◌∙◌, subst, true≢false}
 use Rattle.std.proofs.Math.Bool.{true, and-false, not-eq-not}
 use Rattle.std.specs.Bool.{beq}
 use borrow.Author.Tests.{eqb-true, eq-eqb}
-use Rattle.marks.specs.AnswerLaws.{and-true}
+use Rattle.marks.specs.AnswerLaws.{and_true}
 use Rattle.factor.specs.declared.Description.{Description}
 use Rattle.factor.specs.declared.Factor.{Factor}
-use Rattle.factor.specs.SetUp.{sameZ, described}
-use Rattle.factor.specs.SetUpLaws.{sameZ-true, sameZ-same}
-use Rattle.calls.specs.Kit.{twoAlike}
-use Rattle.calls.specs.KitFormed.{Apart, none_alike}
+use Rattle.factor.specs.SetUp.{same_z, described}
+use Rattle.factor.proofs.SetUpLaws.{same_z_true, same_z_same}
+use Rattle.calls.specs.Kit.{two_alike}
+use Rattle.calls.proofs.KitFormed.{Apart, none_alike}
 use Rattle.kit.specs.Engine.{alike}
 
 -- ---- what it means
@@ -27,20 +27,20 @@ sign_same false b e = ap (beq false) (sym e)
 
 module _ (f g : Factor) where
   -- the description has sign, precision, scale and ends, and nothing else
-  pub alike-described : (alike f g ≡ true) ↔ (described f ≡ described g)
+  pub alike_described : (alike f g ≡ true) ↔ (described f ≡ described g)
   unfolding alike
-  alike-described = (there, back)
+  alike_described = (there, back)
     where
       there : alike f g ≡ true → described f ≡ described g
       there e =
-          let a = and-true _ _ e in
-          let b = and-true _ _ a.1 in
-          let c = and-true _ _ b.1 in
-          let d = and-true _ _ c.1 in
+          let a = and_true _ _ e in
+          let b = and_true _ _ a.1 in
+          let c = and_true _ _ b.1 in
+          let d = and_true _ _ c.1 in
           λ i. record {
             minus = same_sign f.minus g.minus a.0 i;
             precision = eqb-true f.precision.bits g.precision.bits b.0 i;
-            scale = sameZ-true f.applied.scale g.applied.scale c.0 i;
+            scale = same_z_true f.applied.scale g.applied.scale c.0 i;
             lower = eqb-true f.lower g.lower d.0 i;
             upper = eqb-true f.upper g.upper d.1 i;
           }
@@ -50,29 +50,29 @@ module _ (f g : Factor) where
           rw (
             sign_same f.minus g.minus (ap (λ (d : Description). d.minus) e),
             eq-eqb f.precision.bits g.precision.bits (ap (λ (d : Description). d.precision) e),
-            subst (λ (z : ℤ). sameZ f.applied.scale z ≡ true) (ap (λ (d : Description). d.scale) e) (sameZ-same f.applied.scale),
+            subst (λ (z : ℤ). same_z f.applied.scale z ≡ true) (ap (λ (d : Description). d.scale) e) (same_z_same f.applied.scale),
             eq-eqb f.lower g.lower (ap (λ (d : Description). d.lower) e),
             eq-eqb f.upper g.upper (ap (λ (d : Description). d.upper) e),
           )
 
   -- ---- as code tests it
   -- where the lower ends are the same, all else decides; `scales` is how code compares the scales
-  pub alike-rest : {scales : Bool} → eqb f.lower g.lower ≡ true → scales ≡ sameZ f.applied.scale g.applied.scale
+  pub alike_rest : {scales : Bool} → eqb f.lower g.lower ≡ true → scales ≡ same_z f.applied.scale g.applied.scale
       → beq f.minus g.minus && (eqb f.precision.bits g.precision.bits && (scales && eqb f.upper g.upper)) ≡ alike f g
   unfolding alike
-  alike-rest {scales} l s = rw (l, s)
+  alike_rest {scales} l s = rw (l, s)
 
   -- where they are not, the factors are not alike
-  pub alike-apart : eqb f.lower g.lower ≡ false → false ≡ alike f g
+  pub alike_apart : eqb f.lower g.lower ≡ false → false ≡ alike f g
   unfolding alike
-  alike-apart l = rw (l, and-false (sameZ f.applied.scale g.applied.scale), and-false (eqb f.precision.bits g.precision.bits), and-false (beq f.minus g.minus))
+  alike_apart l = rw (l, and-false (same_z f.applied.scale g.applied.scale), and-false (eqb f.precision.bits g.precision.bits), and-false (beq f.minus g.minus))
 
 -- ---- of a list of factors
 
 -- 43 lets factors through exactly if those at two places are never described alike.
-pub apart-described : (fs : List Factor) → (twoAlike alike fs ≡ false) ↔ Apart (λ f g. described f ≢ described g) fs
-apart-described fs =
+pub apart_described : (fs : List Factor) → (two_alike alike fs ≡ false) ↔ Apart (λ f g. described f ≢ described g) fs
+apart_described fs =
     let apart = none_alike alike fs in (
-      (λ e i j h f g p q a b same. true≢false (sym ((alike-described f g).1 same) ∙ apart.0 e i j h f g p q a b)),
-      (λ h. apart.1 (λ i j k f g p q a b. (not-eq-not {b = false}).0 (λ e. h i j k f g p q a b ((alike-described f g).0 e)))),
+      (λ e i j h f g p q a b same. true≢false (sym ((alike_described f g).1 same) ∙ apart.0 e i j h f g p q a b)),
+      (λ h. apart.1 (λ i j k f g p q a b. (not-eq-not {b = false}).0 (λ e. h i j k f g p q a b ((alike_described f g).0 e)))),
     )

@@ -9,43 +9,43 @@ use Prim.Native.Nat.{ℕ, suc, ◌+◌, ◌-◌, ◌*◌, ◌^◌, ◌≤◌, �
 use Rattle.std.proofs.lemmas.Bool.{eqb-false}
 use Rattle.marks.specs.declared.Judgement.{Judgement}
 use Rattle.marks.specs.Answers.{NoneHolds, Outcome, refused, accepted, answer}
-use Rattle.marks.specs.AnswerLaws.{only-accepted, none-refuses, or-false}
+use Rattle.marks.specs.AnswerLaws.{only_accepted, none_refuses, or_false}
 use Rattle.rounding.specs.Round.{HasBits}
 use Rattle.factor.specs.declared.Factor.{Factor}
-use Rattle.factor.specs.Context.{context_of, lowerOf, upperOf}
-use Rattle.factor.specs.Precision.{mostPrecision}
+use Rattle.factor.specs.Context.{context_of, lower_of, upper_of}
+use Rattle.factor.specs.Precision.{most_precision}
 use Rattle.factor.specs.SetUp.{Sound}
-use Rattle.product.specs.Product.{productBy}
-use Rattle.product.specs.Marks.{markBy, SaysBy}
+use Rattle.product.specs.Product.{product_by}
+use Rattle.product.specs.Marks.{mark_by, SaysBy}
 use Rattle.suspects.specs.Suspects.{Suspect}
 use Rattle.calls.specs.State.{Range, State, Call}
 use Rattle.calls.specs.Engine.{fresh, AllOf, Standing}
-use Rattle.calls.specs.Call.{newState, ReplyOf, Result, sweepCall}
+use Rattle.calls.specs.Call.{new_state, ReplyOf, Result, sweep_call}
 use Rattle.calls.specs.Plain.{SeenOf}
-use Rattle.calls.specs.ByRow.{rowCall}
-use Rattle.calls.specs.Whole.{sweeps, stateAfter, IfAccepted, words_in, Ascends, fedBy}
-use Rattle.calls.specs.RowLaws.{row-ascends, row-exactly}
-use Rattle.calls.specs.RefusalLaws.{between, refused-same, over-kept}
-use Rattle.calls.specs.ListLaws.{entries-are}
-use Rattle.calls.specs.CallLaws.{if-accepted, by_row, call-wrote, rounds-right}
-use Rattle.calls.specs.SameLaws.{after-stands}
-use Rattle.calls.specs.Demand3.{each}
-use Rattle.calls.specs.Made as calls
-use Rattle.calls.specs.Made.{repliesBy}
+use Rattle.calls.specs.ByRow.{row_call}
+use Rattle.calls.specs.Whole.{sweeps, state_after, IfAccepted, words_in, Ascends, fed_by}
+use Rattle.calls.proofs.RowLaws.{row_ascends, row_exactly}
+use Rattle.calls.proofs.RefusalLaws.{between, refused_same, over_kept}
+use Rattle.calls.proofs.ListLaws.{entries_are}
+use Rattle.calls.proofs.CallLaws.{if_accepted, by_row_lem, call_wrote, rounds_right}
+use Rattle.calls.proofs.SameLaws.{after_stands}
+use Rattle.calls.proofs.Demand3.{each}
+use Rattle.calls.proofs.Made as calls
+use Rattle.calls.proofs.Made.{replies_by}
 use Rattle.calls.specs.Kit as kit
-use Rattle.calls.specs.Kit.{inKit, placeSize, position, place_in, significandIn, suspectIn, markIn, hasIn, searchedIn}
-use Rattle.calls.specs.KitLaws.{place_of, position-is, all-at, Passed, suspect-placed, own-suspect, kit-through, kit-laws}
-use Rattle.calls.specs.KitFormed.{stateOver, faults-same}
-use Rattle.calls.specs.KitRows.{pairsAt, list_of, listsFrom, CleanKit, same-marks, lists-few}
-use Rattle.calls.specs.KitDemand.{WholeKit, whole-kit, separate-lists}
-use Rattle.calls.specs.KitSearched.{Searched, call-searched}
+use Rattle.calls.specs.Kit.{in_kit, place_size, position, place_in, significand_in, suspect_in, mark_in, has_in, searched_in}
+use Rattle.calls.proofs.KitLaws.{place_of, position_is, all_at, Passed, suspect_placed, own_suspect, kit_through, kit_laws}
+use Rattle.calls.proofs.KitFormed.{state_over, faults_same}
+use Rattle.calls.proofs.KitRows.{pairs_at, list_of, lists_from, CleanKit, same_marks, lists_few}
+use Rattle.calls.proofs.KitDemand.{WholeKit, whole_kit, separate_lists}
+use Rattle.calls.proofs.KitSearched.{Searched, call_searched}
 use Rattle.sweep.specs.declared.SweepState.{SweepState}
 use Rattle.sweep.specs.declared.NewSweep.{NewSweep}
 use Rattle.sweep.specs.Engine as sweep
-use Rattle.sweep.specs.EngineLaws.{suspect-is, mark-is}
-use Rattle.sweep.specs.StepLaws.{last-short}
+use Rattle.sweep.proofs.EngineLaws.{suspect_is, mark_is}
+use Rattle.sweep.proofs.StepLaws.{last_short}
 use Rattle.sweep.specs.Answers as swept
-use Rattle.sweep.specs.Demand3 as separate
+use Rattle.sweep.proofs.Demand3 as separate
 use Rattle.kit.specs.declared.Kit.{Kit}
 use Rattle.kit.specs.declared.KitState.{KitState}
 use Rattle.kit.specs.declared.NewKitSweep.{NewKitSweep}
@@ -54,13 +54,13 @@ use Rattle.kit.specs.declared.KitAnswer.{KitAnswer}
 use Rattle.kit.specs.declared.KitReply.{KitReply}
 use Rattle.kit.specs.declared.Verdict.{Verdict}
 use Rattle.kit.specs.Engine.{whole, factors, kits}
-use Rattle.kit.specs.EngineLaws.{passed-sound, whole-good, factor-laws, kits-lawful}
-use Rattle.kit.specs.Answers.{kitOf, view_of, newOf, result_of, answer_of, replyOf, Told, clean, notClean, unfinished, told, verdictOf, verdictSays}
+use Rattle.kit.specs.EngineLaws.{passed_sound, whole_good, factor_laws, kits_lawful}
+use Rattle.kit.specs.Answers.{kit_of, view_of, new_of, result_of, answer_of, reply_of, Told, clean, not_clean, unfinished, told, verdict_of, verdict_says}
 
 -- ---- the view loses nothing
 
 -- States that say the same are the same: kit, place, next significand and finished mark. A next significand is a word of 64 bits.
-pub view_tells : (s t : KitState) → s.next < placeSize → t.next < placeSize → view_of s ≡ view_of t → s ≡ t
+pub view_tells : (s t : KitState) → s.next < place_size → t.next < place_size → view_of s ≡ view_of t → s ≡ t
 view_tells s t h k e =
     let p : position s.place s.next ≡ position t.place t.next = ap (λ (v : State (kit.Kit Factor)). v.next) e in
     let place : s.place ≡ t.place = omega arith in
@@ -72,26 +72,26 @@ view_tells s t h k e =
       finished = (e i).finished;
     }
 
--- The factors that a call searched in, by its states: from the place that it began at to the place handed back (`searched-there`).
-pub searched-is : (s t : KitState) → s.next < placeSize → t.next < placeSize → searchedIn (view_of s) (view_of t) ≡ suc t.place - s.place
-searched-is s t h k = rw (place_of s.place s.next h, place_of t.place t.next k)
+-- The factors that a call searched in, by its states: from the place that it began at to the place handed back (`searched_there`).
+pub searched_is : (s t : KitState) → s.next < place_size → t.next < place_size → searched_in (view_of s) (view_of t) ≡ suc t.place - s.place
+searched_is s t h k = rw (place_of s.place s.next h, place_of t.place t.next k)
 
 -- A reply that keeps the contract of `kit_call`.
-module _ (s : KitState) (c : Call) (r : KitReply) (left : List ℕ) (keeps : replyOf r left ≡ sweepCall kits (view_of s) c) where
+module _ (s : KitState) (c : Call) (r : KitReply) (left : List ℕ) (keeps : reply_of r left ≡ sweep_call kits (view_of s) c) where
   -- A refusal hands back the state as given, and the list as it was.
-  pub refused-unaltered : s.next < placeSize → r.state.next < placeSize → (n : ℕ) → r.answer ≡ KitAnswer.Refused n → (r.state ≡ s) × (left ≡ c.list)
-  refused-unaltered h k n q =
+  pub refused_unaltered : s.next < place_size → r.state.next < place_size → (n : ℕ) → r.answer ≡ KitAnswer.Refused n → (r.state ≡ s) × (left ≡ c.list)
+  refused_unaltered h k n q =
       let answers = ap (λ (x : ReplyOf (State (kit.Kit Factor))). x.answer) (sym keeps) ∙ ap answer_of q in
-      let same = refused-same kits (view_of s) c n answers in (
+      let same = refused_same kits (view_of s) c n answers in (
         view_tells r.state s k h (ap (λ (x : ReplyOf (State (kit.Kit Factor))). x.state) keeps ∙ same.0),
         ap (λ (x : ReplyOf (State (kit.Kit Factor))). x.list) keeps ∙ same.1,
       )
 
   -- An accepted one searched in just the factors from the place of its state to the place handed back.
-  pub searched-there : s.next < placeSize → r.state.next < placeSize → (n : KitCounts) → r.answer ≡ KitAnswer.Accepted n → (i : ℕ)
-      → Searched factors (inKit (kitOf s.kit)) i (view_of s).next (view_of r.state).next ↔ ((s.place ≤ i) × (i ≤ r.state.place))
-  searched-there h k n q i =
-      let all = call-searched factor-laws (view_of s) c (replyOf r left) keeps (result_of n) (ap answer_of q) i in
+  pub searched_there : s.next < place_size → r.state.next < place_size → (n : KitCounts) → r.answer ≡ KitAnswer.Accepted n → (i : ℕ)
+      → Searched factors (in_kit (kit_of s.kit)) i (view_of s).next (view_of r.state).next ↔ ((s.place ≤ i) × (i ≤ r.state.place))
+  searched_there h k n q i =
+      let all = call_searched factor_laws (view_of s) c (reply_of r left) keeps (result_of n) (ap answer_of q) i in
       let from = place_of s.place s.next h in
       let to = place_of r.state.place r.state.next k in (
         (λ x. (omega (arith, (all.0 x).0), omega (arith, (all.0 x).1))),
@@ -99,21 +99,21 @@ module _ (s : KitState) (c : Call) (r : KitReply) (left : List ℕ) (keeps : rep
       )
 
   -- Every call hands back the kit as given.
-  pub kit-unaltered : r.state.kit ≡ s.kit
-  kit-unaltered =
-      let same : kitOf r.state.kit ≡ kitOf s.kit = ap (λ (x : ReplyOf (State (kit.Kit Factor))). x.state.over) keeps ∙ over-kept kits (view_of s) c in
+  pub kit_unaltered : r.state.kit ≡ s.kit
+  kit_unaltered =
+      let same : kit_of r.state.kit ≡ kit_of s.kit = ap (λ (x : ReplyOf (State (kit.Kit Factor))). x.state.over) keeps ∙ over_kept kits (view_of s) c in
       λ i. record { factors = (same i).factors; count = (same i).count }
 
--- What stands past the number of a kit counts for nothing: calls are answered alike (`past-number`, in `calls`), and so is whether the kit is clean.
-pub past-verdict : (k m : kit.Kit Factor) → inKit k ≡ inKit m → k.count ≡ m.count → (next : ℕ) (finished : Bool) (n : ℕ) → verdictOf (stateOver next finished k) n ≡ verdictOf (stateOver next finished m) n
-unfolding verdictOf
-past-verdict k m same number next finished n = ap (λ (l : List (ℕ × Bool)). answer l (told finished n)) (faults-same factors k m same number next finished)
+-- What stands past the number of a kit counts for nothing: calls are answered alike (`past_number`, in `calls`), and so is whether the kit is clean.
+pub past_verdict : (k m : kit.Kit Factor) → in_kit k ≡ in_kit m → k.count ≡ m.count → (next : ℕ) (finished : Bool) (n : ℕ) → verdict_of (state_over next finished k) n ≡ verdict_of (state_over next finished m) n
+unfolding verdict_of
+past_verdict k m same number next finished n = ap (λ (l : List (ℕ × Bool)). answer l (told finished n)) (faults_same factors k m same number next finished)
 
 -- ---- where calls begin
 
 -- Over every kit that 42, 31 and 43 let through, a new state is accepted: at place 0 and that factor's first significand, and not finished.
-pub begins-always : (k : kit.Kit Factor) → NoneHolds (kits.newFaults k) → newState kits k ≡ accepted (fresh kits k)
-begins-always k good = none-refuses (kits.newFaults k) (fresh kits k) good
+pub begins_always : (k : kit.Kit Factor) → NoneHolds (kits.new_faults k) → new_state kits k ≡ accepted (fresh kits k)
+begins_always k good = none_refuses (kits.new_faults k) (fresh kits k) good
 
 -- ---- calls that were made
 
@@ -126,95 +126,95 @@ pub record Made : Type 0 where
 abbrev pub asked : Made → Call
 asked m = m.asked
 
-abbrev pub replyIn : Made → ReplyOf (State (kit.Kit Factor))
-replyIn m = replyOf m.reply m.left
+abbrev pub reply_in : Made → ReplyOf (State (kit.Kit Factor))
+reply_in m = reply_of m.reply m.left
 
 -- each call kept the contract of `kit_call`, at the state that the one before handed back
 abbrev pub Kept : State (kit.Kit Factor) → List Made → Type 0
-Kept = calls.Kept asked replyIn (sweepCall kits)
+Kept = calls.Kept asked reply_in (sweep_call kits)
 
 -- what was asked, what was answered, what is seen of them, and the state that the last of them handed back
-abbrev pub askedIn : List Made → List Call
-askedIn = calls.askedIn asked replyIn
+abbrev pub asked_in : List Made → List Call
+asked_in = calls.asked_in asked reply_in
 
-abbrev pub repliesIn : List Made → List (ReplyOf (State (kit.Kit Factor)))
-repliesIn = calls.repliesIn asked replyIn
+abbrev pub replies_in : List Made → List (ReplyOf (State (kit.Kit Factor)))
+replies_in = calls.replies_in asked reply_in
 
-abbrev pub seenIn : List Made → List (SeenOf (State (kit.Kit Factor)))
-seenIn = calls.seenIn asked replyIn
+abbrev pub seen_in : List Made → List (SeenOf (State (kit.Kit Factor)))
+seen_in = calls.seen_in asked reply_in
 
-abbrev pub lastIn : State (kit.Kit Factor) → List Made → State (kit.Kit Factor)
-lastIn = calls.lastIn asked replyIn
+abbrev pub last_in : State (kit.Kit Factor) → List Made → State (kit.Kit Factor)
+last_in = calls.last_in asked reply_in
 
 -- P of each of them, with the state that it was given and its reply
 abbrev pub EachIn : (State (kit.Kit Factor) → Call → ReplyOf (State (kit.Kit Factor)) → Type 0) → State (kit.Kit Factor) → List Made → Type 0
-EachIn = calls.EachIn asked replyIn
+EachIn = calls.EachIn asked reply_in
 
 -- how many entries they wrote: "an entry takes two words"
-abbrev pub entriesIn : List Made → ℕ
-entriesIn = calls.entriesIn asked replyIn 2
+abbrev pub entries_in : List Made → ℕ
+entries_in = calls.entries_in asked reply_in 2
 
 -- ---- the factors of a kit
 
 -- z is a position of the factor f in a kit: f stands at its place, and its significand is one of f's.
 pub record Belongs (k : kit.Kit Factor) (z : ℕ) (f : Factor) : Type 0 where
   pub rest : List Factor
-  pub at : drop (place_in z) (inKit k) ≡ f ∷ rest
-  pub bits : HasBits f.precision.bits (significandIn z)
+  pub at : drop (place_in z) (in_kit k) ≡ f ∷ rest
+  pub bits : HasBits f.precision.bits (significand_in z)
 
 -- A suspect of a kit is one of the factor at its place, by document 01's definition of one.
 pub record SuspectOf (k : kit.Kit Factor) (z : ℕ) : Type 0 where
   pub factor : Factor
   pub belongs : Belongs k z factor
-  pub suspect : Suspect (context_of factor) (lowerOf factor) (upperOf factor) (significandIn z)
+  pub suspect : Suspect (context_of factor) (lower_of factor) (upper_of factor) (significand_in z)
 
 -- A separate sweep of a factor: `new_state` of `sweep` accepted a state over all its significands, and the calls made from it kept the contract of `sweep_call`, and led to the finish.
 pub record Separate (f : Factor) : Type 0 where
   pub start : SweepState
-  pub begun : swept.newOf (NewSweep.Accepted start) ≡ newState sweep.engine (whole f)
+  pub begun : swept.new_of (NewSweep.Accepted start) ≡ new_state sweep.engine (whole f)
   pub made : List separate.Made
   pub kept : separate.Kept (swept.view_of start) made
-  pub finished : (separate.lastIn (swept.view_of start) made).finished ≡ true
+  pub finished : (separate.last_in (swept.view_of start) made).finished ≡ true
 
 -- What such sweeps of factors list, one after another, each word after the factor's place.
-abbrev pub listedBy : (i : ℕ) (l : List Factor) → AllOf Separate l → List ℕ
-listedBy i [] a = []
-listedBy i (f ∷ l) a = pairsAt i (words_in (separate.seenIn a.0.made)) ++ listedBy (suc i) l a.1
+abbrev pub listed_by : (i : ℕ) (l : List Factor) → AllOf Separate l → List ℕ
+listed_by i [] a = []
+listed_by i (f ∷ l) a = pairs_at i (words_in (separate.seen_in a.0.made)) ++ listed_by (suc i) l a.1
 
 -- ---- demand 3
 
 -- "its rounds are at most 64 × (its trials + 2 × the number of those factors)", which it searched in, of an accepted call
 abbrev pub FewRounds : (before : State (kit.Kit Factor)) → Call → ReplyOf (State (kit.Kit Factor)) → Type 0
-FewRounds s c r = IfAccepted (λ (a : Result). a.rounds ≤ 64 * (a.trials + 2 * searchedIn s r.state)) r.answer
+FewRounds s c r = IfAccepted (λ (a : Result). a.rounds ≤ 64 * (a.trials + 2 * searched_in s r.state)) r.answer
 
 -- The calls that were made from a state s.
 pub record KitDemand3 (s : State (kit.Kit Factor)) (made : List Made) : Type 0 where
   -- the demand, sentence by sentence, of the calls that were asked
-  pub whole : WholeKit sweep.suspectIn factors 64 s (askedIn made)
+  pub whole : WholeKit sweep.suspect_in factors 64 s (asked_in made)
   -- it speaks of the calls that were made: of their replies, of what is seen of them, and of the state that the last of them handed back
-  pub replies : repliesIn made ≡ repliesBy (sweepCall kits) s (askedIn made)
-  pub seen : seenIn made ≡ sweeps (sweepCall kits) s (askedIn made)
-  pub last : lastIn s made ≡ stateAfter (sweepCall kits) s (askedIn made)
+  pub replies : replies_in made ≡ replies_by (sweep_call kits) s (asked_in made)
+  pub seen : seen_in made ≡ sweeps (sweep_call kits) s (asked_in made)
+  pub last : last_in s made ≡ state_after (sweep_call kits) s (asked_in made)
   -- the test for a suspect is document 01's definition of one, of the factor at the place
-  pub suspects : (z : ℕ) → (suspectIn sweep.suspectIn factors s.over z ≡ true) ↔ SuspectOf s.over z
+  pub suspects : (z : ℕ) → (suspect_in sweep.suspect_in factors s.over z ≡ true) ↔ SuspectOf s.over z
   -- the row that the plain kit sweep is fed has all suspects of the kit's factors, ascending: in kit order, and those of a factor as document 01 has them
-  pub row : (z : ℕ) → Memᴰ z (fedBy (suspectIn sweep.suspectIn factors) kits s.over).suspects ↔ SuspectOf s.over z
-  pub ascending : Ascends (kits.first s.over) (suc (kits.last s.over)) (fedBy (suspectIn sweep.suspectIn factors) kits s.over).suspects
+  pub row : (z : ℕ) → Memᴰ z (fed_by (suspect_in sweep.suspect_in factors) kits s.over).suspects ↔ SuspectOf s.over z
+  pub ascending : Ascends (kits.first s.over) (suc (kits.last s.over)) (fed_by (suspect_in sweep.suspect_in factors) kits s.over).suspects
   -- marks are those of demand 2, of the factor at the place: the mark of its product, which says what it must of every fraction between its ends
-  pub marks : (z : ℕ) (f : Factor) → Belongs s.over z f → (fedBy (suspectIn sweep.suspectIn factors) kits s.over).mark z ≡ markBy f (significandIn z) (productBy f (significandIn z))
-  pub tells : (z : ℕ) (f : Factor) → Belongs s.over z f → SaysBy f (significandIn z) (productBy f (significandIn z)) ((fedBy (suspectIn sweep.suspectIn factors) kits s.over).mark z)
+  pub marks : (z : ℕ) (f : Factor) → Belongs s.over z f → (fed_by (suspect_in sweep.suspect_in factors) kits s.over).mark z ≡ mark_by f (significand_in z) (product_by f (significand_in z))
+  pub tells : (z : ℕ) (f : Factor) → Belongs s.over z f → SaysBy f (significand_in z) (product_by f (significand_in z)) ((fed_by (suspect_in sweep.suspect_in factors) kits s.over).mark z)
   -- rounds are few
   pub rounds : EachIn FewRounds s made
   -- "From a new state to the finish, each call on the state handed back, joined calls list exactly what the separate sweeps list, in kit order", whatever calls these are made of
-  pub joins : (lastIn s made).finished ≡ true → (apart : AllOf Separate (inKit s.over)) → words_in (seenIn made) ≡ listedBy 0 (inKit s.over) apart
+  pub joins : (last_in s made).finished ≡ true → (apart : AllOf Separate (in_kit s.over)) → words_in (seen_in made) ≡ listed_by 0 (in_kit s.over) apart
   -- "The kit is clean exactly if they list nothing, which is so exactly if every factor in it is."
-  pub nothing : (lastIn s made).finished ≡ true → (words_in (seenIn made) ≡ []) ↔ CleanKit factors s.over
+  pub nothing : (last_in s made).finished ≡ true → (words_in (seen_in made) ≡ []) ↔ CleanKit factors s.over
   -- and that is told by the state and the number of entries: clean exactly if the kit is, and not clean exactly if it is not; of a state that is not finished nothing is told
-  pub pairs : length (words_in (seenIn made)) ≡ 2 * entriesIn made
-  pub few : (lastIn s made).finished ≡ true → entriesIn made ≤ 96 * 2 ^ mostPrecision
-  pub told-clean : (lastIn s made).finished ≡ true → (verdictOf (lastIn s made) (entriesIn made) ≡ accepted clean) ↔ CleanKit factors s.over
-  pub told-not-clean : (lastIn s made).finished ≡ true → (verdictOf (lastIn s made) (entriesIn made) ≡ accepted notClean) ↔ ¬ CleanKit factors s.over
-  pub told-unfinished : (lastIn s made).finished ≡ false → (n : ℕ) → verdictOf (lastIn s made) n ≡ accepted unfinished
+  pub pairs : length (words_in (seen_in made)) ≡ 2 * entries_in made
+  pub few : (last_in s made).finished ≡ true → entries_in made ≤ 96 * 2 ^ most_precision
+  pub told_clean : (last_in s made).finished ≡ true → (verdict_of (last_in s made) (entries_in made) ≡ accepted clean) ↔ CleanKit factors s.over
+  pub told_not_clean : (last_in s made).finished ≡ true → (verdict_of (last_in s made) (entries_in made) ≡ accepted not_clean) ↔ ¬ CleanKit factors s.over
+  pub told_unfinished : (last_in s made).finished ≡ false → (n : ℕ) → verdict_of (last_in s made) n ≡ accepted unfinished
 
 -- ---- of a kit that is not refused
 
@@ -225,82 +225,82 @@ within f X x = (x.least, omega (arith, x.most))
 bits_in : (f : Factor) (X : ℕ) → (whole f).first ≤ X → X ≤ (whole f).last → HasBits f.precision.bits X
 bits_in f X h k = record { least = h; most = omega (arith, pow_pos f.precision.bits) }
 
-module _ (k : kit.Kit Factor) (good : NoneHolds (kits.newFaults k)) where
-  through : AllOf (Passed factor-laws) (inKit k)
-  through = kit-through factor-laws k good
+module _ (k : kit.Kit Factor) (good : NoneHolds (kits.new_faults k)) where
+  through : AllOf (Passed factor_laws) (in_kit k)
+  through = kit_through factor_laws k good
 
   -- 31 lets through the factor that a position belongs to
-  belongs-passed : (z : ℕ) (f : Factor) → Belongs k z f → Passed factor-laws f
-  belongs-passed z f b = all-at (Passed factor-laws) (place_in z) (inKit k) b.rest f through b.at
+  belongs_passed : (z : ℕ) (f : Factor) → Belongs k z f → Passed factor_laws f
+  belongs_passed z f b = all_at (Passed factor_laws) (place_in z) (in_kit k) b.rest f through b.at
 
-  belongs-sound : (z : ℕ) (f : Factor) → Belongs k z f → Sound f
-  belongs-sound z f b = passed-sound f (belongs-passed z f b)
+  belongs_sound : (z : ℕ) (f : Factor) → Belongs k z f → Sound f
+  belongs_sound z f b = passed_sound f (belongs_passed z f b)
 
-  suspect-of : (z : ℕ) → (suspectIn sweep.suspectIn factors k z ≡ true) ↔ SuspectOf k z
-  unfolding suspectIn
-  suspect-of z = (there, back)
+  suspect_of : (z : ℕ) → (suspect_in sweep.suspect_in factors k z ≡ true) ↔ SuspectOf k z
+  unfolding suspect_in
+  suspect_of z = (there, back)
     where
-      there : suspectIn sweep.suspectIn factors k z ≡ true → SuspectOf k z
+      there : suspect_in sweep.suspect_in factors k z ≡ true → SuspectOf k z
       there h =
-          let p = (suspect-placed factor-laws (inKit k) through z h).0 in
-          let b : Belongs k z p.factor = record { rest = p.rest; at = p.at; bits = bits_in p.factor (significandIn z) p.from p.upto } in
+          let p = (suspect_placed factor_laws (in_kit k) through z h).0 in
+          let b : Belongs k z p.factor = record { rest = p.rest; at = p.at; bits = bits_in p.factor (significand_in z) p.from p.upto } in
           record {
             factor = p.factor;
             belongs = b;
-            suspect = (suspect-is p.factor (belongs-sound z p.factor b) (significandIn z)).0 (own-suspect factor-laws (inKit k) through z p h);
+            suspect = (suspect_is p.factor (belongs_sound z p.factor b) (significand_in z)).0 (own_suspect factor_laws (in_kit k) through z p h);
           }
 
-      back : SuspectOf k z → suspectIn sweep.suspectIn factors k z ≡ true
+      back : SuspectOf k z → suspect_in sweep.suspect_in factors k z ≡ true
       back q =
           let f = q.factor in
-          let X : ℕ = significandIn z in
+          let X : ℕ = significand_in z in
           rw (
             q.belongs.at,
             (between (whole f) X).1 (within f X q.belongs.bits),
-            (suspect-is f (belongs-sound z f q.belongs) X).1 q.suspect,
+            (suspect_is f (belongs_sound z f q.belongs) X).1 q.suspect,
           )
 
-  row_of : (z : ℕ) → Memᴰ z (fedBy (suspectIn sweep.suspectIn factors) kits k).suspects ↔ SuspectOf k z
-  unfolding suspectIn hasIn
+  row_of : (z : ℕ) → Memᴰ z (fed_by (suspect_in sweep.suspect_in factors) kits k).suspects ↔ SuspectOf k z
+  unfolding suspect_in has_in
   row_of z =
-      let exactly = row-exactly (suspectIn sweep.suspectIn factors k) (kits.first k) (suc (kits.last k)) z in (
-        (λ m. (suspect-of z).0 (exactly.0 m).2),
+      let exactly = row_exactly (suspect_in sweep.suspect_in factors k) (kits.first k) (suc (kits.last k)) z in (
+        (λ m. (suspect_of z).0 (exactly.0 m).2),
         (λ q.
-            let s = (suspect-of z).1 q in
-            let i = (kit-laws factor-laws k good).between z (suspect-placed factor-laws (inKit k) through z s).1 in
+            let s = (suspect_of z).1 q in
+            let i = (kit_laws factor_laws k good).between z (suspect_placed factor_laws (in_kit k) through z s).1 in
             exactly.1 (i.0, omega (arith, i.1), s)),
       )
 
-  mark_of : (z : ℕ) (f : Factor) → Belongs k z f → markIn factors k z ≡ markBy f (significandIn z) (productBy f (significandIn z))
-  unfolding markIn
+  mark_of : (z : ℕ) (f : Factor) → Belongs k z f → mark_in factors k z ≡ mark_by f (significand_in z) (product_by f (significand_in z))
+  unfolding mark_in
   mark_of z f b =
-      let X : ℕ = significandIn z in
+      let X : ℕ = significand_in z in
       let i = within f X b.bits in
-      subst (λ (y : ℕ). markIn factors k y ≡ markBy f X (productBy f X)) (position-is z)
-      (same-marks factor-laws (inKit k) through (place_in z) f b.rest b.at (belongs-passed z f b) X i.0 (omega (arith, i.1)))
+      subst (λ (y : ℕ). mark_in factors k y ≡ mark_by f X (product_by f X)) (position_is z)
+      (same_marks factor_laws (in_kit k) through (place_in z) f b.rest b.at (belongs_passed z f b) X i.0 (omega (arith, i.1)))
 
 -- ---- rounds
 
 -- On every state, also one that no calls lead to.
-pub few-rounds : (s : State (kit.Kit Factor)) (c : Call) → FewRounds s c (sweepCall kits s c)
-few-rounds s c = if-accepted (λ a r. r.few) (sweepCall kits s c).answer (rounds-right kits-lawful s c)
+pub few_rounds : (s : State (kit.Kit Factor)) (c : Call) → FewRounds s c (sweep_call kits s c)
+few_rounds s c = if_accepted (λ a r. r.few) (sweep_call kits s c).answer (rounds_right kits_lawful s c)
 
 -- ---- what separate sweeps list
 
 -- a separate sweep lists the words of all significands that are not right
-separate-list : (f : Factor) (a : Separate f) → words_in (separate.seenIn a.made) ≡ list_of factors f
-separate-list f a =
+separate_list : (f : Factor) (a : Separate f) → words_in (separate.seen_in a.made) ≡ list_of factors f
+separate_list f a =
     let s = swept.view_of a.start in
-    let demand = separate.demand-3 f (whole f).first (whole f).last a.start a.begun a.made a.kept in
+    let demand = separate.demand_3 f (whole f).first (whole f).last a.start a.begun a.made a.kept in
     let finished = ap (λ (t : State (Range Factor)). t.finished) (sym demand.last) ∙ a.finished in
     ap words_in demand.seen
-    ∙ separate-lists factor-laws f s (sym a.begun) (separate.askedIn a.made) finished
-    ∙ entries-are (list_of factors f)
+    ∙ separate_lists factor_laws f s (sym a.begun) (separate.asked_in a.made) finished
+    ∙ entries_are (list_of factors f)
 
-separate-all : (i : ℕ) (l : List Factor) (apart : AllOf Separate l) → listsFrom factors i l ≡ listedBy i l apart
-unfolding listsFrom
-separate-all i [] a = refl
-separate-all i (f ∷ l) a = rw (separate-list f a.0, separate-all (suc i) l a.1)
+separate_all : (i : ℕ) (l : List Factor) (apart : AllOf Separate l) → lists_from factors i l ≡ listed_by i l apart
+unfolding lists_from
+separate_all i [] a = refl
+separate_all i (f ∷ l) a = rw (separate_list f a.0, separate_all (suc i) l a.1)
 
 -- ---- what is told of a kit
 
@@ -310,142 +310,142 @@ no_words [] n q = ((λ e. refl), (λ e. omega arith))
 no_words (x ∷ l) n q = ((λ e. absurd (omega arith)), (λ e. let z : ◌≡◌ {A = ℕ} 0 1 = cc in absurd (omega arith)))
 
 -- of a finished state: clean exactly if there is no entry, and not clean exactly if there is one
-told-by : (n : ℕ) → ((told true n ≡ clean) ↔ (n ≡ 0)) × ((told true n ≡ notClean) ↔ ¬ (n ≡ 0))
-told-by n = go (eqb n 0) refl
+told_by : (n : ℕ) → ((told true n ≡ clean) ↔ (n ≡ 0)) × ((told true n ≡ not_clean) ↔ ¬ (n ≡ 0))
+told_by n = go (eqb n 0) refl
   where
-    go : (b : Bool) → eqb n 0 ≡ b → ((cond b clean notClean ≡ clean) ↔ (n ≡ 0)) × ((cond b clean notClean ≡ notClean) ↔ ¬ (n ≡ 0))
+    go : (b : Bool) → eqb n 0 ≡ b → ((cond b clean not_clean ≡ clean) ↔ (n ≡ 0)) × ((cond b clean not_clean ≡ not_clean) ↔ ¬ (n ≡ 0))
     go true q = (((λ e. eqb-true n 0 q), (λ e. refl)), ((λ e. let z : ◌≡◌ {A = ℕ} 0 1 = cc in absurd (omega arith)), (λ h. absurd (h (eqb-true n 0 q)))))
     go false q = (((λ e. let z : ◌≡◌ {A = ℕ} 0 1 = cc in absurd (omega arith)), (λ e. absurd (eqb-false n 0 q e))), ((λ e. eqb-false n 0 q), (λ h. refl)))
 
 -- ---- the theorem
 
 -- from the new state of a kit that is not refused
-module _ (k : kit.Kit Factor) (good : NoneHolds (kits.newFaults k)) (made : List Made) (kept : Kept (fresh kits k) made) where
+module _ (k : kit.Kit Factor) (good : NoneHolds (kits.new_faults k)) (made : List Made) (kept : Kept (fresh kits k) made) where
   abbrev s : State (kit.Kit Factor)
   s = fresh kits k
 
   abbrev t : State (kit.Kit Factor)
-  t = lastIn s made
+  t = last_in s made
 
-  demand : WholeKit sweep.suspectIn factors 64 s (askedIn made)
-  demand = whole-kit factor-laws k s (begins-always k good) (askedIn made)
+  demand : WholeKit sweep.suspect_in factors 64 s (asked_in made)
+  demand = whole_kit factor_laws k s (begins_always k good) (asked_in made)
 
-  seen_are : seenIn made ≡ sweeps (sweepCall kits) s (askedIn made)
-  seen_are = calls.kept_seen asked replyIn (sweepCall kits) s made kept
+  seen_are : seen_in made ≡ sweeps (sweep_call kits) s (asked_in made)
+  seen_are = calls.kept_seen asked reply_in (sweep_call kits) s made kept
 
-  last-is : t ≡ stateAfter (sweepCall kits) s (askedIn made)
-  last-is = calls.kept-last asked replyIn (sweepCall kits) s made kept
+  last_is : t ≡ state_after (sweep_call kits) s (asked_in made)
+  last_is = calls.kept_last asked reply_in (sweep_call kits) s made kept
 
-  done : t.finished ≡ true → (stateAfter (sweepCall kits) s (askedIn made)).finished ≡ true
-  done h = ap (λ (x : State (kit.Kit Factor)). x.finished) (sym last-is) ∙ h
+  done : t.finished ≡ true → (state_after (sweep_call kits) s (asked_in made)).finished ≡ true
+  done h = ap (λ (x : State (kit.Kit Factor)). x.finished) (sym last_is) ∙ h
 
-  nothing_is : t.finished ≡ true → (words_in (seenIn made) ≡ []) ↔ CleanKit factors k
+  nothing_is : t.finished ≡ true → (words_in (seen_in made) ≡ []) ↔ CleanKit factors k
   nothing_is h = rw seen_are (demand.clean (done h))
 
-  pairs-are : length (words_in (seenIn made)) ≡ 2 * entriesIn made
-  pairs-are = omega (arith, calls.kept-entries asked replyIn (sweepCall kits) 2 (call-wrote kits-lawful) s made kept)
+  pairs_are : length (words_in (seen_in made)) ≡ 2 * entries_in made
+  pairs_are = omega (arith, calls.kept_entries asked reply_in (sweep_call kits) 2 (call_wrote kits_lawful) s made kept)
 
   -- no factor has more than 2^24 significands
-  entries-few : t.finished ≡ true → entriesIn made ≤ 96 * 2 ^ mostPrecision
-  entries-few h =
+  entries_few : t.finished ≡ true → entries_in made ≤ 96 * 2 ^ most_precision
+  entries_few h =
       let size = length-take k.count k.factors in
-      let most = ltb-false 96 k.count (or-false (eqb (length (inKit k)) 0) (ltb 96 k.count) good.0).1 in
-      let significands : (f : Factor) → Passed factor-laws f → suc (whole f).last - (whole f).first ≤ 2 ^ mostPrecision =
-      λ f q. omega (arith, last-short f (whole f).first (whole f).last (whole-good f q)) in
-      let all = lists-few factor-laws k good (2 ^ mostPrecision) significands in
-      omega (arith, pairs-are, ap length (ap words_in seen_are ∙ demand.joins (done h)), all, size, most)
+      let most = ltb-false 96 k.count (or_false (eqb (length (in_kit k)) 0) (ltb 96 k.count) good.0).1 in
+      let significands : (f : Factor) → Passed factor_laws f → suc (whole f).last - (whole f).first ≤ 2 ^ most_precision =
+      λ f q. omega (arith, last_short f (whole f).first (whole f).last (whole_good f q)) in
+      let all = lists_few factor_laws k good (2 ^ most_precision) significands in
+      omega (arith, pairs_are, ap length (ap words_in seen_are ∙ demand.joins (done h)), all, size, most)
 
   -- no entry is there exactly if the kit is clean
-  entries-clean : t.finished ≡ true → (entriesIn made ≡ 0) ↔ CleanKit factors k
-  entries-clean h =
-      let none = no_words (words_in (seenIn made)) (entriesIn made) pairs-are in
+  entries_clean : t.finished ≡ true → (entries_in made ≡ 0) ↔ CleanKit factors k
+  entries_clean h =
+      let none = no_words (words_in (seen_in made)) (entries_in made) pairs_are in
       let all = nothing_is h in
       ((λ e. all.0 (none.0 e)), (λ c. none.1 (all.1 c)))
 
   -- a state that calls lead to is not refused, so that what is told is the answer
-  verdict-is : (n : ℕ) → verdictOf t n ≡ accepted (told t.finished n)
-  unfolding verdictOf
-  verdict-is n =
-      let stands = subst (Standing kits) (sym last-is) (after-stands kits-lawful k good (askedIn made)).1 in
-      none-refuses (kits.faults t) (told t.finished n) ((kits-lawful.states t).1 stands)
+  verdict_is : (n : ℕ) → verdict_of t n ≡ accepted (told t.finished n)
+  unfolding verdict_of
+  verdict_is n =
+      let stands = subst (Standing kits) (sym last_is) (after_stands kits_lawful k good (asked_in made)).1 in
+      none_refuses (kits.faults t) (told t.finished n) ((kits_lawful.states t).1 stands)
 
-  told_is : t.finished ≡ true → (x : Told) → (verdictOf t (entriesIn made) ≡ accepted x) ↔ (told true (entriesIn made) ≡ x)
+  told_is : t.finished ≡ true → (x : Told) → (verdict_of t (entries_in made) ≡ accepted x) ↔ (told true (entries_in made) ≡ x)
   told_is h x =
-      let says = verdict-is (entriesIn made) ∙ ap (λ (b : Bool). accepted (told b (entriesIn made))) h in
+      let says = verdict_is (entries_in made) ∙ ap (λ (b : Bool). accepted (told b (entries_in made))) h in
       ((λ e. let same = sym says ∙ e in cc), (λ e. says ∙ ap accepted e))
 
-  from-fresh : KitDemand3 s made
-  from-fresh =
+  from_fresh : KitDemand3 s made
+  from_fresh =
       record {
         whole = demand;
-        replies = calls.kept-replies asked replyIn (sweepCall kits) s made kept;
+        replies = calls.kept_replies asked reply_in (sweep_call kits) s made kept;
         seen = seen_are;
-        last = last-is;
-        suspects = suspect-of k good;
+        last = last_is;
+        suspects = suspect_of k good;
         row = row_of k good;
-        ascending = row-ascends (suspectIn sweep.suspectIn factors k) (kits.first k) (suc (kits.last k));
+        ascending = row_ascends (suspect_in sweep.suspect_in factors k) (kits.first k) (suc (kits.last k));
         marks = mark_of k good;
-        tells = λ z f b. rw (mark_of k good z f b) (mark-is f (belongs-sound k good z f b) (significandIn z) b.bits);
-        rounds = calls.kept-each asked replyIn (sweepCall kits) FewRounds s made kept (each FewRounds (sweepCall kits) few-rounds s (askedIn made));
-        joins = λ h apart. ap words_in seen_are ∙ demand.joins (done h) ∙ separate-all 0 (inKit k) apart;
+        tells = λ z f b. rw (mark_of k good z f b) (mark_is f (belongs_sound k good z f b) (significand_in z) b.bits);
+        rounds = calls.kept_each asked reply_in (sweep_call kits) FewRounds s made kept (each FewRounds (sweep_call kits) few_rounds s (asked_in made));
+        joins = λ h apart. ap words_in seen_are ∙ demand.joins (done h) ∙ separate_all 0 (in_kit k) apart;
         nothing = nothing_is;
-        pairs = pairs-are;
-        few = entries-few;
-        told-clean = λ h.
+        pairs = pairs_are;
+        few = entries_few;
+        told_clean = λ h.
             let is = told_is h clean in
-            let none = entries-clean h in
-            let by = (told-by (entriesIn made)).0 in
+            let none = entries_clean h in
+            let by = (told_by (entries_in made)).0 in
             ((λ e. none.0 (by.0 (is.0 e))), (λ c. is.1 (by.1 (none.1 c))));
-        told-not-clean = λ h.
-            let is = told_is h notClean in
-            let none = entries-clean h in
-            let by = (told-by (entriesIn made)).1 in
+        told_not_clean = λ h.
+            let is = told_is h not_clean in
+            let none = entries_clean h in
+            let by = (told_by (entries_in made)).1 in
             ((λ e c. by.0 (is.0 e) (none.1 c)), (λ n. is.1 (by.1 (λ z. n (none.0 z)))));
-        told-unfinished = λ h n. verdict-is n ∙ ap (λ (b : Bool). accepted (told b n)) h;
+        told_unfinished = λ h n. verdict_is n ∙ ap (λ (b : Bool). accepted (told b n)) h;
       }
 
 -- Demand 3 of kits: `new_state` accepted a kit, and the calls made from the state that it gave kept the contract of `kit_call`.
-pub kit-demand-3 : (k : Kit) (r : NewKitSweep) → newOf r ≡ newState kits (kitOf k) → r.judgement ≡ Judgement.Passed → (made : List Made) → Kept (view_of r.state) made → KitDemand3 (view_of r.state) made
-kit-demand-3 k r new passed made kept =
-    let begun : newState kits (kitOf k) ≡ accepted (view_of r.state) = sym new ∙ ap (λ (v : Judgement). newOf (record { state = r.state; judgement = v })) passed in
-    let good = only-accepted (kits.newFaults (kitOf k)) (fresh kits (kitOf k)) (view_of r.state) begun in
-    subst (λ (s : State (kit.Kit Factor)). Kept s made → KitDemand3 s made) good.1 (from-fresh (kitOf k) good.0 made) kept
+pub kit_demand_3 : (k : Kit) (r : NewKitSweep) → new_of r ≡ new_state kits (kit_of k) → r.judgement ≡ Judgement.Passed → (made : List Made) → Kept (view_of r.state) made → KitDemand3 (view_of r.state) made
+kit_demand_3 k r new passed made kept =
+    let begun : new_state kits (kit_of k) ≡ accepted (view_of r.state) = sym new ∙ ap (λ (v : Judgement). new_of (record { state = r.state; judgement = v })) passed in
+    let good = only_accepted (kits.new_faults (kit_of k)) (fresh kits (kit_of k)) (view_of r.state) begun in
+    subst (λ (s : State (kit.Kit Factor)). Kept s made → KitDemand3 s made) good.1 (from_fresh (kit_of k) good.0 made) kept
 
 -- ---- whether the kit is clean, as `kit_verdict` answers
 
 -- the answer that says so
-verdictBy : Outcome Told → Verdict
-verdictBy (accepted clean) = Verdict.Clean
-verdictBy (accepted notClean) = Verdict.NotClean
-verdictBy (accepted unfinished) = Verdict.Unfinished
-verdictBy (refused n) = Verdict.Refused n
+verdict_by : Outcome Told → Verdict
+verdict_by (accepted clean) = Verdict.Clean
+verdict_by (accepted not_clean) = Verdict.NotClean
+verdict_by (accepted unfinished) = Verdict.Unfinished
+verdict_by (refused n) = Verdict.Refused n
 
-said-by : (v : Verdict) → verdictBy (verdictSays v) ≡ v
-unfolding verdictBy
-said-by (Verdict.Clean) = refl
-said-by (Verdict.NotClean) = refl
-said-by (Verdict.Unfinished) = refl
-said-by (Verdict.Refused n) = refl
+said_by : (v : Verdict) → verdict_by (verdict_says v) ≡ v
+unfolding verdict_by
+said_by (Verdict.Clean) = refl
+said_by (Verdict.NotClean) = refl
+said_by (Verdict.Unfinished) = refl
+said_by (Verdict.Refused n) = refl
 
 -- Its contract, at the state that the last call handed back and with all entries since the new one: it answers what the kit is by its definition.
-module _ {s : State (kit.Kit Factor)} {made : List Made} (demand : KitDemand3 s made) (v : Verdict) (keeps : verdictSays v ≡ verdictOf (lastIn s made) (entriesIn made)) where
-  answers : (o : Outcome Told) → verdictOf (lastIn s made) (entriesIn made) ≡ o → v ≡ verdictBy o
-  answers o e = sym (said-by v) ∙ ap verdictBy (keeps ∙ e)
+module _ {s : State (kit.Kit Factor)} {made : List Made} (demand : KitDemand3 s made) (v : Verdict) (keeps : verdict_says v ≡ verdict_of (last_in s made) (entries_in made)) where
+  answers : (o : Outcome Told) → verdict_of (last_in s made) (entries_in made) ≡ o → v ≡ verdict_by o
+  answers o e = sym (said_by v) ∙ ap verdict_by (keeps ∙ e)
 
-  pub answers-clean : (lastIn s made).finished ≡ true → (v ≡ Verdict.Clean) ↔ CleanKit factors s.over
-  unfolding verdictBy
-  answers-clean h = ((λ e. (demand.told-clean h).0 (sym keeps ∙ ap verdictSays e)), (λ c. answers (accepted clean) ((demand.told-clean h).1 c)))
+  pub answers_clean : (last_in s made).finished ≡ true → (v ≡ Verdict.Clean) ↔ CleanKit factors s.over
+  unfolding verdict_by
+  answers_clean h = ((λ e. (demand.told_clean h).0 (sym keeps ∙ ap verdict_says e)), (λ c. answers (accepted clean) ((demand.told_clean h).1 c)))
 
-  pub answers-not-clean : (lastIn s made).finished ≡ true → (v ≡ Verdict.NotClean) ↔ ¬ CleanKit factors s.over
-  unfolding verdictBy
-  answers-not-clean h = ((λ e. (demand.told-not-clean h).0 (sym keeps ∙ ap verdictSays e)), (λ c. answers (accepted notClean) ((demand.told-not-clean h).1 c)))
+  pub answers_not_clean : (last_in s made).finished ≡ true → (v ≡ Verdict.NotClean) ↔ ¬ CleanKit factors s.over
+  unfolding verdict_by
+  answers_not_clean h = ((λ e. (demand.told_not_clean h).0 (sym keeps ∙ ap verdict_says e)), (λ c. answers (accepted not_clean) ((demand.told_not_clean h).1 c)))
 
-  pub answers-unfinished : (lastIn s made).finished ≡ false → v ≡ Verdict.Unfinished
-  unfolding verdictBy
-  answers-unfinished h = answers (accepted unfinished) (demand.told-unfinished h (entriesIn made))
+  pub answers_unfinished : (last_in s made).finished ≡ false → v ≡ Verdict.Unfinished
+  unfolding verdict_by
+  answers_unfinished h = answers (accepted unfinished) (demand.told_unfinished h (entries_in made))
 
 -- ---- one call
 
 -- On every state, also one that no calls lead to, what the searches make of a kit call is what is read off the row of suspects: answer, state, list and counts.
-pub kit-call-by-row : (s : State (kit.Kit Factor)) (c : Call) → sweepCall kits s c ≡ rowCall (suspectIn sweep.suspectIn factors) kits s c
-kit-call-by-row = by_row kits-lawful
+pub kit_call_by_row : (s : State (kit.Kit Factor)) (c : Call) → sweep_call kits s c ≡ row_call (suspect_in sweep.suspect_in factors) kits s c
+kit_call_by_row = by_row_lem kits_lawful

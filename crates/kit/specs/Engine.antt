@@ -2,11 +2,11 @@
 use Rattle.std.specs.Prelude.{Bool, not, ◌&&◌, eqb}
 use Rattle.std.specs.Bool.{beq}
 use Rattle.factor.specs.declared.Factor.{Factor}
-use Rattle.factor.specs.Precision.{leastOf, most_of}
-use Rattle.factor.specs.SetUp.{sameZ, intact}
+use Rattle.factor.specs.Precision.{least_of, most_of}
+use Rattle.factor.specs.SetUp.{same_z, intact}
 use Rattle.calls.specs.State.{Range}
 use Rattle.calls.specs.Engine.{Engine}
-use Rattle.calls.specs.Kit.{Kit, Factors, kitEngine}
+use Rattle.calls.specs.Kit.{Kit, Factors, kit_engine}
 use Rattle.sweep.specs.Engine.{range, engine}
 
 -- whether 31 refuses a factor
@@ -17,11 +17,11 @@ faulty f = not (intact f)
 unfoldable pub alike : Factor → Factor → Bool
 alike f g =
     beq f.minus g.minus
-    && (eqb f.precision.bits g.precision.bits && (sameZ f.applied.scale g.applied.scale && (eqb f.lower g.lower && eqb f.upper g.upper)))
+    && (eqb f.precision.bits g.precision.bits && (same_z f.applied.scale g.applied.scale && (eqb f.lower g.lower && eqb f.upper g.upper)))
 
 -- "over all significands of each"
 abbrev pub whole : Factor → Range Factor
-whole f = range f (leastOf f.precision.bits) (most_of f.precision.bits)
+whole f = range f (least_of f.precision.bits) (most_of f.precision.bits)
 
 -- what a kit asks of its factors: each is swept as a factor is by itself
 abbrev pub factors : Factors Factor (Range Factor)
@@ -29,4 +29,4 @@ factors = record { engine = engine; whole = whole; faulty = faulty; alike = alik
 
 -- the engine of kits
 abbrev pub kits : Engine (Kit Factor)
-kits = kitEngine factors
+kits = kit_engine factors

@@ -2,45 +2,45 @@
 use Rattle.std.specs.Prelude.{◌≡◌, false, ℕ, ◌-◌}
 use Rattle.std.proofs.Common.{arith, pow_pos}
 use Rattle.marks.specs.Answers.{NoneHolds}
-use Rattle.rounding.specs.Digits.{pow-half}
+use Rattle.rounding.proofs.Digits.{pow_half}
 use Rattle.factor.specs.declared.Factor.{Factor}
-use Rattle.factor.specs.Precision.{ValidPrecision, leastOf, most_of, rangeOut}
+use Rattle.factor.specs.Precision.{ValidPrecision, least_of, most_of, range_out}
 use Rattle.factor.specs.SetUp.{Sound}
-use Rattle.product.specs.AnswerLaws.{range-in}
+use Rattle.product.proofs.AnswerLaws.{range_in}
 use Rattle.calls.specs.Engine.{Lawful}
-use Rattle.calls.specs.Kit.{suspectIn}
-use Rattle.calls.specs.KitLaws.{FactorLaws, kit-lawful}
+use Rattle.calls.specs.Kit.{suspect_in}
+use Rattle.calls.proofs.KitLaws.{FactorLaws, kit_lawful}
 use Rattle.sweep.specs.Engine as sweep
-use Rattle.sweep.specs.EngineLaws.{sound-of, lawful}
-use Rattle.sweep.specs.StepLaws.{last-short}
+use Rattle.sweep.proofs.EngineLaws.{sound_of, lawful}
+use Rattle.sweep.proofs.StepLaws.{last_short}
 use Rattle.kit.specs.Engine.{faulty, whole, factors, kits}
 
 -- A factor that 31 lets through is sound.
-pub passed-sound : (f : Factor) → faulty f ≡ false → Sound f
-passed-sound = sound-of
+pub passed_sound : (f : Factor) → faulty f ≡ false → Sound f
+passed_sound = sound_of
 
 -- All its significands are a range that 17 lets through.
-pub whole_in : (n : ℕ) → ValidPrecision n → rangeOut n (leastOf n) (most_of n) ≡ false
+pub whole_in : (n : ℕ) → ValidPrecision n → range_out n (least_of n) (most_of n) ≡ false
 whole_in n N =
-    let half = pow-half n (omega (arith, N)) in
+    let half = pow_half n (omega (arith, N)) in
     let some = pow_pos (n - 1) in
-    range-in n (leastOf n) (most_of n)
-    (record { first-bits = record { least = omega arith; most = omega arith }; last-bits = record { least = omega arith; most = omega arith }; ordered = omega arith })
+    range_in n (least_of n) (most_of n)
+    (record { first_bits = record { least = omega arith; most = omega arith }; last_bits = record { least = omega arith; most = omega arith }; ordered = omega arith })
 
-pub whole-good : (f : Factor) → faulty f ≡ false → NoneHolds ((sweep.engine).newFaults (whole f))
-whole-good f q = (q, (whole_in f.precision.bits (passed-sound f q).precision, tt))
+pub whole_good : (f : Factor) → faulty f ≡ false → NoneHolds ((sweep.engine).new_faults (whole f))
+whole_good f q = (q, (whole_in f.precision.bits (passed_sound f q).precision, tt))
 
 -- What kits ask of factors is so, with at most 64 rounds a search.
-pub factor-laws : FactorLaws sweep.suspectIn factors sweep.mostIn 64
-factor-laws =
+pub factor_laws : FactorLaws sweep.suspect_in factors sweep.most_in 64
+factor_laws =
     record {
       lawful = lawful;
-      good = whole-good;
-      short = λ f q. omega (arith, last-short f (whole f).first (whole f).last (whole-good f q));
+      good = whole_good;
+      short = λ f q. omega (arith, last_short f (whole f).first (whole f).last (whole_good f q));
       halved = λ f. omega arith;
       few = λ f q. omega arith;
     }
 
 -- The engine of kits is lawful.
-pub kits-lawful : Lawful (suspectIn sweep.suspectIn factors) kits (λ k. 64)
-kits-lawful = kit-lawful factor-laws
+pub kits_lawful : Lawful (suspect_in sweep.suspect_in factors) kits (λ k. 64)
+kits_lawful = kit_lawful factor_laws

@@ -7,20 +7,20 @@ use Rattle.rounding.specs.Grid.{nearest}
 use Rattle.rounding.specs.Round.{rounded}
 use Rattle.factor.specs.declared.Factor.{Factor}
 use Rattle.factor.specs.Precision.{scale_of}
-use Rattle.factor.specs.Context.{tieRule}
+use Rattle.factor.specs.Context.{tie_rule}
 use Rattle.factor.specs.Parts.{parts_at}
-use Rattle.factor.specs.SetUp.{setUp, appliedOf, intact}
+use Rattle.factor.specs.SetUp.{set_up, applied_of, intact}
 use Rattle.product.specs.Product.{product}
 use Rattle.product.specs.Marks.{mark}
-use Rattle.search.specs.Search.{ceilDiv, negMod, test, placeAfter, afterRound, searchWithin, searchWindow, shift, searchFrom}
-use Rattle.suspects.specs.Next.{nextIn, firstHigh}
+use Rattle.search.specs.Search.{ceil_div, neg_mod, test, place_after, after_round, search_within, search_window, shift, search_from}
+use Rattle.suspects.specs.Next.{next_in, first_high}
 use Rattle.calls.specs.State.{State}
-use Rattle.calls.specs.Call.{newState, ReplyOf, seek, run, sweepCall}
-use Rattle.calls.specs.Kit.{Kit, any_of, twoAlike, position, hasIn, markIn, sectionsFrom}
+use Rattle.calls.specs.Call.{new_state, ReplyOf, seek, run, sweep_call}
+use Rattle.calls.specs.Kit.{Kit, any_of, two_alike, position, has_in, mark_in, sections_from}
 use Rattle.sweep.specs.Answers.{call_of}
-use Rattle.sweep.specs.Examples.{P1, P2, P3, damaged}
+use Rattle.sweep.proofs.Examples.{P1, P2, P3, damaged}
 use Rattle.kit.specs.Engine.{alike, kits}
-use Rattle.kit.specs.Answers.{Told, clean, notClean, unfinished, verdictOf}
+use Rattle.kit.specs.Answers.{Told, clean, not_clean, unfinished, verdict_of}
 
 -- the first of P1, P2, P3, P1 once more and a damaged one: three are a kit, and what stands past them is not looked at
 abbrev first_of : (count : ℕ) → Kit Factor
@@ -31,12 +31,12 @@ abbrev state : (count place next : ℕ) → (finished : Bool) → State (Kit Fac
 state count place next finished = record { over = first_of count; next = position place next; finished = finished }
 
 begun : (count : ℕ) → Outcome (State (Kit Factor))
-unfolding answer intact setUp appliedOf scale_of tieRule parts_at rounded nearest Ieee.round Ieee.size Ieee.span Ieee.climb Ieee.to_bits any_of twoAlike alike
-begun count = newState kits (first_of count)
+unfolding answer intact set_up applied_of scale_of tie_rule parts_at rounded nearest Ieee.round Ieee.size Ieee.span Ieee.climb Ieee.to_bits any_of two_alike alike
+begun count = new_state kits (first_of count)
 
 called : State (Kit Factor) → (cap : ℕ) → List ℕ → (free : ℕ) → ReplyOf (State (Kit Factor))
-unfolding sweepCall run seek firstHigh nextIn ceilDiv negMod test placeAfter afterRound searchWithin searchWindow shift searchFrom dec_le dec_lt ℕ_discrete intact answer setUp appliedOf scale_of tieRule parts_at rounded nearest product mark Ieee.round Ieee.size Ieee.span Ieee.climb Ieee.to_bits any_of twoAlike alike hasIn markIn sectionsFrom
-called s cap list free = sweepCall kits s (call_of cap list free)
+unfolding sweep_call run seek first_high next_in ceil_div neg_mod test place_after after_round search_within search_window shift search_from dec_le dec_lt ℕ_discrete intact answer set_up applied_of scale_of tie_rule parts_at rounded nearest product mark Ieee.round Ieee.size Ieee.span Ieee.climb Ieee.to_bits any_of two_alike alike has_in mark_in sections_from
+called s cap list free = sweep_call kits s (call_of cap list free)
 
 -- what an accepted call answers
 abbrev answered : (trials rounds place : ℕ) → State (Kit Factor) → List ℕ → ReplyOf (State (Kit Factor))
@@ -79,12 +79,12 @@ alone = refl
 -- ---- refusals
 
 -- Of a kit: no factor, 97, a damaged one (P1 stands there twice too), P1 twice.
-kit-refused : (begun 0 ≡ refused 42) × (begun 97 ≡ refused 42) × (begun 5 ≡ refused 31) × (begun 4 ≡ refused 43)
+kit_refused : (begun 0 ≡ refused 42) × (begun 97 ≡ refused 42) × (begun 5 ≡ refused 31) × (begun 4 ≡ refused 43)
 unfolding begun P1 P2 P3
-kit-refused = (refl, refl, refl, refl)
+kit_refused = (refl, refl, refl, refl)
 
 -- Of a call's state, whatever else is wrong: the same, then a place with no factor, a next significand outside that factor's, a finished one.
-state-refused : Declined 42 (state 0 0 8 true) 0 [] 0
+state_refused : Declined 42 (state 0 0 8 true) 0 [] 0
     × Declined 42 (state 97 9 8 true) 0 [] 0
     × Declined 31 (state 5 9 8 true) 0 [] 0
     × Declined 43 (state 4 9 8 true) 0 [] 0
@@ -92,23 +92,23 @@ state-refused : Declined 42 (state 0 0 8 true) 0 [] 0
     × Declined 32 (state 3 2 16 true) 0 [] 0
     × Declined 33 (state 3 2 15 true) 0 [] 0
 unfolding called P1 P2 P3
-state-refused = (refl, refl, refl, refl, refl, refl, refl)
+state_refused = (refl, refl, refl, refl, refl, refl, refl)
 
 -- Of a call: cap 0, one free place, a first free place past the end.
-call-refused : Declined 18 (state 3 0 8 false) 0 [] 0 × Declined 44 (state 3 0 8 false) 100 (7 ∷ 7 ∷ 7 ∷ []) 2 × Declined 44 (state 3 0 8 false) 100 (7 ∷ 7 ∷ 7 ∷ []) 4
+call_refused : Declined 18 (state 3 0 8 false) 0 [] 0 × Declined 44 (state 3 0 8 false) 100 (7 ∷ 7 ∷ 7 ∷ []) 2 × Declined 44 (state 3 0 8 false) 100 (7 ∷ 7 ∷ 7 ∷ []) 4
 unfolding called P1 P2 P3
-call-refused = (refl, refl, refl)
+call_refused = (refl, refl, refl)
 
 -- ---- whether a kit is clean
 
 -- what is told by a state and a number of entries
 verdict : State (Kit Factor) → (entries : ℕ) → Outcome Told
-unfolding verdictOf answer intact setUp appliedOf scale_of tieRule parts_at rounded nearest Ieee.round Ieee.size Ieee.span Ieee.climb Ieee.to_bits any_of twoAlike alike hasIn
-verdict s entries = verdictOf s entries
+unfolding verdict_of answer intact set_up applied_of scale_of tie_rule parts_at rounded nearest Ieee.round Ieee.size Ieee.span Ieee.climb Ieee.to_bits any_of two_alike alike has_in
+verdict s entries = verdict_of s entries
 
 -- P1 by itself at its finish, with no entry; the kit of three at its finish, and before it; a place with no factor
 told : (verdict (state 1 0 15 true) 0 ≡ accepted clean)
-    × (verdict (state 3 2 15 true) 2 ≡ accepted notClean)
+    × (verdict (state 3 2 15 true) 2 ≡ accepted not_clean)
     × (verdict (state 3 2 9 false) 1 ≡ accepted unfinished)
     × (verdict (state 3 3 8 true) 0 ≡ refused 32)
 unfolding verdict P1 P2 P3

@@ -4,13 +4,13 @@ use Rattle.std.proofs.Math.Path.{sym, ap}
 use Rattle.std.proofs.Common.{◌∙◌, arith, add-one, length-take, drop_of_length-le, drop-cons, get_or-take}
 use Rattle.std.proofs.Math.Bool.{or-false}
 use mathlib.Core.List.{List, [], ◌∷◌}
-use Rattle.calls.specs.Kit.{any_of, twoAlike}
+use Rattle.calls.specs.Kit.{any_of, two_alike}
 
 -- ---- places
 module _ {F : Type 0} (xs : List F) (n i : ℕ) where
   -- the one at a place, and those past it
-  pub first-at : (d : F) → n ≤ length xs → i < n → drop i (take n xs) ≡ get_or xs i d ∷ drop (i + 1) (take n xs)
-  first-at d full h = drop-cons (take n xs) i d (omega (arith, length-take n xs)) ∙ rw (get_or-take n xs i d h, add-one i)
+  pub first_at : (d : F) → n ≤ length xs → i < n → drop i (take n xs) ≡ get_or xs i d ∷ drop (i + 1) (take n xs)
+  first_at d full h = drop-cons (take n xs) i d (omega (arith, length-take n xs)) ∙ rw (get_or-take n xs i d h, add-one i)
 
   -- past the last there is none
   pub first_past : n ≤ i → drop i (take n xs) ≡ []
@@ -30,24 +30,24 @@ module _ {F : Type 0} {t : F → Bool} {xs : List F} {n : ℕ} {rest whole : Boo
   -- the turn at i
   turn : (d : F) → i < n → whole ≡ (t (get_or xs i d) || any_of t (drop (i + 1) (take n xs))) || rest
   unfolding any_of
-  turn d h = s.same ∙ ap (λ (l : List F). any_of t l || rest) (first-at xs n i d s.full h)
+  turn d h = s.same ∙ ap (λ (l : List F). any_of t l || rest) (first_at xs n i d s.full h)
 
   pub seek_hit : (d : F) → i < n → t (get_or xs i d) ≡ true → true ≡ whole
   seek_hit d h z = sym (turn d h ∙ ap (λ (b : Bool). (b || any_of t (drop (i + 1) (take n xs))) || rest) z)
 
-  pub seek-miss : (d : F) → i < n → t (get_or xs i d) ≡ false → Seeking t xs n rest whole (i + 1)
-  seek-miss d h z = record { full = s.full; same = turn d h ∙ ap (λ (b : Bool). (b || any_of t (drop (i + 1) (take n xs))) || rest) z }
+  pub seek_miss : (d : F) → i < n → t (get_or xs i d) ≡ false → Seeking t xs n rest whole (i + 1)
+  seek_miss d h z = record { full = s.full; same = turn d h ∙ ap (λ (b : Bool). (b || any_of t (drop (i + 1) (take n xs))) || rest) z }
 
   -- past the last, the rest decides
-  pub seek-end : n ≤ i → whole ≡ rest
+  pub seek_end : n ≤ i → whole ≡ rest
   unfolding any_of
-  seek-end h = s.same ∙ ap (λ (l : List F). any_of t l || rest) (first_past xs n i h)
+  seek_end h = s.same ∙ ap (λ (l : List F). any_of t l || rest) (first_past xs n i h)
 
 -- ---- two of the first n
 -- A loop over pairs, before its turn at i: none before i is like a later one, so what is left decides.
 pub record Pairing {F : Type 0} (alike : F → F → Bool) (xs : List F) (n : ℕ) (i : ℕ) : Type 0 where
   pub full : n ≤ length xs
-  pub same : twoAlike alike (take n xs) ≡ twoAlike alike (drop i (take n xs))
+  pub same : two_alike alike (take n xs) ≡ two_alike alike (drop i (take n xs))
 
 -- it begins at the first
 pub pair : {F : Type 0} {alike : F → F → Bool} {xs : List F} {n : ℕ} → n ≤ length xs → Pairing alike xs n 0
@@ -55,16 +55,16 @@ pair full = record { full = full; same = refl }
 
 module _ {F : Type 0} {alike : F → F → Bool} {xs : List F} {n i : ℕ} (p : Pairing alike xs n i) where
   -- its turn is a loop over those past i
-  pub pair-seek : (d : F) → i < n → Seeking (alike (get_or xs i d)) xs n (twoAlike alike (drop (i + 1) (take n xs))) (twoAlike alike (take n xs)) (i + 1)
-  unfolding twoAlike
-  pair-seek d h = record { full = p.full; same = p.same ∙ ap (twoAlike alike) (first-at xs n i d p.full h) }
+  pub pair_seek : (d : F) → i < n → Seeking (alike (get_or xs i d)) xs n (two_alike alike (drop (i + 1) (take n xs))) (two_alike alike (take n xs)) (i + 1)
+  unfolding two_alike
+  pair_seek d h = record { full = p.full; same = p.same ∙ ap (two_alike alike) (first_at xs n i d p.full h) }
 
   -- past the last there is no pair
-  pub pair_end : n ≤ i → false ≡ twoAlike alike (take n xs)
-  unfolding twoAlike
-  pair_end h = sym (p.same ∙ ap (twoAlike alike) (first_past xs n i h))
+  pub pair_end : n ≤ i → false ≡ two_alike alike (take n xs)
+  unfolding two_alike
+  pair_end h = sym (p.same ∙ ap (two_alike alike) (first_past xs n i h))
 
 -- where that loop is over, the turn at the next is due
-pub pair-next : {F : Type 0} {alike : F → F → Bool} {t : F → Bool} {xs : List F} {n i j : ℕ}
-    → Seeking t xs n (twoAlike alike (drop i (take n xs))) (twoAlike alike (take n xs)) j → n ≤ j → Pairing alike xs n i
-pair-next s h = record { full = s.full; same = seek-end s h }
+pub pair_next : {F : Type 0} {alike : F → F → Bool} {t : F → Bool} {xs : List F} {n i j : ℕ}
+    → Seeking t xs n (two_alike alike (drop i (take n xs))) (two_alike alike (take n xs)) j → n ≤ j → Pairing alike xs n i
+pair_next s h = record { full = s.full; same = seek_end s h }

@@ -4,61 +4,61 @@ use Rattle.std.proofs.Common.{sym, ap, ap₂, ◌∙◌, arith, ne_eqb, ltb-fals
 use Rattle.std.proofs.Math.Decide.{dec_lt}
 use Rattle.std.proofs.lemmas.Bool.{eqb-false, lt-leb}
 use Rattle.marks.specs.declared.Judgement.{Judgement}
-use Rattle.marks.specs.Answers.{refusalOf, First, NoneHolds, refused, accepted}
-use Rattle.marks.specs.AnswerLaws.{none-refuses, judged-passed, judged-refused, or-false}
+use Rattle.marks.specs.Answers.{refusal_of, First, NoneHolds, refused, accepted}
+use Rattle.marks.specs.AnswerLaws.{none_refuses, judged_passed, judged_refused, or_false}
 use Rattle.factor.specs.declared.Factor.{Factor}
-use Rattle.factor.specs.Precision.{leastOf, most_of}
+use Rattle.factor.specs.Precision.{least_of, most_of}
 use Rattle.factor.specs.SetUp.{Sound}
 use Rattle.calls.specs.Engine.{fresh}
-use Rattle.calls.specs.Call.{newState}
-use Rattle.calls.specs.Kit.{Kit, inKit, placeSize, position, firstIn, has_at, hasIn}
-use Rattle.calls.specs.KitLaws.{place_of, significand-of, all-at, none_of}
+use Rattle.calls.specs.Call.{new_state}
+use Rattle.calls.specs.Kit.{Kit, in_kit, place_size, position, first_in, has_at, has_in}
+use Rattle.calls.proofs.KitLaws.{place_of, significand_of_lem, all_at, none_of}
 use Rattle.kit.specs.declared.Kit as code
 use Rattle.kit.specs.declared.KitState.{KitState}
 use Rattle.kit.specs.Engine.{faulty, factors, kits}
-use Rattle.kit.specs.Answers.{kitOf, noFactor, view_of, newOf, told, verdictOf}
-use Rattle.kit.specs.EngineLaws.{passed-sound}
-use Rattle.kit.specs.LoopLaws.{first-at, first_past}
+use Rattle.kit.specs.Answers.{kit_of, no_factor, view_of, new_of, told, verdict_of}
+use Rattle.kit.specs.EngineLaws.{passed_sound}
+use Rattle.kit.specs.LoopLaws.{first_at, first_past}
 
 -- ---- 42
 -- none of an array with places counts exactly if the number is 0
-none-taken : {F : Type 0} (xs : List F) (n : ℕ) → 0 < length xs → eqb n 0 ≡ eqb (length (take n xs)) 0
-none-taken xs zero h = refl
-none-taken [] (suc n) h = absurd (omega arith)
-none-taken (x ∷ xs) (suc n) h = ne_eqb (suc n) 0 (λ q. omega arith) ∙ sym (ne_eqb (suc (length (take n xs))) 0 (λ q. omega arith))
+none_taken : {F : Type 0} (xs : List F) (n : ℕ) → 0 < length xs → eqb n 0 ≡ eqb (length (take n xs)) 0
+none_taken xs zero h = refl
+none_taken [] (suc n) h = absurd (omega arith)
+none_taken (x ∷ xs) (suc n) h = ne_eqb (suc n) 0 (λ q. omega arith) ∙ sym (ne_eqb (suc (length (take n xs))) 0 (λ q. omega arith))
 
 -- so the number tells whether the kit is empty
-pub number-out : {F : Type 0} (k : Kit F) → 0 < length k.factors → eqb k.count 0 || ltb 96 k.count ≡ eqb (length (inKit k)) 0 || ltb 96 k.count
-number-out k h = ap (λ (b : Bool). b || ltb 96 k.count) (none-taken k.factors k.count h)
+pub number_out : {F : Type 0} (k : Kit F) → 0 < length k.factors → eqb k.count 0 || ltb 96 k.count ≡ eqb (length (in_kit k)) 0 || ltb 96 k.count
+number_out k h = ap (λ (b : Bool). b || ltb 96 k.count) (none_taken k.factors k.count h)
 
 -- ---- a kit that is not refused, in an array of 96 places
-module _ (k : Kit Factor) (long : length k.factors ≡ 96) (good : NoneHolds (kits.newFaults k)) where
+module _ (k : Kit Factor) (long : length k.factors ≡ 96) (good : NoneHolds (kits.new_faults k)) where
   -- its number
-  pub number-few : k.count ≤ 96
-  number-few = ltb-false 96 k.count (or-false (eqb (length (inKit k)) 0) (ltb 96 k.count) good.0).1
+  pub number_few : k.count ≤ 96
+  number_few = ltb-false 96 k.count (or_false (eqb (length (in_kit k)) 0) (ltb 96 k.count) good.0).1
 
-  pub number-some : 0 < k.count
-  number-some = omega (arith, length-take k.count k.factors, eqb-false (length (inKit k)) 0 (or-false (eqb (length (inKit k)) 0) (ltb 96 k.count) good.0).0)
+  pub number_some : 0 < k.count
+  number_some = omega (arith, length-take k.count k.factors, eqb-false (length (in_kit k)) 0 (or_false (eqb (length (in_kit k)) 0) (ltb 96 k.count) good.0).0)
 
   -- the factor at a place, and those past it
-  pub factor-at : (i : ℕ) → i < k.count → drop i (inKit k) ≡ get_or k.factors i noFactor ∷ drop (i + 1) (inKit k)
-  factor-at i h = first-at k.factors k.count i noFactor (omega (arith, number-few)) h
+  pub factor_at : (i : ℕ) → i < k.count → drop i (in_kit k) ≡ get_or k.factors i no_factor ∷ drop (i + 1) (in_kit k)
+  factor_at i h = first_at k.factors k.count i no_factor (omega (arith, number_few)) h
 
   -- each factor is sound
-  pub sound-at : (i : ℕ) → i < k.count → Sound (get_or k.factors i noFactor)
-  sound-at i h =
-      let f = get_or k.factors i noFactor in
-      passed-sound f (all-at (λ f. faulty f ≡ false) i (inKit k) (drop (i + 1) (inKit k)) f (none_of faulty (inKit k) good.1.0) (factor-at i h))
+  pub sound_at : (i : ℕ) → i < k.count → Sound (get_or k.factors i no_factor)
+  sound_at i h =
+      let f = get_or k.factors i no_factor in
+      passed_sound f (all_at (λ f. faulty f ≡ false) i (in_kit k) (drop (i + 1) (in_kit k)) f (none_of faulty (in_kit k) good.1.0) (factor_at i h))
 
 -- ---- 32
 -- a position of a kit, by its place and its significand
-has-at : (k : Kit Factor) (i X : ℕ) → X < placeSize → hasIn factors k (position i X) ≡ has_at factors (drop i (inKit k)) X
-unfolding hasIn
-has-at k i X short = ap₂ (λ (j Y : ℕ). has_at factors (drop j (inKit k)) Y) (place_of i X short) (significand-of i X short)
+has_at_lem : (k : Kit Factor) (i X : ℕ) → X < place_size → has_in factors k (position i X) ≡ has_at factors (drop i (in_kit k)) X
+unfolding has_in
+has_at_lem k i X short = ap₂ (λ (j Y : ℕ). has_at factors (drop j (in_kit k)) Y) (place_of i X short) (significand_of_lem i X short)
 
 -- past the number there is no factor
-pub out-past : (k : Kit Factor) (i X : ℕ) → X < placeSize → k.count ≤ i → true ≡ not (hasIn factors k (position i X))
-out-past k i X short h = sym (ap not (has-at k i X short ∙ ap (λ (l : List Factor). has_at factors l X) (first_past k.factors k.count i h)))
+pub out_past : (k : Kit Factor) (i X : ℕ) → X < place_size → k.count ≤ i → true ≡ not (has_in factors k (position i X))
+out_past k i X short h = sym (ap not (has_at_lem k i X short ∙ ap (λ (l : List Factor). has_at factors l X) (first_past k.factors k.count i h)))
 
 -- not at most is above
 above : (m X : ℕ) → ltb m X ≡ not (leb X m)
@@ -69,47 +69,47 @@ above m X = go (dec_lt m X)
     go (no h) = rw (le-ltb m X (omega arith), le-leb X m (omega arith))
 
 -- a place with a factor: its significands
-module _ (k : Kit Factor) (long : length k.factors ≡ 96) (good : NoneHolds (kits.newFaults k)) (i X : ℕ) (short : X < placeSize) (at : i < k.count) where
+module _ (k : Kit Factor) (long : length k.factors ≡ 96) (good : NoneHolds (kits.new_faults k)) (i X : ℕ) (short : X < place_size) (at : i < k.count) where
   abbrev bits : ℕ
-  bits = (get_or k.factors i noFactor).precision.bits
+  bits = (get_or k.factors i no_factor).precision.bits
 
-  out-is : not (hasIn factors k (position i X)) ≡ not (leb (leastOf bits) X && leb X (most_of bits))
-  out-is = ap not (has-at k i X short ∙ ap (λ (l : List Factor). has_at factors l X) (factor-at k long good i at))
+  out_is : not (has_in factors k (position i X)) ≡ not (leb (least_of bits) X && leb X (most_of bits))
+  out_is = ap not (has_at_lem k i X short ∙ ap (λ (l : List Factor). has_at factors l X) (factor_at k long good i at))
 
   -- below the least
-  pub out_below : X < leastOf bits → true ≡ not (hasIn factors k (position i X))
-  out_below h = sym (out-is ∙ ap (λ (b : Bool). not (b && leb X (most_of bits))) (lt-leb (leastOf bits) X h))
+  pub out_below : X < least_of bits → true ≡ not (has_in factors k (position i X))
+  out_below h = sym (out_is ∙ ap (λ (b : Bool). not (b && leb X (most_of bits))) (lt-leb (least_of bits) X h))
 
   -- from the least on, what lies above the largest
-  pub out-above : leastOf bits ≤ X → ltb (most_of bits) X ≡ not (hasIn factors k (position i X))
-  out-above h = sym (out-is ∙ ap (λ (b : Bool). not (b && leb X (most_of bits))) (le-leb (leastOf bits) X h) ∙ sym (above (most_of bits) X))
+  pub out_above : least_of bits ≤ X → ltb (most_of bits) X ≡ not (has_in factors k (position i X))
+  out_above h = sym (out_is ∙ ap (λ (b : Bool). not (b && leb X (most_of bits))) (le-leb (least_of bits) X h) ∙ sym (above (most_of bits) X))
 
 -- ---- new states
 -- a kit that is not refused begins at its first factor's least significand
-first-is : (k : Kit Factor) → length k.factors ≡ 96 → NoneHolds (kits.newFaults k) → position 0 (leastOf (get_or k.factors 0 noFactor).precision.bits) ≡ kits.first k
-first-is k long good = ap (λ (l : List Factor). position 0 (firstIn factors l)) (sym (factor-at k long good 0 (number-some k long good)))
+first_is : (k : Kit Factor) → length k.factors ≡ 96 → NoneHolds (kits.new_faults k) → position 0 (least_of (get_or k.factors 0 no_factor).precision.bits) ≡ kits.first k
+first_is k long good = ap (λ (l : List Factor). position 0 (first_in factors l)) (sym (factor_at k long good 0 (number_some k long good)))
 
-module _ (k : code.Kit) {v : Judgement} (is : First (kits.newFaults (kitOf k)) (refusalOf v)) where
+module _ (k : code.Kit) {v : Judgement} (is : First (kits.new_faults (kit_of k)) (refusal_of v)) where
   -- a refused kit has no state, whatever stands beside the refusal
-  pub new-refused : {n : ℕ} (s : KitState) → v ≡ Judgement.Refused n → newOf (record { state = s; judgement = v }) ≡ newState kits (kitOf k)
-  new-refused s e = ap (λ (v : Judgement). newOf (record { state = s; judgement = v })) e ∙ judged-refused is e (fresh kits (kitOf k))
+  pub new_refused : {n : ℕ} (s : KitState) → v ≡ Judgement.Refused n → new_of (record { state = s; judgement = v }) ≡ new_state kits (kit_of k)
+  new_refused s e = ap (λ (v : Judgement). new_of (record { state = s; judgement = v })) e ∙ judged_refused is e (fresh kits (kit_of k))
 
   -- one that is not has the state at its first significand
-  pub new-passed : {X : ℕ} → length k.factors ≡ 96 → v ≡ Judgement.Passed → X ≡ leastOf (get_or k.factors 0 noFactor).precision.bits
-      → newOf (record { state = record { kit = k; place = 0; next = X; finished = false }; judgement = v }) ≡ newState kits (kitOf k)
-  new-passed {X} long e least =
-      let good = judged-passed is e in
-      ap (λ (v : Judgement). newOf (record { state = record { kit = k; place = 0; next = X; finished = false }; judgement = v })) e
-      ∙ ap (λ (z : ℕ). accepted (record { over = kitOf k; next = z; finished = false })) (ap (position 0) least ∙ first-is (kitOf k) long good)
-      ∙ sym (none-refuses (kits.newFaults (kitOf k)) (fresh kits (kitOf k)) good)
+  pub new_passed : {X : ℕ} → length k.factors ≡ 96 → v ≡ Judgement.Passed → X ≡ least_of (get_or k.factors 0 no_factor).precision.bits
+      → new_of (record { state = record { kit = k; place = 0; next = X; finished = false }; judgement = v }) ≡ new_state kits (kit_of k)
+  new_passed {X} long e least =
+      let good = judged_passed is e in
+      ap (λ (v : Judgement). new_of (record { state = record { kit = k; place = 0; next = X; finished = false }; judgement = v })) e
+      ∙ ap (λ (z : ℕ). accepted (record { over = kit_of k; next = z; finished = false })) (ap (position 0) least ∙ first_is (kit_of k) long good)
+      ∙ sym (none_refuses (kits.new_faults (kit_of k)) (fresh kits (kit_of k)) good)
 
 -- ---- verdicts
 -- of a state that is refused
-pub verdict-refused : {v : Judgement} {n : ℕ} (s : KitState) (entries : ℕ) → First (kits.faults (view_of s)) (refusalOf v) → v ≡ Judgement.Refused n → refused n ≡ verdictOf (view_of s) entries
-unfolding verdictOf
-verdict-refused s entries is e = judged-refused is e (told s.finished entries)
+pub verdict_refused : {v : Judgement} {n : ℕ} (s : KitState) (entries : ℕ) → First (kits.faults (view_of s)) (refusal_of v) → v ≡ Judgement.Refused n → refused n ≡ verdict_of (view_of s) entries
+unfolding verdict_of
+verdict_refused s entries is e = judged_refused is e (told s.finished entries)
 
 -- of one that is not: by its finished mark and the entries
-pub verdict-told : {finished : Bool} (s : KitState) (entries : ℕ) → NoneHolds (kits.faults (view_of s)) → s.finished ≡ finished → accepted (told finished entries) ≡ verdictOf (view_of s) entries
-unfolding verdictOf
-verdict-told s entries good e = ap (λ (b : Bool). accepted (told b entries)) (sym e) ∙ sym (none-refuses (kits.faults (view_of s)) (told s.finished entries) good)
+pub verdict_told : {finished : Bool} (s : KitState) (entries : ℕ) → NoneHolds (kits.faults (view_of s)) → s.finished ≡ finished → accepted (told finished entries) ≡ verdict_of (view_of s) entries
+unfolding verdict_of
+verdict_told s entries good e = ap (λ (b : Bool). accepted (told b entries)) (sym e) ∙ sym (none_refuses (kits.faults (view_of s)) (told s.finished entries) good)

@@ -1,14 +1,14 @@
 // Kits: up to 96 factors, swept one after another in calls of bounded work, with one cap and one list (request W6).
 ghost use Rattle.std.specs.Prelude.{◌≡◌, not, ◌-◌, ◌*◌, ◌^◌, ◌≤◌, ◌<◌, ltb, length};
-ghost use Rattle.wide.specs.Value.{wordBits};
-ghost use Rattle.marks.specs.Answers.{refusalOf, First, NoneHolds};
+ghost use Rattle.wide.specs.Value.{word_bits};
+ghost use Rattle.marks.specs.Answers.{refusal_of, First, NoneHolds};
 ghost use Rattle.factor.specs.Precision.{ValidPrecision};
-ghost use Rattle.calls.specs.Call.{newState, conditions, sweepCall};
-ghost use Rattle.calls.specs.Kit.{inKit, any_of, twoAlike, kitFaults, position, hasIn};
-ghost use Rattle.sweep.specs.Answers.{call_of, termsBy};
+ghost use Rattle.calls.specs.Call.{new_state, conditions, sweep_call};
+ghost use Rattle.calls.specs.Kit.{in_kit, any_of, two_alike, kit_faults, position, has_in};
+ghost use Rattle.sweep.specs.Answers.{call_of, terms_by};
 ghost use Rattle.kit.specs.Engine.{faulty, alike, factors, kits};
-ghost use Rattle.kit.specs.Answers.{kitOf, view_of, newOf, BesideRefusal, replyOf, verdictSays, verdictOf};
-ghost use Rattle.kit.specs.Steps.{part_of, passedOn, endedAt, end_of, Taken};
+ghost use Rattle.kit.specs.Answers.{kit_of, view_of, new_of, BesideRefusal, reply_of, verdict_says, verdict_of};
+ghost use Rattle.kit.specs.Steps.{part_of, passed_on, ended_at, end_of, Taken};
 
 use factor::{Factor, Precision};
 use marks::Judgement;
@@ -49,7 +49,7 @@ fn is_alike(f: Factor, g: Factor) -> bool
 // Whether 31 refuses a factor of a kit.
 fn any_faulty(k: Kit) -> bool
     requires { k.count ≤ 96 }
-    ensures { result ≡ any_of faulty (inKit (kitOf k)) }
+    ensures { result ≡ any_of faulty (in_kit (kit_of k)) }
 {
     let mut at = 0;
     while at < k.count {
@@ -65,7 +65,7 @@ fn any_faulty(k: Kit) -> bool
 // Whether two factors of a kit are alike.
 fn two_alike(k: Kit) -> bool
     requires { k.count ≤ 96 }
-    ensures { result ≡ twoAlike alike (inKit (kitOf k)) }
+    ensures { result ≡ two_alike alike (in_kit (kit_of k)) }
 {
     let mut i = 0;
     while i < k.count {
@@ -85,7 +85,7 @@ fn two_alike(k: Kit) -> bool
 
 // The check of a kit: 42 by its number, then 31, then 43.
 pub fn kit_check(k: Kit) -> Judgement
-    ensures { First (kitFaults faulty alike (kitOf k)) (refusalOf result) }
+    ensures { First (kit_faults faulty alike (kit_of k)) (refusal_of result) }
 {
     if (k.count == 0) | (MOST_FACTORS < k.count) {
         return Judgement::Refused(42);
@@ -154,8 +154,8 @@ fn part_of(f: Factor, next: u64) -> SweepState
 
 // Refusal 32: no factor is at the place, or the next significand lies outside its significands.
 fn place_out(s: KitState) -> bool
-    requires { NoneHolds (kits.newFaults (kitOf s.kit)) }
-    ensures { result ≡ not (hasIn factors (kitOf s.kit) (position s.place s.next)) }
+    requires { NoneHolds (kits.new_faults (kit_of s.kit)) }
+    ensures { result ≡ not (has_in factors (kit_of s.kit) (position s.place s.next)) }
 {
     let k = s.kit;
     let i = s.place;
@@ -172,7 +172,7 @@ fn place_out(s: KitState) -> bool
 
 // The first refusal of a state whose condition holds: 42, 31 and 43 of its kit, then 32.
 fn state_check(s: KitState) -> Judgement
-    ensures { First (kits.faults (view_of s)) (refusalOf result) }
+    ensures { First (kits.faults (view_of s)) (refusal_of result) }
 {
     let k = s.kit;
     match kit_check(k) {
@@ -198,7 +198,7 @@ fn too_few(size: usize, free: usize) -> bool
 
 // The first refusal of a call whose condition holds: the state's, then 33, 18 and 44.
 fn refusal_of(s: KitState, cap: u64, size: usize, free: usize) -> Judgement
-    ensures { First (conditions kits (view_of s) (termsBy cap size free)) (refusalOf result) }
+    ensures { First (conditions kits (view_of s) (terms_by cap size free)) (refusal_of result) }
 {
     match state_check(s) {
         Judgement::Refused(number) => Judgement::Refused(number),
@@ -219,7 +219,7 @@ fn refusal_of(s: KitState, cap: u64, size: usize, free: usize) -> Judgement
 
 // The call goes on past a factor where no suspect is left in it and the kit has another.
 fn goes_on(left: Place, more: bool) -> bool
-    ensures { result ≡ passedOn left more }
+    ensures { result ≡ passed_on left more }
 {
     match left {
         Place::At(_) => false,
@@ -240,8 +240,8 @@ struct Halt {
 
 // What the call comes to that ended in a factor.
 fn ended(at: usize, part: SweepState, w: Work) -> Halt
-    requires { 2 * w.place < 2 ^ wordBits }
-    ensures { result ≡ endedAt at part.last w }
+    requires { 2 * w.place < 2 ^ word_bits }
+    ensures { result ≡ ended_at at part.last w }
 {
     let place = 2 * w.place;
     let left = w.left;
@@ -268,7 +268,7 @@ fn ended(at: usize, part: SweepState, w: Work) -> Halt
 // The steps of an accepted call, factor by factor, which write into the tail that is lent to them, two words an entry, from its first place on.
 fn sweep_on(s: KitState, cap: u64, tail: &mut [u32]) -> Halt
     requires { Taken s cap (length tail.old) }
-    ensures { (end_of s result tail.new ≡ sweepCall kits (view_of s) (call_of cap tail.old 0)) × (result.place ≤ length tail.old) }
+    ensures { (end_of s result tail.new ≡ sweep_call kits (view_of s) (call_of cap tail.old 0)) × (result.place ≤ length tail.old) }
 {
     let k = s.kit;
     let room = tail.len() / 2;
@@ -291,7 +291,7 @@ fn sweep_on(s: KitState, cap: u64, tail: &mut [u32]) -> Halt
 
 // A kit call: the state handed back, and trials, rounds and the next first free place, or a refusal with the state as given. Only the free tail of the list is lent on.
 pub fn kit_call(state: KitState, cap: u64, list: &mut [u32], free: usize) -> KitReply
-    ensures { replyOf result list.new ≡ sweepCall kits (view_of state) (call_of cap list.old free) }
+    ensures { reply_of result list.new ≡ sweep_call kits (view_of state) (call_of cap list.old free) }
 {
     let size = list.len();
     match refusal_of(state, cap, size, free) {
@@ -320,7 +320,7 @@ pub fn kit_call(state: KitState, cap: u64, list: &mut [u32], free: usize) -> Kit
 
 // A new kit sweep: 42, 31, 43, or the state at place 0 and that factor's first significand.
 pub fn new_state(k: Kit) -> NewKitSweep
-    ensures { (newOf result ≡ newState kits (kitOf k)) × BesideRefusal k result }
+    ensures { (new_of result ≡ new_state kits (kit_of k)) × BesideRefusal k result }
 {
     let judgement = kit_check(k);
     let mut state = KitState {
@@ -343,7 +343,7 @@ pub fn new_state(k: Kit) -> NewKitSweep
 // Whether a kit is clean, by its state and how many entries its calls wrote since the new one: told of a finished state only. The caller vouches that the state and the number are those of calls from a
 // new state, as no state holds what was listed before.
 pub fn kit_verdict(state: KitState, entries: u64) -> Verdict
-    ensures { verdictSays result ≡ verdictOf (view_of state) entries }
+    ensures { verdict_says result ≡ verdict_of (view_of state) entries }
 {
     match state_check(state) {
         Judgement::Refused(number) => Verdict::Refused(number),

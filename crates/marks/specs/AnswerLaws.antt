@@ -3,7 +3,7 @@ use Rattle.std.specs.Prelude.{◌≡◌, refl, Bool, true, false, cond, ◌&&◌
 use Rattle.std.proofs.Common.{sym, ap, ◌∙◌, true≢false, append-nil, arith}
 use Rattle.marks.specs.declared.Mark.{Mark}
 use Rattle.marks.specs.declared.Judgement.{Judgement}
-use Rattle.marks.specs.Answers.{Refusal, number, none, judged, refusalOf, First, NoneHolds, Outcome, refused, accepted, unless, answer, each, Marked}
+use Rattle.marks.specs.Answers.{Refusal, number, none, judged, refusal_of, First, NoneHolds, Outcome, refused, accepted, unless, answer, each, Marked}
 
 -- ---- from the tests to the refusal
 -- a condition that does not hold is passed over
@@ -26,14 +26,14 @@ pub pass_all : (k l : List (ℕ × Bool)) → NoneHolds k → judged (k ++ l) �
 pass_all [] l h = refl
 pass_all (t ∷ k) l h = (pass h.0 (record { is = pass_all k l h.1 })).is
 
-pub pass-first : {v : Refusal} (k l : List (ℕ × Bool)) → NoneHolds k → First l v → First (k ++ l) v
-pass-first k l h r = record { is = pass_all k l h ∙ r.is }
+pub pass_first : {v : Refusal} (k l : List (ℕ × Bool)) → NoneHolds k → First l v → First (k ++ l) v
+pass_first k l h r = record { is = pass_all k l h ∙ r.is }
 
 -- a refusal by the first conditions is that of all
-pub stop-first : {n : ℕ} (k l : List (ℕ × Bool)) → First k (number n) → First (k ++ l) (number n)
+pub stop_first : {n : ℕ} (k l : List (ℕ × Bool)) → First k (number n) → First (k ++ l) (number n)
 unfolding judged
-stop-first {n} [] l r = let q = r.is in let z : ◌≡◌ {A = ℕ} 0 1 = cc in absurd (omega arith)
-stop-first {n} (t ∷ k) l r = record { is = go t.1 r.is (λ q. (stop-first k l (record { is = q })).is) }
+stop_first {n} [] l r = let q = r.is in let z : ◌≡◌ {A = ℕ} 0 1 = cc in absurd (omega arith)
+stop_first {n} (t ∷ k) l r = record { is = go t.1 r.is (λ q. (stop_first k l (record { is = q })).is) }
   where
     go : (b : Bool) → cond b (number t.0) (judged k) ≡ number n → (judged k ≡ number n → judged (k ++ l) ≡ number n) → cond b (number t.0) (judged (k ++ l)) ≡ number n
     go true q ih = q
@@ -49,20 +49,20 @@ unfolding answer
 accepts q a = sym (ap (λ (v : Refusal). unless v a) q.is)
 
 -- where no condition holds, the value is the answer
-pub none-refuses : {A : Type 0} (l : List (ℕ × Bool)) (a : A) → NoneHolds l → answer l a ≡ accepted a
+pub none_refuses : {A : Type 0} (l : List (ℕ × Bool)) (a : A) → NoneHolds l → answer l a ≡ accepted a
 unfolding answer judged
-none-refuses [] a h = refl
-none-refuses (t ∷ l) a h = rw h.0 (none-refuses l a h.1)
+none_refuses [] a h = refl
+none_refuses (t ∷ l) a h = rw h.0 (none_refuses l a h.1)
 
 -- where none of a list holds, the rest answers
-pub rest-answers : {A : Type 0} (k l : List (ℕ × Bool)) → NoneHolds k → (a : A) → answer (k ++ l) a ≡ answer l a
+pub rest_answers : {A : Type 0} (k l : List (ℕ × Bool)) → NoneHolds k → (a : A) → answer (k ++ l) a ≡ answer l a
 unfolding answer
-rest-answers k l h a = ap (λ (v : Refusal). unless v a) (pass_all k l h)
+rest_answers k l h a = ap (λ (v : Refusal). unless v a) (pass_all k l h)
 
 -- what a value is changed to is answered under the same conditions
-pub answer-each : {A B : Type 0} (g : A → B) (l : List (ℕ × Bool)) (a : A) → answer l (g a) ≡ each g (answer l a)
+pub answer_each : {A B : Type 0} (g : A → B) (l : List (ℕ × Bool)) (a : A) → answer l (g a) ≡ each g (answer l a)
 unfolding answer
-answer-each g l a = go (judged l)
+answer_each g l a = go (judged l)
   where
     go : (r : Refusal) → unless r (g a) ≡ each g (unless r a)
     go (number k) = refl
@@ -70,10 +70,10 @@ answer-each g l a = go (judged l)
 
 -- ---- from the refusal to the tests
 -- where there is none, none of the first conditions holds, and none of the rest refuses
-pub judged-none : (k l : List (ℕ × Bool)) → judged (k ++ l) ≡ none → NoneHolds k × (judged l ≡ none)
+pub judged_none : (k l : List (ℕ × Bool)) → judged (k ++ l) ≡ none → NoneHolds k × (judged l ≡ none)
 unfolding judged
-judged-none [] l q = (tt, q)
-judged-none (t ∷ k) l q = go t.1 refl q (judged-none k l)
+judged_none [] l q = (tt, q)
+judged_none (t ∷ k) l q = go t.1 refl q (judged_none k l)
   where
     go : (b : Bool) → t.1 ≡ b → cond b (number t.0) (judged (k ++ l)) ≡ none → (judged (k ++ l) ≡ none → NoneHolds k × (judged l ≡ none))
         → NoneHolds (t ∷ k) × (judged l ≡ none)
@@ -81,19 +81,19 @@ judged-none (t ∷ k) l q = go t.1 refl q (judged-none k l)
     go false i q ih = let r = ih q in ((i, r.0), r.1)
 
 -- where there is none, no condition holds
-pub none-holds : (l : List (ℕ × Bool)) → judged l ≡ none → NoneHolds l
-none-holds l q = (judged-none l [] (ap judged (append-nil l) ∙ q)).0
+pub none_holds : (l : List (ℕ × Bool)) → judged l ≡ none → NoneHolds l
+none_holds l q = (judged_none l [] (ap judged (append-nil l) ∙ q)).0
 
 -- ---- a judgement, as code has it
-module _ {l : List (ℕ × Bool)} {v : Judgement} (is : First l (refusalOf v)) where
-  pub judged-passed : v ≡ Judgement.Passed → NoneHolds l
-  judged-passed e = none-holds l (is.is ∙ ap refusalOf e)
+module _ {l : List (ℕ × Bool)} {v : Judgement} (is : First l (refusal_of v)) where
+  pub judged_passed : v ≡ Judgement.Passed → NoneHolds l
+  judged_passed e = none_holds l (is.is ∙ ap refusal_of e)
 
-  pub judged-number : {n : ℕ} → v ≡ Judgement.Refused n → First l (number n)
-  judged-number e = record { is = is.is ∙ ap refusalOf e }
+  pub judged_number : {n : ℕ} → v ≡ Judgement.Refused n → First l (number n)
+  judged_number e = record { is = is.is ∙ ap refusal_of e }
 
-  pub judged-refused : {A : Type 0} {n : ℕ} → v ≡ Judgement.Refused n → (a : A) → refused n ≡ answer l a
-  judged-refused e a = refuses (judged-number e) a
+  pub judged_refused : {A : Type 0} {n : ℕ} → v ≡ Judgement.Refused n → (a : A) → refused n ≡ answer l a
+  judged_refused e a = refuses (judged_number e) a
 
 -- none of two lists holds
 pub none_apart : (k l : List (ℕ × Bool)) → NoneHolds (k ++ l) → NoneHolds k × NoneHolds l
@@ -102,47 +102,47 @@ none_apart (t ∷ k) l h = let r = none_apart k l h.1 in ((h.0, r.0), r.1)
 
 -- ---- from the answer to the tests
 -- what holds of every refusal, and of the value where no condition holds, holds of the answer
-pub of-answer : {A : Type 0} (P : Outcome A → Type 0) (l : List (ℕ × Bool)) (a : A) → ((n : ℕ) → P (refused n)) → (NoneHolds l → P (accepted a)) → P (answer l a)
+pub of_answer : {A : Type 0} (P : Outcome A → Type 0) (l : List (ℕ × Bool)) (a : A) → ((n : ℕ) → P (refused n)) → (NoneHolds l → P (accepted a)) → P (answer l a)
 unfolding answer judged
-of-answer {A} P [] a out through = through tt
-of-answer {A} P (t ∷ l) a out through = go t.1 refl (λ h. of-answer P l a out h)
+of_answer {A} P [] a out through = through tt
+of_answer {A} P (t ∷ l) a out through = go t.1 refl (λ h. of_answer P l a out h)
   where
     go : (b : Bool) → t.1 ≡ b → ((NoneHolds l → P (accepted a)) → P (answer l a)) → P (unless (cond b (number t.0) (judged l)) a)
     go true i ih = out t.0
     go false i ih = ih (λ h. through (i, h))
 
 -- an accepted value is the answer's own, and no condition holds
-pub only-accepted : {A : Type 0} (l : List (ℕ × Bool)) (a b : A) → answer l a ≡ accepted b → NoneHolds l × (a ≡ b)
-only-accepted {A} l a b =
-    of-answer (λ (o : Outcome A). o ≡ accepted b → NoneHolds l × (a ≡ b)) l a (λ n q. let z : ◌≡◌ {A = ℕ} 0 1 = cc in absurd (omega arith)) (λ h q. (h, cc))
+pub only_accepted : {A : Type 0} (l : List (ℕ × Bool)) (a b : A) → answer l a ≡ accepted b → NoneHolds l × (a ≡ b)
+only_accepted {A} l a b =
+    of_answer (λ (o : Outcome A). o ≡ accepted b → NoneHolds l × (a ≡ b)) l a (λ n q. let z : ◌≡◌ {A = ℕ} 0 1 = cc in absurd (omega arith)) (λ h q. (h, cc))
 
 -- where there is one condition, a refusal says that it holds
-pub only-refused : {A : Type 0} {k : ℕ} (n : ℕ) (b : Bool) (a : A) → refused k ≡ answer ((n, b) ∷ []) a → b ≡ true
+pub only_refused : {A : Type 0} {k : ℕ} (n : ℕ) (b : Bool) (a : A) → refused k ≡ answer ((n, b) ∷ []) a → b ≡ true
 unfolding answer judged
-only-refused n true a e = refl
-only-refused n false a e = let z : ◌≡◌ {A = ℕ} 0 1 = cc in absurd (omega arith)
+only_refused n true a e = refl
+only_refused n false a e = let z : ◌≡◌ {A = ℕ} 0 1 = cc in absurd (omega arith)
 
 -- a refusal that is answered is that of the first condition that holds
-refused-is : {A : Type 0} {n : ℕ} (r : Refusal) (a : A) → refused n ≡ unless r a → r ≡ number n
-refused-is {A} {n} (number k) a q = let e : k ≡ n = cc in ap number e
-refused-is {A} {n} none a q = let z : ◌≡◌ {A = ℕ} 0 1 = cc in absurd (omega arith)
+refused_is : {A : Type 0} {n : ℕ} (r : Refusal) (a : A) → refused n ≡ unless r a → r ≡ number n
+refused_is {A} {n} (number k) a q = let e : k ≡ n = cc in ap number e
+refused_is {A} {n} none a q = let z : ◌≡◌ {A = ℕ} 0 1 = cc in absurd (omega arith)
 
 -- a refusal by the first conditions is that of all, whatever the value
-pub refused-first : {A B : Type 0} (k l : List (ℕ × Bool)) (a : A) (b : B) (n : ℕ) → refused n ≡ answer k a → refused n ≡ answer (k ++ l) b
+pub refused_first : {A B : Type 0} (k l : List (ℕ × Bool)) (a : A) (b : B) (n : ℕ) → refused n ≡ answer k a → refused n ≡ answer (k ++ l) b
 unfolding answer
-refused-first k l a b n q = refuses (stop-first k l (record { is = refused-is (judged k) a q })) b
+refused_first k l a b n q = refuses (stop_first k l (record { is = refused_is (judged k) a q })) b
 
 -- ---- a value in the case of its mark
-pub of-mark : {A : Type 0} {m k : Mark} → m ≡ k → (a : A) → ◌≡◌ {A = Outcome (Marked A)} (accepted (record { mark = k; value = a })) (accepted (record { mark = m; value = a }))
-of-mark e a = ap (λ (k : Mark). accepted (record { mark = k; value = a })) (sym e)
+pub of_mark : {A : Type 0} {m k : Mark} → m ≡ k → (a : A) → ◌≡◌ {A = Outcome (Marked A)} (accepted (record { mark = k; value = a })) (accepted (record { mark = m; value = a }))
+of_mark e a = ap (λ (k : Mark). accepted (record { mark = k; value = a })) (sym e)
 
 -- ---- tests joined
 -- neither of two holds
-pub or-false : (a b : Bool) → a || b ≡ false → (a ≡ false) × (b ≡ false)
-or-false true b q = absurd (true≢false q)
-or-false false b q = (refl, q)
+pub or_false : (a b : Bool) → a || b ≡ false → (a ≡ false) × (b ≡ false)
+or_false true b q = absurd (true≢false q)
+or_false false b q = (refl, q)
 
 -- both of two hold
-pub and-true : (a b : Bool) → a && b ≡ true → (a ≡ true) × (b ≡ true)
-and-true true b e = (refl, e)
-and-true false b e = absurd (true≢false (sym e))
+pub and_true : (a b : Bool) → a && b ≡ true → (a ≡ true) × (b ≡ true)
+and_true true b e = (refl, e)
+and_true false b e = absurd (true≢false (sym e))

@@ -15,9 +15,9 @@ judged [] = none
 judged (t ∷ l) = cond t.1 (number t.0) (judged l)
 
 -- what a judgement says
-abbrev pub refusalOf : Judgement → Refusal
-refusalOf (Judgement.Refused n) = number n
-refusalOf Judgement.Passed = none
+abbrev pub refusal_of : Judgement → Refusal
+refusal_of (Judgement.Refused n) = number n
+refusal_of Judgement.Passed = none
 
 -- v is what the first condition that holds says
 pub record First (l : List (ℕ × Bool)) (v : Refusal) : Type 0 where

@@ -5,14 +5,3 @@ pub mod Marks
 pub mod Devices
 pub mod Answer
 pub mod Units
-pub mod ProductLaws
-pub mod Near
-pub mod StepLaws
-pub mod SoundLaws
-pub mod OneStepLaws
-pub mod DeviceLaws
-pub mod MarkLaws
-pub mod AnswerLaws
-pub mod Demand2
-pub mod OneStepTells
-pub mod DirectionTells

@@ -5,7 +5,7 @@ use Rattle.marks.specs.declared.Mark.TheVariants.{Right, Open, Wrong}
 use Rattle.marks.specs.Says.{Says}
 use Rattle.rounding.specs.Fraction.{Fraction, over, times, RN, Same, below, equal}
 use Rattle.factor.specs.declared.Factor.{Factor}
-use Rattle.factor.specs.Context.{Context, context_of, lowerOf, upperOf}
+use Rattle.factor.specs.Context.{Context, context_of, lower_of, upper_of}
 use Rattle.factor.specs.Ends.{Between}
 use Rattle.product.specs.declared.Product.{Product}
 use Rattle.product.specs.Product.{argument, value_of}
@@ -36,9 +36,9 @@ module _ (K : Context) where
 
 -- ---- of a factor, by its own context and ends
 -- the mark of a value by a factor's own precision and ends
-abbrev pub markBy : Factor → ℕ → Product → Mark
-markBy f X v = mark (context_of f) (lowerOf f) (upperOf f) X v
+abbrev pub mark_by : Factor → ℕ → Product → Mark
+mark_by f X v = mark (context_of f) (lower_of f) (upper_of f) X v
 
 -- between a factor's own ends
 abbrev pub SaysBy : Factor → ℕ → Product → Mark → Type 0
-SaysBy f X v m = SaysAt (context_of f) (lowerOf f) (upperOf f) X v m
+SaysBy f X v m = SaysAt (context_of f) (lower_of f) (upper_of f) X v m

@@ -36,23 +36,23 @@ module _ (K : Context) where
   second p X = RN rule n (fused p X)
 
   -- RN(y) of a y from 1 to below 4, as a significand of n bits and a binade: significand * 2 ^ binade / 2 ^ (n - 1)
-  unfoldable pub roundedProduct : Fraction → Product
+  unfoldable pub rounded_product : Fraction → Product
   unfolding rounded
-  roundedProduct y = let r = rounded rule n y.num y.den in record { significand = r.significand; binade = nat_abs (r.exponent +ℤ pos (n - 1)) }
+  rounded_product y = let r = rounded rule n y.num y.den in record { significand = r.significand; binade = nat_abs (r.exponent +ℤ pos (n - 1)) }
 
   -- u2 in this form
   unfoldable pub product : Parts → ℕ → Product
-  unfolding roundedProduct
-  product p X = roundedProduct (fused p X)
+  unfolding rounded_product
+  product p X = rounded_product (fused p X)
 
 -- the product of a factor, by its own precision and parts
-abbrev pub productBy : Factor → ℕ → Product
-productBy f X = product (context_of f) f.parts X
+abbrev pub product_by : Factor → ℕ → Product
+product_by f X = product (context_of f) f.parts X
 
 -- a product in steps of binade 0, which are 2 ^ (1 - n)
-abbrev pub stepsOf : Product → ℕ
-stepsOf v = v.significand * 2 ^ v.binade
+abbrev pub steps_of : Product → ℕ
+steps_of v = v.significand * 2 ^ v.binade
 
 -- and as a number
 abbrev pub value_of : (n : ℕ) → Product → Fraction
-value_of n v = over (stepsOf v) (n - 1)
+value_of n v = over (steps_of v) (n - 1)

@@ -9,40 +9,40 @@ use Rattle.rounding.specs.Round.{rounded}
 use Rattle.factor.specs.declared.Parts.{Parts}
 use Rattle.factor.specs.Context.{Context, Fine}
 use Rattle.factor.specs.Parts.{parts_at}
-use Rattle.factor.specs.UnitParts.{UnitParts, step, plusOrMinus}
+use Rattle.factor.specs.UnitParts.{UnitParts, step, plus_or_minus}
 use Rattle.factor.specs.Ends.{End}
 use Rattle.product.specs.declared.Product.{Product}
 use Rattle.product.specs.declared.DirectedProduct.{DirectedProduct}
 
 -- the mark of v by whole numbers: a and b are RN(L * x) and RN(U * x)
-abbrev pub markUnits : (a b v : ℕ) → Mark
-markUnits a b v = cond (ltb v a) Wrong (cond (ltb b v) Wrong (cond (eqb a v && eqb b v) Right Open))
+abbrev pub mark_units : (a b v : ℕ) → Mark
+mark_units a b v = cond (ltb v a) Wrong (cond (ltb b v) Wrong (cond (eqb a v && eqb b v) Right Open))
 
 module _ (K : Context) where
   open K use {rule, n, E}
 
   -- u1, its size
-  unfoldable pub firstUnits : UnitParts → ℕ → ℕ
-  firstUnits w X = rn rule n (w.low * X) 1
+  unfoldable pub first_units : UnitParts → ℕ → ℕ
+  first_units w X = rn rule n (w.low * X) 1
 
   -- Ch * x + u1
-  unfoldable pub fusedUnits : UnitParts → ℕ → ℕ
-  unfolding firstUnits
-  fusedUnits w X = plusOrMinus w.minus (w.high * step K * X) (firstUnits w X)
+  unfoldable pub fused_units : UnitParts → ℕ → ℕ
+  unfolding first_units
+  fused_units w X = plus_or_minus w.minus (w.high * step K * X) (first_units w X)
 
   -- u2
-  unfoldable pub secondUnits : UnitParts → ℕ → ℕ
-  unfolding fusedUnits
-  secondUnits w X = rn rule n (fusedUnits w X) 1
+  unfoldable pub second_units : UnitParts → ℕ → ℕ
+  unfolding fused_units
+  second_units w X = rn rule n (fused_units w X) 1
 
   -- RN of N units, for an N from 1 to below 4: in binade 0 just E digits are dropped
-  unfoldable pub roundedUnits : ℕ → Product
+  unfoldable pub rounded_units : ℕ → Product
   unfolding rounded
-  roundedUnits N = let r = rounded rule n N 1 in record { significand = r.significand; binade = nat_abs r.exponent - E }
+  rounded_units N = let r = rounded rule n N 1 in record { significand = r.significand; binade = nat_abs r.exponent - E }
 
   -- with the direction from N
-  abbrev pub directedUnits : ℕ → DirectedProduct
-  directedUnits N = record { product = roundedUnits N; direction = side_of (pos N) (pos (rn rule n N 1)) }
+  abbrev pub directed_units : ℕ → DirectedProduct
+  directed_units N = record { product = rounded_units N; direction = side_of (pos N) (pos (rn rule n N 1)) }
 
   -- N is from 1 to below 4, and so is what it rounds to
   pub record Within (N : ℕ) : Type 0 where
@@ -58,5 +58,5 @@ module _ (K : Context) where
     pub two : 2 ≤ n
     pub fine : Fine K
     pub end : ℕ
-    pub is-end : End K end
+    pub is_end : End K end
     pub parts : p ≡ parts_at K end

@@ -2,8 +2,8 @@
 ghost use Rattle.std.specs.Prelude.{◌≡◌};
 ghost use Rattle.rounding.specs.Round.{HasBits};
 ghost use Rattle.factor.specs.SetUp.{Sound};
-ghost use Rattle.quotient.specs.Quotient.{directedBy, signed_quotient, binadesBelow};
-ghost use Rattle.quotient.specs.Answer.{divided, outcomeOf};
+ghost use Rattle.quotient.specs.Quotient.{directed_by, signed_quotient, binades_below};
+ghost use Rattle.quotient.specs.Answer.{divided, outcome_of};
 
 use factor::Factor;
 use marks::Judgement;
@@ -40,7 +40,7 @@ pub enum QuotientAnswer {
 
 // How many binades below 1 a quotient of two significands lies: one where the first is the smaller.
 fn binades_below(x: u64, high: u64) -> u32
-    ensures { result ≡ binadesBelow x high }
+    ensures { result ≡ binades_below x high }
 {
     if x < high {
         return 1;
@@ -51,7 +51,7 @@ fn binades_below(x: u64, high: u64) -> u32
 // RN(x / Ch) and its direction, of a factor that was accepted and a significand in range. Below 1 it has one digit more behind the point, so that n digits come out of the one division.
 pub fn quotient_of(f: Factor, x: u64) -> DirectedQuotient
     requires { Sound f × HasBits f.precision.bits x }
-    ensures { result ≡ directedBy f x }
+    ensures { result ≡ directed_by f x }
 {
     let high = f.parts.high;
     let below = binades_below(x, high);
@@ -82,7 +82,7 @@ fn signed(minus: bool, v: DirectedQuotient) -> SignedQuotient
 
 // Divides a significand: the quotient with its sign, or refusal 31 for the factor, or 17 for the significand.
 pub fn divide(f: Factor, x: u64) -> QuotientAnswer
-    ensures { outcomeOf result ≡ divided f x }
+    ensures { outcome_of result ≡ divided f x }
 {
     match product::refusal_of(f, x) {
         Judgement::Refused(number) => QuotientAnswer::Refused(number),

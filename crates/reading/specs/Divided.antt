@@ -3,30 +3,30 @@ use Rattle.std.specs.Prelude.{ℕ, ℤ, ◌+ℤ◌, ◌-ℤ◌, Float}
 use Rattle.std.specs.Float.{binary32}
 use Rattle.std.specs.Float.Ieee.{to_bits}
 use Rattle.marks.specs.Answers.{Outcome}
-use Rattle.floats.specs.Fields.{significandOf, exponentOf}
+use Rattle.floats.specs.Fields.{significand_of, exponent_of}
 use Rattle.factor.specs.declared.Factor.{Factor}
 use Rattle.factor.specs.SetUp.{intact}
 use Rattle.quotient.specs.declared.Quotient.{Quotient}
 use Rattle.quotient.specs.declared.DirectedQuotient.{DirectedQuotient}
-use Rattle.quotient.specs.Quotient.{quotient, directedBy}
-use Rattle.reading.specs.Reading.{signWith, number_of, DirectedNumber, directedNumber, placed, directedZero, Made, answerTo}
+use Rattle.quotient.specs.Quotient.{quotient, directed_by}
+use Rattle.reading.specs.Reading.{sign_with, number_of, DirectedNumber, directed_number, placed, directed_zero, Made, answer_to}
 
 -- the exponent of a quotient: the reading's, plus the binade less k
-abbrev pub quotientExponent : Factor → ℕ → Quotient → ℤ
-quotientExponent f b v = exponentOf binary32 b +ℤ (v.binade -ℤ f.applied.scale)
+abbrev pub quotient_exponent : Factor → ℕ → Quotient → ℤ
+quotient_exponent f b v = exponent_of binary32 b +ℤ (v.binade -ℤ f.applied.scale)
 
 -- sign and exponent put on a quotient, unless 23 refuses it
-abbrev pub placedQuotient : Factor → ℕ → DirectedQuotient → Outcome DirectedNumber
-placedQuotient f b v = placed (signWith f b) v.quotient.significand (quotientExponent f b v.quotient) v.direction
+abbrev pub placed_quotient : Factor → ℕ → DirectedQuotient → Outcome DirectedNumber
+placed_quotient f b v = placed (sign_with f b) v.quotient.significand (quotient_exponent f b v.quotient) v.direction
 
 -- a zero gives a zero (request W3), any other reading the quotient, both with the quotient's sign, and no mark
 abbrev pub quotient_of : Factor → ℕ → Made DirectedNumber
 quotient_of f b =
-    let v = directedBy f (significandOf binary32 b) in
-    let e = quotientExponent f b v.quotient in
-    record { of_zero = directedZero (signWith f b); exponent = e; value = directedNumber (signWith f b) v.quotient.significand e v.direction }
+    let v = directed_by f (significand_of binary32 b) in
+    let e = quotient_exponent f b v.quotient in
+    record { of_zero = directed_zero (sign_with f b); exponent = e; value = directed_number (sign_with f b) v.quotient.significand e v.direction }
 
 -- the answer to a reading x
-unfoldable pub dividedReading : Factor → Float → Outcome DirectedNumber
+unfoldable pub divided_reading : Factor → Float → Outcome DirectedNumber
 unfolding intact quotient number_of
-dividedReading f x = let b = to_bits binary32 x in answerTo f b (quotient_of f b)
+divided_reading f x = let b = to_bits binary32 x in answer_to f b (quotient_of f b)

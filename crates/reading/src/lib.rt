@@ -4,14 +4,14 @@ ghost use Rattle.std.specs.Float.{binary32};
 ghost use Rattle.std.specs.Float.Ieee.{prec, to_bits};
 ghost use Rattle.marks.specs.Answers.{accepted, answer};
 ghost use Rattle.rounding.specs.Round.{HasBits};
-ghost use Rattle.floats.specs.Fields.{significandOf, exponentOf};
+ghost use Rattle.floats.specs.Fields.{significand_of, exponent_of};
 ghost use Rattle.factor.specs.Context.{context_of};
-ghost use Rattle.factor.specs.UnitParts.{unitPartsOf};
+ghost use Rattle.factor.specs.UnitParts.{unit_parts_of};
 ghost use Rattle.factor.specs.SetUp.{Sound};
 ghost use Rattle.product.specs.Devices.{directed_on};
-ghost use Rattle.product.specs.Units.{firstUnits};
-ghost use Rattle.reading.specs.Reading.{unreadable, kind_of, signWith, placed, finished, applied, outcomeOf, numberSays, taken_of};
-ghost use Rattle.reading.specs.Divided.{dividedReading};
+ghost use Rattle.product.specs.Units.{first_units};
+ghost use Rattle.reading.specs.Reading.{unreadable, kind_of, sign_with, placed, finished, applied, outcome_of, number_says, taken_of};
+ghost use Rattle.reading.specs.Divided.{divided_reading};
 
 use factor::Factor;
 use marks::Mark;
@@ -50,7 +50,7 @@ enum Taken {
 // u1 = RN(Cl * x): one binary32 multiplication on [1, 2).
 fn first_step(f: Factor, x: u32) -> u64
     requires { Sound f × (f.precision.bits ≡ prec binary32) × HasBits (prec binary32) x }
-    ensures { result ≡ firstUnits (context_of f) (unitPartsOf (context_of f) f.parts) x }
+    ensures { result ≡ first_units (context_of f) (unit_parts_of (context_of f) f.parts) x }
 {
     let low = f.applied.low;
     let p = f.precision;
@@ -61,7 +61,7 @@ fn first_step(f: Factor, x: u32) -> u64
 
 // A product in the case of its mark.
 fn answer(m: Mark, y: f32, d: Direction) -> ReadingAnswer
-    ensures { outcomeOf result ≡ accepted (record { mark = m; value = record { number = y; direction = d } }) }
+    ensures { outcome_of result ≡ accepted (record { mark = m; value = record { number = y; direction = d } }) }
 {
     match m {
         Mark::Right => ReadingAnswer::Right(y, d),
@@ -72,7 +72,7 @@ fn answer(m: Mark, y: f32, d: Direction) -> ReadingAnswer
 
 // The sign of a reading's product or quotient, by its own and the factor's; a zero has it too.
 fn sign_with(f: Factor, bits: u32) -> bool
-    ensures { result ≡ signWith f bits }
+    ensures { result ≡ sign_with f bits }
 {
     floats::is_minus(bits) != f.minus
 }
@@ -80,7 +80,7 @@ fn sign_with(f: Factor, bits: u32) -> bool
 // A rounded significand at a reading's exponent, raised, with a sign put on last, which mirrors a negative number's direction; 23 where no normal number has that exponent.
 fn place(minus: bool, bits: u32, raise: i32, significand: u64, d: Direction) -> NumberAnswer
     requires { (nat_abs raise ≤ 101) × HasBits (prec binary32) significand }
-    ensures { numberSays result ≡ placed minus significand (exponentOf binary32 bits +ℤ raise) d }
+    ensures { number_says result ≡ placed minus significand (exponent_of binary32 bits +ℤ raise) d }
 {
     let exponent = floats::biased_exponent(bits) as i32 + raise;
     if exponent < LEAST_EXPONENT {
@@ -102,7 +102,7 @@ fn place(minus: bool, bits: u32, raise: i32, significand: u64, d: Direction) -> 
 // What becomes of a product of a normal reading's significand, whoever made it: k plus the binade is put on the exponent, and 23 is judged whatever the mark.
 fn finish(f: Factor, bits: u32, v: DirectedProduct) -> ReadingAnswer
     requires { Sound f × (f.precision.bits ≡ prec binary32) × HasBits (prec binary32) v.product.significand × (v.product.binade ≤ 1) }
-    ensures { outcomeOf result ≡ finished f bits v }
+    ensures { outcome_of result ≡ finished f bits v }
 {
     let p = v.product;
     let direction = v.direction;
@@ -150,7 +150,7 @@ fn take(f: Factor, reading: f32) -> Taken
 // The product of a normal reading's significand on a device: u1 is one binary32 multiplication.
 fn product_of(d: Device, f: Factor, bits: u32) -> DirectedProduct
     requires { Sound f × (f.precision.bits ≡ prec binary32) }
-    ensures { result ≡ directed_on d f (significandOf binary32 bits) }
+    ensures { result ≡ directed_on d f (significand_of binary32 bits) }
 {
     let x = floats::significand_of(bits);
     match d {
@@ -161,7 +161,7 @@ fn product_of(d: Device, f: Factor, bits: u32) -> DirectedProduct
 
 // Multiplies a reading on a device: the product with its mark and direction, or the first of the refusals 31, 20, 21, 22 and 23 whose condition holds. A zero gives a zero, right and equal, with the sign of the product.
 pub fn read(d: Device, f: Factor, reading: f32) -> ReadingAnswer
-    ensures { outcomeOf result ≡ applied d f reading }
+    ensures { outcome_of result ≡ applied d f reading }
 {
     match take(f, reading) {
         Taken::Refused(number) => ReadingAnswer::Refused(number),
@@ -174,7 +174,7 @@ pub fn read(d: Device, f: Factor, reading: f32) -> ReadingAnswer
 
 // Divides a reading: the quotient with its direction, or the first of the refusals 31, 20, 21, 22 and 23 whose condition holds. A zero gives a zero, equal, with the sign of the quotient.
 pub fn divide(f: Factor, reading: f32) -> NumberAnswer
-    ensures { numberSays result ≡ dividedReading f reading }
+    ensures { number_says result ≡ divided_reading f reading }
 {
     match take(f, reading) {
         Taken::Refused(number) => NumberAnswer::Refused(number),

@@ -1,13 +1,13 @@
 // Rounding numbers of one word and of two words to n bits, and quotients of words to whole numbers: where the number lies between its neighbours, which of them is taken, and the carry.
 // Every rounding hands back its direction (request W4), read off where the number lies. Contracts are equations with RN (`rounded` of the crate `rounding`), or with what it is made of: `location`, `upward`, `nearest` and the number of digits.
 ghost use Rattle.std.specs.Prelude.{◌≡◌, suc, ◌+◌, ◌-◌, ◌*◌, ◌/◌, ◌%◌, ◌<◌, ◌≤◌, ◌^◌, nat_abs};
-ghost use Rattle.rounding.specs.Direction.{mirrored as turned, signedDirection};
-ghost use Rattle.rounding.specs.Grid.{ruleOf, location, upward, sideTaken};
+ghost use Rattle.rounding.specs.Direction.{mirrored as turned, signed_direction};
+ghost use Rattle.rounding.specs.Grid.{rule_of, location, upward, side_taken};
 ghost use Rattle.rounding.specs.Round.{normalised, rounded};
-ghost use Rattle.rounding.specs.Signed.{signed_of, roundedSigned};
+ghost use Rattle.rounding.specs.Signed.{signed_of, rounded_signed};
 ghost use Rattle.rounding.specs.ByDigits.{padded};
-ghost use Rattle.wide.specs.Value.{wordBits, halfWord, value_of};
-ghost use Rattle.round.specs.Neighbour.{neighbourAt, neighbour};
+ghost use Rattle.wide.specs.Value.{word_bits, half_word, value_of};
+ghost use Rattle.round.specs.Neighbour.{neighbour_at, neighbour};
 ghost use Rattle.round.specs.Cuts.{cut_at, uncut, RoundedCut};
 
 use rounding::{Direction, Location, Rounded, RoundedSigned, TieRule};
@@ -31,7 +31,7 @@ pub fn locate(r: Wide, half: Wide) -> Location
 
 // Whether a fraction half way above q goes up.
 pub fn tie_up(q: u64, rule: TieRule) -> bool
-    ensures { result ≡ ruleOf rule q }
+    ensures { result ≡ rule_of rule q }
 {
     match rule {
         TieRule::ToEven => q % 2 == 1,
@@ -41,8 +41,8 @@ pub fn tie_up(q: u64, rule: TieRule) -> bool
 
 // Whether q + r / (2 * half) goes up to q + 1, for an r below 2 * half: past half, and at half where the rule says so. Every rounding comes down to this: a comparison and no branch, since which one it is cannot be foreseen.
 pub fn goes_up(q: u64, r: Wide, half: Wide, rule: TieRule) -> bool
-    requires { (r.hi + 1 < 2 ^ wordBits) × (0 < value_of half) }
-    ensures { result ≡ upward (ruleOf rule) q (location (value_of r) (value_of half * 2)) }
+    requires { (r.hi + 1 < 2 ^ word_bits) × (0 < value_of half) }
+    ensures { result ≡ upward (rule_of rule) q (location (value_of r) (value_of half * 2)) }
 {
     let past = wide::sum(r, wide::from_word(tie_up(q, rule) as u64));
     wide::below(half, past)
@@ -50,7 +50,7 @@ pub fn goes_up(q: u64, r: Wide, half: Wide, rule: TieRule) -> bool
 
 // On which side of a fraction its neighbour lies, by where the fraction lies and whether it goes up: choices between constants, which need no branch.
 fn direction_at(l: Location, up: bool) -> Direction
-    ensures { result ≡ sideTaken l up }
+    ensures { result ≡ side_taken l up }
 {
     match l {
         Location::Exact => Direction::Equal,
@@ -72,8 +72,8 @@ pub struct Neighbour {
 
 // q + r / (2 * half) to the nearest whole number.
 fn nearest_of(q: u64, r: Wide, half: Wide, rule: TieRule) -> Neighbour
-    requires { (q + 1 < 2 ^ wordBits) × (r.hi + 1 < 2 ^ wordBits) × (0 < value_of half) }
-    ensures { result ≡ neighbourAt (ruleOf rule) q (value_of r) (value_of half * 2) }
+    requires { (q + 1 < 2 ^ word_bits) × (r.hi + 1 < 2 ^ word_bits) × (0 < value_of half) }
+    ensures { result ≡ neighbour_at (rule_of rule) q (value_of r) (value_of half * 2) }
 {
     let up = goes_up(q, r, half, rule);
     Neighbour {
@@ -84,16 +84,16 @@ fn nearest_of(q: u64, r: Wide, half: Wide, rule: TieRule) -> Neighbour
 
 // The same where the remainder and the half are words.
 fn nearest_by_word(q: u64, r: u64, half: u64, rule: TieRule) -> Neighbour
-    requires { (q + 1 < 2 ^ wordBits) × (r + 1 < 2 ^ wordBits) × (0 < half) }
-    ensures { result ≡ neighbourAt (ruleOf rule) q r (half * 2) }
+    requires { (q + 1 < 2 ^ word_bits) × (r + 1 < 2 ^ word_bits) × (0 < half) }
+    ensures { result ≡ neighbour_at (rule_of rule) q r (half * 2) }
 {
     nearest_of(q, wide::from_word(r), wide::from_word(half), rule)
 }
 
 // x / 2 ^ k to the nearest whole number.
 pub fn nearest_word(x: u64, k: u32, rule: TieRule) -> Neighbour
-    requires { (1 ≤ k) × (k < wordBits) }
-    ensures { result ≡ neighbour (ruleOf rule) x (2 ^ k) }
+    requires { (1 ≤ k) × (k < word_bits) }
+    ensures { result ≡ neighbour (rule_of rule) x (2 ^ k) }
 {
     let u = wide::power(k);
     let half = wide::power(k - 1);
@@ -102,8 +102,8 @@ pub fn nearest_word(x: u64, k: u32, rule: TieRule) -> Neighbour
 
 // x / d to the nearest whole number, for any d, by one division: twice the remainder is compared with the divisor.
 pub fn nearest_quotient(x: u64, d: u64, rule: TieRule) -> Neighbour
-    requires { (0 < d) × (x / d + 1 < 2 ^ wordBits) }
-    ensures { result ≡ neighbour (ruleOf rule) x d }
+    requires { (0 < d) × (x / d + 1 < 2 ^ word_bits) }
+    ensures { result ≡ neighbour (rule_of rule) x d }
 {
     let rest = wide::from_word(x % d);
     nearest_of(x / d, wide::sum(rest, rest), wide::from_word(d), rule)
@@ -111,7 +111,7 @@ pub fn nearest_quotient(x: u64, d: u64, rule: TieRule) -> Neighbour
 
 // The kept digits as a significand and an exponent: the carry 2 ^ n is the next binade's first.
 pub fn normalise(kept: u64, n: u32, dropped: u32, direction: Direction) -> Rounded
-    requires { (1 ≤ n) × (n < wordBits) × (dropped < 2 * wordBits) }
+    requires { (1 ≤ n) × (n < word_bits) × (dropped < 2 * word_bits) }
     ensures { result ≡ normalised n kept dropped 0 direction }
 {
     if kept == wide::power(n) {
@@ -130,7 +130,7 @@ pub fn normalise(kept: u64, n: u32, dropped: u32, direction: Direction) -> Round
 
 // A word of b digits, at most n: all of them are kept, and zeros are put behind them.
 fn widened(x: u64, b: u32, n: u32) -> Rounded
-    requires { (n < wordBits) × (b ≤ n) × (x < 2 ^ b) }
+    requires { (n < word_bits) × (b ≤ n) × (x < 2 ^ b) }
     ensures { result ≡ padded n x b }
 {
     let shift = n - b;
@@ -143,8 +143,8 @@ fn widened(x: u64, b: u32, n: u32) -> Rounded
 
 // A word to n bits.
 pub fn round_word(x: u64, n: u32, rule: TieRule) -> Rounded
-    requires { (1 ≤ n) × (n < wordBits) }
-    ensures { result ≡ rounded (ruleOf rule) n x 1 }
+    requires { (1 ≤ n) × (n < word_bits) }
+    ensures { result ≡ rounded (rule_of rule) n x 1 }
 {
     if x == 0 {
         return Rounded {
@@ -165,8 +165,8 @@ pub fn round_word(x: u64, n: u32, rule: TieRule) -> Rounded
 
 // A number of two words to n bits.
 pub fn round_wide(u: Wide, n: u32, rule: TieRule) -> Rounded
-    requires { (1 ≤ n) × (n < wordBits) }
-    ensures { result ≡ rounded (ruleOf rule) n (value_of u) 1 }
+    requires { (1 ≤ n) × (n < word_bits) }
+    ensures { result ≡ rounded (rule_of rule) n (value_of u) 1 }
 {
     let hi = u.hi;
     if hi == 0 {
@@ -189,7 +189,7 @@ pub struct Cut {
 
 // A word cut at k digits.
 pub fn cut_word(x: u64, k: u32) -> Cut
-    requires { k < wordBits }
+    requires { k < word_bits }
     ensures { result ≡ cut_at k x }
 {
     let step = wide::power(k);
@@ -201,7 +201,7 @@ pub fn cut_word(x: u64, k: u32) -> Cut
 
 // A number of two words cut so, where what is kept is one.
 pub fn cut_wide(u: Wide, k: u32) -> Cut
-    requires { (k < wordBits) × (value_of u < 2 ^ (wordBits + k)) }
+    requires { (k < word_bits) × (value_of u < 2 ^ (word_bits + k)) }
     ensures { result ≡ cut_at k (value_of u) }
 {
     Cut {
@@ -212,7 +212,7 @@ pub fn cut_wide(u: Wide, k: u32) -> Cut
 
 // The sum of two numbers that are cut at the same place: the carry of the rests is kept.
 pub fn cut_sum(a: Cut, b: Cut, k: u32) -> Cut
-    requires { (k < wordBits) × (a.rest < 2 ^ k) × (b.rest < 2 ^ k) × (a.kept + b.kept + 1 < 2 ^ wordBits) }
+    requires { (k < word_bits) × (a.rest < 2 ^ k) × (b.rest < 2 ^ k) × (a.kept + b.kept + 1 < 2 ^ word_bits) }
     ensures { result ≡ cut_at k (uncut k a + uncut k b) }
 {
     let rest = a.rest + b.rest;
@@ -225,8 +225,8 @@ pub fn cut_sum(a: Cut, b: Cut, k: u32) -> Cut
 
 // A number that is cut where n digits are kept, or one more, to n bits, in units of 2 ^ k: no leading zeros are counted.
 pub fn round_cut(c: Cut, k: u32, n: u32, rule: TieRule) -> Neighbour
-    requires { (1 ≤ n) × (n + 2 < wordBits) × (1 ≤ k) × (k + 1 < wordBits) × (c.rest < 2 ^ k) × (2 ^ (n - 1) ≤ c.kept) × (c.kept < 2 ^ suc n) }
-    ensures { RoundedCut (ruleOf rule) n k (uncut k c) result }
+    requires { (1 ≤ n) × (n + 2 < word_bits) × (1 ≤ k) × (k + 1 < word_bits) × (c.rest < 2 ^ k) × (2 ^ (n - 1) ≤ c.kept) × (c.kept < 2 ^ suc n) }
+    ensures { RoundedCut (rule_of rule) n k (uncut k c) result }
 {
     if c.kept < wide::power(n) {
         return nearest_by_word(c.kept, c.rest, wide::power(k - 1), rule);
@@ -252,7 +252,7 @@ pub fn magnitude(z: i64) -> u64
 
 // A size with a sign.
 pub fn with_sign(minus: bool, m: u64) -> i64
-    requires { m < halfWord }
+    requires { m < half_word }
     ensures { result ≡ signed_of minus m }
 {
     if minus {
@@ -274,7 +274,7 @@ fn mirrored(d: Direction) -> Direction
 
 // The direction of a number with a sign, by that of its size: a negative number's is mirrored.
 pub fn signed_direction(minus: bool, d: Direction) -> Direction
-    ensures { result ≡ signedDirection minus d }
+    ensures { result ≡ signed_direction minus d }
 {
     if minus {
         return mirrored(d);
@@ -284,8 +284,8 @@ pub fn signed_direction(minus: bool, d: Direction) -> Direction
 
 // A signed number to n bits: the size is rounded, and the sign stays.
 pub fn round_signed(z: i64, n: u32, rule: TieRule) -> RoundedSigned
-    requires { (1 ≤ n) × (n < wordBits) }
-    ensures { result ≡ roundedSigned (ruleOf rule) n z }
+    requires { (1 ≤ n) × (n < word_bits) }
+    ensures { result ≡ rounded_signed (rule_of rule) n z }
 {
     let r = round_word(magnitude(z), n, rule);
     let direction = r.direction;

@@ -2,7 +2,7 @@
 use Rattle.std.specs.Prelude.{ℕ, ◌-◌, ◌*◌, ◌^◌, pos, neg_ℤ}
 use Rattle.rounding.specs.declared.Direction.TheVariants.{Equal}
 use Rattle.rounding.specs.declared.Rounded.{Rounded}
-use Rattle.rounding.specs.Grid.{Rule, nearest, sideAt}
+use Rattle.rounding.specs.Grid.{Rule, nearest, side_at}
 use Rattle.rounding.specs.Round.{normalised}
 
 -- x of b digits, with n - b zeros behind it
@@ -11,4 +11,4 @@ padded n x b = record { significand = x * 2 ^ (n - b); exponent = neg_ℤ (pos (
 
 -- k digits of x dropped, and what is kept rounded
 abbrev pub cut : Rule → (n x k : ℕ) → Rounded
-cut rule n x k = normalised n (nearest rule x (2 ^ k)) k 0 (sideAt x (2 ^ k) (nearest rule x (2 ^ k)))
+cut rule n x k = normalised n (nearest rule x (2 ^ k)) k 0 (side_at x (2 ^ k) (nearest rule x (2 ^ k)))

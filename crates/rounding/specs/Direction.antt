@@ -21,5 +21,5 @@ mirrored Equal = Equal
 mirrored Above = Below
 
 -- of a number with a sign, by the direction of its size
-abbrev pub signedDirection : Bool → Direction → Direction
-signedDirection s d = cond s (mirrored d) d
+abbrev pub signed_direction : Bool → Direction → Direction
+signed_direction s d = cond s (mirrored d) d

@@ -28,8 +28,8 @@ abbrev pub negated : Fraction → Fraction
 negated x = record { minus = not x.minus; num = x.num; den = x.den }
 
 -- the size of x with another sign
-abbrev pub signedAs : Bool → Fraction → Fraction
-signedAs s x = record { minus = s; num = x.num; den = x.den }
+abbrev pub signed_as : Bool → Fraction → Fraction
+signed_as s x = record { minus = s; num = x.num; den = x.den }
 
 abbrev pub times : Fraction → Fraction → Fraction
 times x y = record { minus = unlike x.minus y.minus; num = x.num * y.num; den = x.den * y.den }
@@ -88,8 +88,8 @@ pub record Positive (x : Fraction) : Type 0 where
   pub some : 0 < x.den
 
 -- x > 0 with a sign and a power of two put on: ± x * 2 ^ z
-abbrev pub scaledAs : Bool → ℤ → Fraction → Fraction
-scaledAs s z x = record { minus = s; num = x.num * up z; den = x.den * down z }
+abbrev pub scaled_as : Bool → ℤ → Fraction → Fraction
+scaled_as s z x = record { minus = s; num = x.num * up z; den = x.den * down z }
 
 -- ---- direction
 -- x as a whole number of 1 / (x.den * y.den), with its sign
@@ -101,8 +101,8 @@ abbrev pub direction : Fraction → Fraction → Direction
 direction x y = side_of (beside x y) (beside y x)
 
 -- the direction of a rounding: how RN(x) lies as seen from x (request W4)
-unfoldable pub directionOf : Rule → (n : ℕ) → Fraction → Direction
-directionOf rule n x = direction x (RN rule n x)
+unfoldable pub direction_of : Rule → (n : ℕ) → Fraction → Direction
+direction_of rule n x = direction x (RN rule n x)
 
 -- what each of the three says: y is below x, equal to it, or above it
 abbrev pub Falls : Direction → Fraction → Fraction → Type 0

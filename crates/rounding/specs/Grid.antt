@@ -13,16 +13,16 @@ abbrev pub Rule : Type 0
 Rule = ℕ → Bool
 
 -- ties to even: up from an odd neighbour
-abbrev pub toEven : Rule
-toEven q = eqb (q % 2) 1
+abbrev pub to_even : Rule
+to_even q = eqb (q % 2) 1
 
 -- ties away from zero: up
-abbrev pub awayFromZero : Rule
-awayFromZero q = true
+abbrev pub away_from_zero : Rule
+away_from_zero q = true
 
-abbrev pub ruleOf : TieRule → Rule
-ruleOf ToEven q = toEven q
-ruleOf AwayFromZero q = awayFromZero q
+abbrev pub rule_of : TieRule → Rule
+rule_of ToEven q = to_even q
+rule_of AwayFromZero q = away_from_zero q
 
 -- where q + r / d lies between q and q + 1, for a remainder r below d
 abbrev pub location : (r d : ℕ) → Location
@@ -40,20 +40,20 @@ abbrev pub choose : Rule → ℕ → Location → ℕ
 choose rule q l = cond (upward rule q l) (suc q) q
 
 -- on which side of the fraction a neighbour lies: the upper one above it and the lower one below, unless it is that neighbour
-abbrev pub sideTaken : Location → (up : Bool) → Direction
-sideTaken Exact up = Equal
-sideTaken BelowHalf up = cond up Above Below
-sideTaken Half up = cond up Above Below
-sideTaken AboveHalf up = cond up Above Below
+abbrev pub side_taken : Location → (up : Bool) → Direction
+side_taken Exact up = Equal
+side_taken BelowHalf up = cond up Above Below
+side_taken Half up = cond up Above Below
+side_taken AboveHalf up = cond up Above Below
 
 -- and on which the one that is taken
 abbrev pub towards : Rule → ℕ → Location → Direction
-towards rule q l = sideTaken l (upward rule q l)
+towards rule q l = side_taken l (upward rule q l)
 
 -- the whole number nearest to N / d
 unfoldable pub nearest : Rule → (N d : ℕ) → ℕ
 nearest rule N d = choose rule (N / d) (location (N % d) d)
 
 -- on which side of N / d the whole number k lies
-abbrev pub sideAt : (N d k : ℕ) → Direction
-sideAt N d k = side_of (pos N) (pos (k * d))
+abbrev pub side_at : (N d k : ℕ) → Direction
+side_at N d k = side_of (pos N) (pos (k * d))

@@ -1,25 +1,10 @@
 -- The definitions and laws of rounding, in the order in which they build on each other.
 pub mod Apart
-pub mod ApartLaws
 pub mod Direction
-pub mod DirectionLaws
 pub mod Grid
-pub mod GridLaws
-pub mod Digits
 pub mod Unit
-pub mod UnitLaws
 pub mod Round
-pub mod RoundLaws
-pub mod Best
-pub mod Standard
 pub mod Signed
 pub mod Fraction
-pub mod FractionLaws
-pub mod Directed
 pub mod Ulp
-pub mod UlpLaws
-pub mod OneRounding
-pub mod Examples
-pub mod Ieee
 pub mod ByDigits
-pub mod ByDigitsLaws

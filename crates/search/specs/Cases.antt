@@ -2,7 +2,7 @@
 use Rattle.std.specs.Prelude.{◌≡◌, ℕ, ◌+◌, ◌-◌, ◌*◌, ◌%◌, ◌≤◌, ◌<◌}
 use Rattle.search.specs.declared.Place.TheVariants.{At, Nowhere}
 use Rattle.search.specs.declared.Found.{Found}
-use Rattle.search.specs.Search.{ceilDiv, negMod, at_once, afterRound}
+use Rattle.search.specs.Search.{ceil_div, neg_mod, at_once, after_round}
 
 -- what a search may be asked: a window, and a step, below the modulus
 abbrev pub Ready : (m step l r : ℕ) → Type 0
@@ -17,18 +17,18 @@ pub data Searched : (m step l r : ℕ) → Found → Type 0 where
   start : {m step l r : ℕ} → l ≡ 0 → Searched m step l r (at_once (At 0))
   still : {m step l r : ℕ} → 0 < l → step ≡ 0 → Searched m step l r (at_once Nowhere)
   mirrored : {m step l r : ℕ} {f : Found} → 0 < l → m < 2 * step → Searched m (m - step) (m - r) (m - l) f → Searched m step l r f
-  multiple : {m step l r : ℕ} → Straight m step l → ceilDiv l step * step ≤ r → Searched m step l r (at_once (At (ceilDiv l step)))
+  multiple : {m step l r : ℕ} → Straight m step l → ceil_div l step * step ≤ r → Searched m step l r (at_once (At (ceil_div l step)))
   rounded :
       {m step l r : ℕ} {f : Found}
       → Straight m step l
-      → ¬ (ceilDiv l step * step ≤ r)
-      → Searched step (m % step) (negMod r step) (negMod l step) f
-      → Searched m step l r (afterRound m step l f)
+      → ¬ (ceil_div l step * step ≤ r)
+      → Searched step (m % step) (neg_mod r step) (neg_mod l step) f
+      → Searched m step l r (after_round m step l f)
 
 -- no multiple of the step lies in the window: it ends below c * step, the first multiple from l on, and measured down from there it is the window
 -- that a round goes on with
 pub record Between (step l r c : ℕ) : Type 0 where
   pub low : c * step < l + step
   pub high : r < c * step
-  pub next_low : negMod r step ≡ c * step - r
-  pub next-high : negMod l step ≡ c * step - l
+  pub next_low : neg_mod r step ≡ c * step - r
+  pub next_high : neg_mod l step ≡ c * step - l

@@ -25,13 +25,13 @@ WindsBelow (At k) w = w < k
 WindsBelow Nowhere w = Unit {0}
 
 -- the winding of a place whose winding is w in the mirrored search
-abbrev pub mirrorWinding : Place → ℕ → ℕ
-mirrorWinding (At k) w = k - 1 - w
-mirrorWinding Nowhere w = w
+abbrev pub mirror_winding : Place → ℕ → ℕ
+mirror_winding (At k) w = k - 1 - w
+mirror_winding Nowhere w = w
 
 -- the mirrored search's answer, read in this one
-abbrev pub mirrorBack : Trace → Trace
-mirrorBack t = record { found = t.found; winding = mirrorWinding t.found.place t.winding }
+abbrev pub mirror_back : Trace → Trace
+mirror_back t = record { found = t.found; winding = mirror_winding t.found.place t.winding }
 
 -- a place as a number, 0 where there is none
 abbrev pub number : Place → ℕ
@@ -40,15 +40,15 @@ number Nowhere = 0
 
 -- the place whose winding is the place that is given: `first` steps to the first multiple from l on, `turns` for each time the modulus is passed,
 -- and as many as the place that is given itself winds
-abbrev pub roundPlace : (first turns w : ℕ) → Place → Place
-roundPlace first turns w (At j) = At (first + (j * turns + w))
-roundPlace first turns w Nowhere = Nowhere
+abbrev pub round_place : (first turns w : ℕ) → Place → Place
+round_place first turns w (At j) = At (first + (j * turns + w))
+round_place first turns w Nowhere = Nowhere
 
 -- the answer of the search that a round goes on with, read in this one
-abbrev pub roundBack : (first turns : ℕ) → Trace → Trace
-roundBack first turns t =
+abbrev pub round_back : (first turns : ℕ) → Trace → Trace
+round_back first turns t =
     record {
-      found = record { place = roundPlace first turns t.winding t.found.place; rounds = t.found.rounds + 1 };
+      found = record { place = round_place first turns t.winding t.found.place; rounds = t.found.rounds + 1 };
       winding = number t.found.place;
     }
 

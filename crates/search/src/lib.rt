@@ -1,9 +1,9 @@
 // The search by remainders (document 01, "Suspects and rounds"): the least place whose remainder lies in a window.
 ghost use Rattle.std.specs.Prelude.{◌≡◌, ◌≤◌, ◌<◌};
-ghost use Rattle.wide.specs.Value.{halfWord};
-ghost use Rattle.search.specs.Search.{searchWindow, shift, searchFrom};
+ghost use Rattle.wide.specs.Value.{half_word};
+ghost use Rattle.search.specs.Search.{search_window, shift, search_from};
 ghost use Rattle.search.specs.Cases.{Ready};
-ghost use Rattle.search.specs.Trace.{wound, unwound, WindsBelow, mirrorBack, roundBack, Below};
+ghost use Rattle.search.specs.Trace.{wound, unwound, WindsBelow, mirror_back, round_back, Below};
 
 // Where a search ends: at the least place wanted, or nowhere where none is.
 #[derive(Drop)]
@@ -39,7 +39,7 @@ fn at_once(place: Place) -> Trace
 // The mirrored search's answer, read in the search itself.
 fn mirror_back(t: Trace) -> Trace
     requires { WindsBelow t.found.place t.winding }
-    ensures { result ≡ mirrorBack t }
+    ensures { result ≡ mirror_back t }
 {
     let f = t.found;
     let p = f.place;
@@ -54,8 +54,8 @@ fn mirror_back(t: Trace) -> Trace
 
 // The answer of the search that a round goes on with, read in the search itself.
 fn round_back(t: Trace, first: u64, turns: u64) -> Trace
-    requires { Below halfWord (roundBack first turns t).found }
-    ensures { result ≡ roundBack first turns t }
+    requires { Below half_word (round_back first turns t).found }
+    ensures { result ≡ round_back first turns t }
 {
     let f = t.found;
     let p = f.place;
@@ -80,8 +80,8 @@ fn round_back(t: Trace, first: u64, turns: u64) -> Trace
 
 // The search with its winding.
 fn first_place(m: u64, step: u64, l: u64, r: u64) -> Trace
-    requires { Ready m step l r × (m ≤ halfWord) }
-    ensures { result ≡ wound m step (searchWindow m step l r) }
+    requires { Ready m step l r × (m ≤ half_word) }
+    ensures { result ≡ wound m step (search_window m step l r) }
 {
     if l == 0 {
         return at_once(Place::At(0));
@@ -103,8 +103,8 @@ fn first_place(m: u64, step: u64, l: u64, r: u64) -> Trace
 
 // The least place whose remainder lies in the window l to r.
 pub fn find(m: u64, step: u64, l: u64, r: u64) -> Found
-    requires { (l ≤ r) × (r < m) × (step < m) × (m ≤ halfWord) }
-    ensures { result ≡ searchWindow m step l r }
+    requires { (l ≤ r) × (r < m) × (step < m) × (m ≤ half_word) }
+    ensures { result ≡ search_window m step l r }
 {
     let t = first_place(m, step, l, r);
     t.found
@@ -112,7 +112,7 @@ pub fn find(m: u64, step: u64, l: u64, r: u64) -> Found
 
 // x - base modulo m.
 fn shifted(m: u64, base: u64, x: u64) -> u64
-    requires { (x < m) × (base < m) × (m ≤ halfWord) }
+    requires { (x < m) × (base < m) × (m ≤ half_word) }
     ensures { result ≡ shift m base x }
 {
     if x < base {
@@ -123,8 +123,8 @@ fn shifted(m: u64, base: u64, x: u64) -> u64
 
 // The least place whose remainder, counted from a start with the remainder base, lies in the window l to r.
 pub fn find_from(m: u64, step: u64, base: u64, l: u64, r: u64) -> Found
-    requires { (l ≤ r) × (r < m) × (step < m) × (base < m) × (m ≤ halfWord) }
-    ensures { result ≡ searchFrom m step base l r }
+    requires { (l ≤ r) × (r < m) × (step < m) × (base < m) × (m ≤ half_word) }
+    ensures { result ≡ search_from m step base l r }
 {
     let from = shifted(m, base, l);
     let to = shifted(m, base, r);

@@ -8,23 +8,23 @@ use Rattle.rounding.specs.Grid.{nearest}
 use Rattle.rounding.specs.Round.{rounded}
 use Rattle.factor.specs.Parts.{parts_at}
 use Rattle.factor.specs.Precision.{scale_of}
-use Rattle.factor.specs.Context.{tieRule}
-use Rattle.factor.specs.SetUp.{setUp, appliedOf}
+use Rattle.factor.specs.Context.{tie_rule}
+use Rattle.factor.specs.SetUp.{set_up, applied_of}
 use Rattle.product.specs.Product.{product}
 use Rattle.product.specs.Marks.{mark}
-use Rattle.suspects.specs.Suspects.{isSuspect}
+use Rattle.suspects.specs.Suspects.{is_suspect}
 use Rattle.calls.specs.Plain.{row, pick, span, span_of, tries, words_of}
-use Rattle.frame.specs.Digits.{digitByte, digits, digitValue, valueAfter, field_at}
+use Rattle.frame.specs.Digits.{digit_byte, digits, digit_value, value_after, field_at}
 use Rattle.frame.specs.Frame.{spaced, frame_of}
-use Rattle.frame.specs.Report.{word_line, reportLine, refusalLine}
-use Rattle.stream.specs.Output.{suspectsOf, counted, wordLines, sweptOutput, judgedLine, lineOutput, pieces, linesOutput, output}
-use Rattle.stream.specs.Keep.{kept, upToFeed}
+use Rattle.frame.specs.Report.{word_line, report_line, refusal_line}
+use Rattle.stream.specs.Output.{suspects_of, counted, word_lines, swept_output, judged_line, line_output, pieces, lines_output, output}
+use Rattle.stream.specs.Keep.{kept, up_to_feed}
 use Rattle.stream.specs.Step.{step_of, end_of}
-use Rattle.stream.specs.Work.{stepsOf, workOf, loopOutput, program}
+use Rattle.stream.specs.Work.{steps_of, work_of, loop_output, program}
 
 -- the bytes of a text; the line below names what has to unfold for the program to compute
 bytes : String → List ℕ
-unfolding answer digitByte digits digitValue valueAfter field_at spaced frame_of word_line reportLine refusalLine setUp appliedOf scale_of tieRule parts_at rounded nearest product mark isSuspect row pick span span_of words_of suspectsOf counted wordLines sweptOutput lineOutput pieces linesOutput output tries kept upToFeed judgedLine step_of end_of stepsOf workOf loopOutput program Ieee.round Ieee.size
+unfolding answer digit_byte digits digit_value value_after field_at spaced frame_of word_line report_line refusal_line set_up applied_of scale_of tie_rule parts_at rounded nearest product mark is_suspect row pick span span_of words_of suspects_of counted word_lines swept_output line_output pieces lines_output output tries kept up_to_feed judged_line step_of end_of steps_of work_of loop_output program Ieee.round Ieee.size
 bytes [] = []ᴸ
 bytes (c ∷ s) = code c ∷ᴸ bytes s
 
@@ -40,9 +40,9 @@ nothing : output (bytes "") ≡ bytes ""
 unfolding bytes
 nothing = refl
 
-no-line-feed : output (bytes "\n04 00 6000000000000000 6000000000000000") ≡ bytes "0001 FF 24\n0002 FF 24\n"
+no_line_feed : output (bytes "\n04 00 6000000000000000 6000000000000000") ≡ bytes "0001 FF 24\n0002 FF 24\n"
 unfolding bytes
-no-line-feed = refl
+no_line_feed = refl
 
 -- precision 3 is refused with 11, but not on a line that is no frame
 refused : output (bytes "03 00 6000000000000000 6000000000000000\n03 00 6000000000000000\n") ≡ bytes "0001 FF 11\n0002 FF 24\n"
@@ -50,13 +50,13 @@ unfolding bytes
 refused = refl
 
 -- 84 is a good byte, 83 is refused with 11, FF too (request W5)
-below-zero : output (bytes "84 00 6000000000000000 6000000000000000\n83 00 6000000000000000 6000000000000000\nFF 00 6000000000000000 6000000000000000\n") ≡ bytes "0001 00 00000002 00000000 00000000\n0002 FF 11\n0003 FF 11\n"
+below_zero : output (bytes "84 00 6000000000000000 6000000000000000\n83 00 6000000000000000 6000000000000000\nFF 00 6000000000000000 6000000000000000\n") ≡ bytes "0001 00 00000002 00000000 00000000\n0002 FF 11\n0003 FF 11\n"
 unfolding bytes
-below-zero = refl
+below_zero = refl
 
 -- ---- the program's loop
 
 -- with room for one step that writes, and a line that two chunks share: it is refused only when a read gives nothing
-in-chunks : program 4 611 (bytes "\n0" ∷ᴸ bytes "4" ∷ᴸ []ᴸ) ≡ bytes "0001 FF 24\n0002 FF 24\n"
+in_chunks : program 4 611 (bytes "\n0" ∷ᴸ bytes "4" ∷ᴸ []ᴸ) ≡ bytes "0001 FF 24\n0002 FF 24\n"
 unfolding bytes
-in-chunks = refl
+in_chunks = refl

@@ -2,20 +2,20 @@
 use Rattle.std.specs.Prelude.{◌≡◌, Bool, true, false, ◌&&◌, List, [], ◌++◌, ℕ, zero, suc, ◌+◌, ◌-◌, ◌≤◌, ◌<◌, leb, length, take, drop}
 use Rattle.std.proofs.Math.Path.{refl, ap₂}
 use Rattle.std.proofs.Common.{sym, ap, subst, ◌∙◌, append_assoc, append-nil, arith, length-drop, leb-true}
-use Rattle.marks.specs.AnswerLaws.{and-true}
+use Rattle.marks.specs.AnswerLaws.{and_true}
 use Rattle.frame.specs.Written.{Written}
-use Rattle.frame.specs.WrittenLaws.{written_then, written_none, written-front, written-length}
+use Rattle.frame.specs.WrittenLaws.{written_then, written_none, written_front, written_length}
 use Rattle.stream.specs.declared.Move.{Move}
 use Rattle.stream.specs.declared.Next
 use Rattle.stream.specs.declared.Next.{Next}
 use Rattle.stream.specs.declared.Progress.{Progress}
 use Rattle.stream.specs.declared.Worked.{Worked}
-use Rattle.stream.specs.Step.{mostWritten, Read, Stepped, wantsStep, read_of, step_of, end_of}
+use Rattle.stream.specs.Step.{most_written, Read, Stepped, wants_step, read_of, step_of, end_of}
 use Rattle.stream.specs.Good.{Fit}
 use Rattle.stream.specs.Moves.{Moved, WorkedOff}
-use Rattle.stream.specs.MoveLaws.{step-short}
-use Rattle.stream.specs.Work.{noStep, and_then, stepsOf, allSteps, Batch, next_of, workOf}
-use Rattle.stream.specs.WorkLaws.{step-uses, steps-more, steps-over}
+use Rattle.stream.specs.MoveLaws.{step_short}
+use Rattle.stream.specs.Work.{no_step, and_then, steps_of, all_steps, Batch, next_of, work_of}
+use Rattle.stream.specs.WorkLaws.{step_uses, steps_more, steps_over}
 
 -- ---- the loop
 
@@ -28,13 +28,13 @@ pub record Begun (all : Stepped) (input out₀ : List ℕ) (m : Move) (out : Lis
   pub bytes : Written out₀ 0 done out m.used
   pub most : ℕ
   pub enough : length (drop m.at input) + (length out₀ - m.used) ≤ most
-  pub is : all ≡ and_then done (stepsOf most (length out₀ - m.used) (read_of m.progress) (drop m.at input))
+  pub is : all ≡ and_then done (steps_of most (length out₀ - m.used) (read_of m.progress) (drop m.at input))
 
 -- bytes, more bytes, and steps
-then-then : (done more : List ℕ) (s : Stepped) → and_then done (and_then more s) ≡ and_then (done ++ more) s
-then-then done more s = ap (λ (l : List ℕ). record { read = s.read; left = s.left; bytes = l }) (sym (append_assoc done more s.bytes))
+then_then : (done more : List ℕ) (s : Stepped) → and_then done (and_then more s) ≡ and_then (done ++ more) s
+then_then done more s = ap (λ (l : List ℕ). record { read = s.read; left = s.left; bytes = l }) (sym (append_assoc done more s.bytes))
 
-pub begin : (p : Progress) → Fit p → (input : List ℕ) (at : ℕ) → at ≤ length input → (out : List ℕ) → Begun (allSteps (length out) (read_of p) (drop at input)) input out (record { progress = p; at = at; used = 0 }) out
+pub begin : (p : Progress) → Fit p → (input : List ℕ) (at : ℕ) → at ≤ length input → (out : List ℕ) → Begun (all_steps (length out) (read_of p) (drop at input)) input out (record { progress = p; at = at; used = 0 }) out
 begin p fit input at h out =
     record {
       fit = fit;
@@ -44,7 +44,7 @@ begin p fit input at h out =
       bytes = written_none out 0;
       most = length (drop at input) + length out;
       enough = omega arith;
-      is = ap (λ (room : ℕ). stepsOf (length (drop at input) + length out) room (read_of p) (drop at input)) whole;
+      is = ap (λ (room : ℕ). steps_of (length (drop at input) + length out) room (read_of p) (drop at input)) whole;
     }
   where
     whole : length out ≡ length out - 0
@@ -62,33 +62,33 @@ module _ (all : Stepped) (input out₀ : List ℕ) (m : Move) (out : List ℕ) (
 
   -- the loop's test
   abbrev test : Bool
-  test = wantsStep r.task left && leb mostWritten (length out - m.used)
+  test = wants_step r.task left && leb most_written (length out - m.used)
 
   same_size : length out ≡ length out₀
-  same_size = written-length b.bytes
+  same_size = written_length b.bytes
 
-  pub used-within : m.used ≤ length out
-  used-within = omega (arith, same_size, b.within)
+  pub used_within : m.used ≤ length out
+  used_within = omega (arith, same_size, b.within)
 
-  pub room-for-step : test ≡ true → m.used + mostWritten ≤ length out
-  room-for-step t = omega (arith, used-within, leb-true mostWritten (length out - m.used) (and-true (wantsStep r.task left) (leb mostWritten (length out - m.used)) t).1)
+  pub room_for_step : test ≡ true → m.used + most_written ≤ length out
+  room_for_step t = omega (arith, used_within, leb-true most_written (length out - m.used) (and_true (wants_step r.task left) (leb most_written (length out - m.used)) t).1)
 
   -- one step more
   module _ (t : test ≡ true) (n : Move) (out' : List ℕ) (moved : Moved (step_of r left) input n out m.used out') where
     abbrev s : Stepped
     s = step_of r left
 
-    w : wantsStep r.task left ≡ true
-    w = (and-true (wantsStep r.task left) (leb mostWritten (length out - m.used)) t).0
+    w : wants_step r.task left ≡ true
+    w = (and_true (wants_step r.task left) (leb most_written (length out - m.used)) t).0
 
-    h : mostWritten ≤ room
-    h = omega (arith, same_size, room-for-step t)
+    h : most_written ≤ room
+    h = omega (arith, same_size, room_for_step t)
 
-    short : length s.bytes ≤ mostWritten
-    short = step-short r left
+    short : length s.bytes ≤ most_written
+    short = step_short r left
 
     used : length s.left < length left + length s.bytes
-    used = step-uses r b.fit.good left w
+    used = step_uses r b.fit.good left w
 
     room_after : room - length s.bytes ≡ length out₀ - n.used
     room_after = omega (arith, moved.bytes.place)
@@ -97,20 +97,20 @@ module _ (all : Stepped) (input out₀ : List ℕ) (m : Move) (out : List ℕ) (
     pub one_less : length input - n.at + (length out₀ - n.used) < length input - m.at + (length out₀ - m.used)
     one_less = omega (arith, h, used, ap length moved.left, short, moved.bytes.place, length-drop m.at input, length-drop n.at input)
 
-    further : (most : ℕ) → all ≡ and_then b.done (stepsOf (suc most) room r left)
-        → all ≡ and_then (b.done ++ s.bytes) (stepsOf most (length out₀ - n.used) (read_of n.progress) (drop n.at input))
+    further : (most : ℕ) → all ≡ and_then b.done (steps_of (suc most) room r left)
+        → all ≡ and_then (b.done ++ s.bytes) (steps_of most (length out₀ - n.used) (read_of n.progress) (drop n.at input))
     further most e =
-        let same : stepsOf most (room - length s.bytes) s.read s.left ≡ stepsOf most (length out₀ - n.used) (read_of n.progress) (drop n.at input) =
-        λ i. stepsOf most (room_after i) (sym moved.read i) (sym moved.left i) in
+        let same : steps_of most (room - length s.bytes) s.read s.left ≡ steps_of most (length out₀ - n.used) (read_of n.progress) (drop n.at input) =
+        λ i. steps_of most (room_after i) (sym moved.read i) (sym moved.left i) in
         e
-        ∙ ap (and_then b.done) (steps-more most room r left w h)
-        ∙ then-then b.done s.bytes (stepsOf most (room - length s.bytes) s.read s.left)
+        ∙ ap (and_then b.done) (steps_more most room r left w h)
+        ∙ then_then b.done s.bytes (steps_of most (room - length s.bytes) s.read s.left)
         ∙ ap (and_then (b.done ++ s.bytes)) same
 
     pub one_more : Begun all input out₀ n out'
     one_more = go b.most b.enough b.is
       where
-        go : (most : ℕ) → length left + room ≤ most → all ≡ and_then b.done (stepsOf most room r left) → Begun all input out₀ n out'
+        go : (most : ℕ) → length left + room ≤ most → all ≡ and_then b.done (steps_of most room r left) → Begun all input out₀ n out'
         go zero e i = absurd (omega (arith, h))
         go (suc most) e i =
             record {
@@ -127,8 +127,8 @@ module _ (all : Stepped) (input out₀ : List ℕ) (m : Move) (out : List ℕ) (
   -- no step is wanted, or there is no room for it
   pub all_done : test ≡ false → Moved all input m out₀ 0 out × (m.used ≤ length out₀)
   all_done t =
-      let over : (wantsStep r.task left && leb mostWritten room) ≡ false = ap (λ (n : ℕ). wantsStep r.task left && leb mostWritten (n - m.used)) (sym same_size) ∙ t in
-      let e : all ≡ and_then b.done (noStep r left) = b.is ∙ ap (and_then b.done) (steps-over b.most room r left over) in (
+      let over : (wants_step r.task left && leb most_written room) ≡ false = ap (λ (n : ℕ). wants_step r.task left && leb most_written (n - m.used)) (sym same_size) ∙ t in
+      let e : all ≡ and_then b.done (no_step r left) = b.is ∙ ap (and_then b.done) (steps_over b.most room r left over) in (
         record {
           fit = b.fit;
           read = sym (ap (λ (z : Stepped). z.read) e);
@@ -142,17 +142,17 @@ module _ (all : Stepped) (input out₀ : List ℕ) (m : Move) (out : List ℕ) (
 -- ---- what the program does
 
 -- The first bytes of the output, as many as are used, are the steps'.
-pub worked-front : (w : Batch) (input : List ℕ) (r : Worked) (out after : List ℕ) → WorkedOff w input r out after → take r.moved.used after ≡ w.steps.bytes
-worked-front w input r out after d = written-front d.moved.bytes d.within
+pub worked_front : (w : Batch) (input : List ℕ) (r : Worked) (out after : List ℕ) → WorkedOff w input r out after → take r.moved.used after ≡ w.steps.bytes
+worked_front w input r out after d = written_front d.moved.bytes d.within
 
 module _ (p : Progress) (fit : Fit p) (input : List ℕ) (at : ℕ) (h : at ≤ length input) (out after : List ℕ) where
-  pub worked-ended : wantsStep p.task (drop at input) ≡ false → (used : ℕ) → Written out 0 (end_of (read_of p)) after used → used ≤ length out
-      → WorkedOff (workOf (length out) (read_of p) (drop at input)) input (record { moved = record { progress = p; at = at; used = used }; next = Next.Stop }) out after
-  unfolding workOf
-  worked-ended w used e k = rw w (record { moved = record { fit = fit; read = refl; inside = h; left = refl; bytes = e }; within = k; next = refl })
+  pub worked_ended : wants_step p.task (drop at input) ≡ false → (used : ℕ) → Written out 0 (end_of (read_of p)) after used → used ≤ length out
+      → WorkedOff (work_of (length out) (read_of p) (drop at input)) input (record { moved = record { progress = p; at = at; used = used }; next = Next.Stop }) out after
+  unfolding work_of
+  worked_ended w used e k = rw w (record { moved = record { fit = fit; read = refl; inside = h; left = refl; bytes = e }; within = k; next = refl })
 
-  pub worked-made : wantsStep p.task (drop at input) ≡ true → (m : Move) (n : Next) → Moved (allSteps (length out) (read_of p) (drop at input)) input m out 0 after × (m.used ≤ length out)
+  pub worked_made : wants_step p.task (drop at input) ≡ true → (m : Move) (n : Next) → Moved (all_steps (length out) (read_of p) (drop at input)) input m out 0 after × (m.used ≤ length out)
       → n ≡ next_of (read_of m.progress) (drop m.at input)
-      → WorkedOff (workOf (length out) (read_of p) (drop at input)) input (record { moved = m; next = n }) out after
-  unfolding workOf
-  worked-made w m n d e = rw w (record { moved = d.0; within = d.1; next = e ∙ ap₂ next_of d.0.read d.0.left })
+      → WorkedOff (work_of (length out) (read_of p) (drop at input)) input (record { moved = m; next = n }) out after
+  unfolding work_of
+  worked_made w m n d e = rw w (record { moved = d.0; within = d.1; next = e ∙ ap₂ next_of d.0.read d.0.left })

@@ -9,35 +9,35 @@ use Rattle.marks.specs.Answers.{none, judged, Outcome, refused, accepted}
 use Rattle.factor.specs.declared.Factor.{Factor}
 use Rattle.calls.specs.State.{Range}
 use Rattle.calls.specs.Engine.{handed}
-use Rattle.calls.specs.Call.{conditions, Result, Reply, sweepCall}
+use Rattle.calls.specs.Call.{conditions, Result, Reply, sweep_call}
 use Rattle.calls.specs.Plain.{words_of}
-use Rattle.calls.specs.ByRow.{head_of, rowRun}
-use Rattle.calls.specs.TrialLaws.{tries-within, words-fit}
-use Rattle.calls.specs.ListLaws.{entries-are, read_back}
+use Rattle.calls.specs.ByRow.{head_of, row_run}
+use Rattle.calls.proofs.TrialLaws.{tries_within, words_fit}
+use Rattle.calls.proofs.ListLaws.{entries_are, read_back}
 use Rattle.sweep.specs.declared.SweepState.{SweepState}
 use Rattle.sweep.specs.declared.SweepAnswer
 use Rattle.sweep.specs.declared.SweepAnswer.{SweepAnswer}
 use Rattle.sweep.specs.Engine.{mark_of, engine}
-use Rattle.sweep.specs.Answers.{view_of, code_of, call_of, termsBy, replyOf}
-use Rattle.sweep.specs.Demand3.{call-by-row}
+use Rattle.sweep.specs.Answers.{view_of, code_of, call_of, terms_by, reply_of}
+use Rattle.sweep.proofs.Demand3.{call_by_row}
 use Rattle.stream.specs.declared.Tally.{Tally}
-use Rattle.stream.specs.Output.{isWrong, isOpen, counted, odds}
-use Rattle.stream.specs.SweepLaws.{length-lines, told}
-use Rattle.stream.specs.Step.{listSize, noCap, left_of, triedBy, triedOf, after_of, stateAt, tallied, partLines}
-use Rattle.stream.specs.Good.{Going, Counted, addedTo, Addable}
+use Rattle.stream.specs.Output.{is_wrong, is_open, counted, odds}
+use Rattle.stream.specs.SweepLaws.{length_lines, told}
+use Rattle.stream.specs.Step.{list_size, no_cap, left_of, tried_by, tried_of, after_of, state_at, tallied, part_lines}
+use Rattle.stream.specs.Good.{Going, Counted, added_to, Addable}
 
 -- the words of the call
-abbrev pub wordsBy : SweepState → List ℕ
-wordsBy s = words_of (mark_of s.factor) (triedOf s)
+abbrev pub words_by : SweepState → List ℕ
+words_by s = words_of (mark_of s.factor) (tried_of s)
 
 -- the call on a list of 64 words, all of it free, is accepted
 pub record Answered (s : SweepState) (after : SweepState) (t p : ℕ) (list : List ℕ) : Type 0 where
-  pub state : after ≡ stateAt s (head_of (after_of s))
-  pub trials : t ≡ triedBy s
-  pub place : p ≡ length (wordsBy s)
-  pub words : take p list ≡ wordsBy s
-  pub long : length list ≡ listSize
-  pub fits : length (wordsBy s) ≤ listSize
+  pub state : after ≡ state_at s (head_of (after_of s))
+  pub trials : t ≡ tried_by s
+  pub place : p ≡ length (words_by s)
+  pub words : take p list ≡ words_by s
+  pub long : length list ≡ list_size
+  pub fits : length (words_by s) ≤ list_size
 
 abbrev pub AnsweredBy : SweepState → SweepAnswer → List ℕ → Type 0
 AnsweredBy s (SweepAnswer.Accepted r) list = Answered s r.state r.trials r.place list
@@ -52,16 +52,16 @@ module _ (t : Tally) (c : Counted t) (after : SweepState) (trials place : ℕ) (
   abbrev mark : ℕ → Mark
   mark = mark_of s.factor
 
-  open-ones : opens ≡ counted isOpen mark (triedOf s)
-  open-ones = e ∙ ap odds a.words ∙ sym (told mark (triedOf s)).0
+  open_ones : opens ≡ counted is_open mark (tried_of s)
+  open_ones = e ∙ ap odds a.words ∙ sym (told mark (tried_of s)).0
 
-  wrong-ones : place - opens ≡ counted isWrong mark (triedOf s)
-  wrong-ones = omega (arith, a.place, told mark (triedOf s), open-ones)
+  wrong_ones : place - opens ≡ counted is_wrong mark (tried_of s)
+  wrong_ones = omega (arith, a.place, told mark (tried_of s), open_ones)
 
   pub addable : Addable t trials place opens
   addable =
-      let k : triedBy s ≤ length (left_of s) = tries-within mark noCap listSize (left_of s) in
-      let o : opens ≤ place = omega (arith, a.place, told mark (triedOf s), open-ones) in
+      let k : tried_by s ≤ length (left_of s) = tries_within mark no_cap list_size (left_of s) in
+      let o : opens ≤ place = omega (arith, a.place, told mark (tried_of s), open_ones) in
       let f = a.fits in
       record {
         tried = omega (arith, a.trials, c.few);
@@ -70,54 +70,54 @@ module _ (t : Tally) (c : Counted t) (after : SweepState) (trials place : ℕ) (
         some = o;
       }
 
-  pub added_is : addedTo t after trials place opens ≡ tallied t
-  added_is = λ i. record { state = a.state i; trials = t.trials + a.trials i; wrongs = t.wrongs + wrong-ones i; opens = t.opens + open-ones i }
+  pub added_is : added_to t after trials place opens ≡ tallied t
+  added_is = λ i. record { state = a.state i; trials = t.trials + a.trials i; wrongs = t.wrongs + wrong_ones i; opens = t.opens + open_ones i }
 
 -- ---- the call
 
 -- what a reply tells
-abbrev resultIn : Outcome Result → Result
-resultIn (refused n) = record { trials = 0; rounds = 0; place = 0 }
-resultIn (accepted r) = r
+abbrev result_in : Outcome Result → Result
+result_in (refused n) = record { trials = 0; rounds = 0; place = 0 }
+result_in (accepted r) = r
 
-module _ (s : SweepState) (g : Going s) (list : List ℕ) (size : length list ≡ listSize) where
-  not-refused : judged (conditions engine (view_of s) (termsBy noCap (length list) 0)) ≡ none
+module _ (s : SweepState) (g : Going s) (list : List ℕ) (size : length list ≡ list_size) where
+  not_refused : judged (conditions engine (view_of s) (terms_by no_cap (length list) 0)) ≡ none
   unfolding judged
-  not-refused = rw (g.whole, g.inside, le-ltb s.next s.first g.from, le-ltb s.last s.next g.upto, g.going, size)
+  not_refused = rw (g.whole, g.inside, le-ltb s.next s.first g.from, le-ltb s.last s.next g.upto, g.going, size)
 
-  few_words : length (wordsBy s) ≤ listSize
-  few_words = words-fit (mark_of s.factor) noCap listSize (left_of s)
+  few_words : length (words_by s) ≤ list_size
+  few_words = words_fit (mark_of s.factor) no_cap list_size (left_of s)
 
-  front : take (length (wordsBy s)) (sets list 0 (wordsBy s)) ≡ wordsBy s
+  front : take (length (words_by s)) (sets list 0 (words_by s)) ≡ words_by s
   front =
-      let e : 0 + length (wordsBy s) ≡ length (wordsBy s) = omega arith in
-      ap (λ (k : ℕ). take k (sets list 0 (wordsBy s))) (sym e) ∙ read_back list (wordsBy s) 0 (omega (arith, few_words))
+      let e : 0 + length (words_by s) ≡ length (words_by s) = omega arith in
+      ap (λ (k : ℕ). take k (sets list 0 (words_by s))) (sym e) ∙ read_back list (words_by s) 0 (omega (arith, few_words))
 
-  reply-is :
-      sweepCall engine (view_of s) (call_of noCap list 0)
+  reply_is :
+      sweep_call engine (view_of s) (call_of no_cap list 0)
       ≡ record {
-        answer = accepted (record { trials = triedBy s; rounds = (rowRun engine (view_of s).over s.next (triedBy s) (left_of s)).rounds; place = 0 + length (wordsBy s) });
+        answer = accepted (record { trials = tried_by s; rounds = (row_run engine (view_of s).over s.next (tried_by s) (left_of s)).rounds; place = 0 + length (words_by s) });
         state = handed engine (view_of s) (head_of (after_of s));
-        list = sets list 0 (wordsBy s);
+        list = sets list 0 (words_by s);
       }
-  reply-is = call-by-row (view_of s) (call_of noCap list 0) ∙ rw (not-refused, size, entries-are (wordsBy s)) refl
+  reply_is = call_by_row (view_of s) (call_of no_cap list 0) ∙ rw (not_refused, size, entries_are (words_by s)) refl
 
   -- What the call answers.
-  pub answered : (a : SweepAnswer) (left : List ℕ) → replyOf a left ≡ sweepCall engine (view_of s) (call_of noCap list 0) → AnsweredBy s a left
+  pub answered : (a : SweepAnswer) (left : List ℕ) → reply_of a left ≡ sweep_call engine (view_of s) (call_of no_cap list 0) → AnsweredBy s a left
   answered (SweepAnswer.Accepted r) left e =
-      let all = e ∙ reply-is in
-      let p : r.place ≡ length (wordsBy s) = ap (λ (x : Reply (Range Factor)). (resultIn x.answer).place) all ∙ omega arith in
-      let l : left ≡ sets list 0 (wordsBy s) = ap (λ (x : Reply (Range Factor)). x.list) all in
+      let all = e ∙ reply_is in
+      let p : r.place ≡ length (words_by s) = ap (λ (x : Reply (Range Factor)). (result_in x.answer).place) all ∙ omega arith in
+      let l : left ≡ sets list 0 (words_by s) = ap (λ (x : Reply (Range Factor)). x.list) all in
       record {
         state = ap (λ (x : Reply (Range Factor)). code_of x.state) all;
-        trials = ap (λ (x : Reply (Range Factor)). (resultIn x.answer).trials) all;
+        trials = ap (λ (x : Reply (Range Factor)). (result_in x.answer).trials) all;
         place = p;
-        words = ap (λ (k : ℕ). take k left) p ∙ ap (take (length (wordsBy s))) l ∙ front;
-        long = ap length l ∙ length-sets list 0 (wordsBy s) ∙ size;
+        words = ap (λ (k : ℕ). take k left) p ∙ ap (take (length (words_by s))) l ∙ front;
+        long = ap length l ∙ length-sets list 0 (words_by s) ∙ size;
         fits = few_words;
       }
-  answered (SweepAnswer.Refused r) left e = let z : ◌≡◌ {A = ℕ} 0 1 = cc (ap (λ (x : Reply (Range Factor)). x.answer) (e ∙ reply-is)) in omega arith
+  answered (SweepAnswer.Refused r) left e = let z : ◌≡◌ {A = ℕ} 0 1 = cc (ap (λ (x : Reply (Range Factor)). x.answer) (e ∙ reply_is)) in omega arith
 
 -- A part prints at most 576 bytes.
-pub part-short : (s : SweepState) → length (partLines s) ≤ 576
-part-short s = omega (arith, length-lines (wordsBy s), words-fit (mark_of s.factor) noCap listSize (left_of s))
+pub part_short : (s : SweepState) → length (part_lines s) ≤ 576
+part_short s = omega (arith, length_lines (words_by s), words_fit (mark_of s.factor) no_cap list_size (left_of s))

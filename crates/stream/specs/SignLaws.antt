@@ -5,31 +5,31 @@ use Rattle.std.proofs.Common.{◌∙◌}
 use Rattle.marks.specs.Answers.{Outcome, refused, accepted, and_then, each}
 use Rattle.factor.specs.declared.Description.{Description}
 use Rattle.factor.specs.declared.Factor.{Factor}
-use Rattle.factor.specs.SetUp.{setUp}
-use Rattle.factor.specs.Signs.{factorAs, describedAs, set-up-signed}
-use Rattle.frame.specs.Digits.{hexDigits}
-use Rattle.frame.specs.Frame.{signAdded, frame_of, precisionByte}
+use Rattle.factor.specs.SetUp.{set_up}
+use Rattle.factor.proofs.Signs.{factor_as, described_as, set_up_signed}
+use Rattle.frame.specs.Digits.{hex_digits}
+use Rattle.frame.specs.Frame.{sign_added, frame_of, precision_byte}
 use Rattle.frame.specs.FrameLaws.{sign_read}
-use Rattle.stream.specs.Output.{suspectsOf, sweptOutput, judgedLine, judgedOutput, lineOutput}
+use Rattle.stream.specs.Output.{suspects_of, swept_output, judged_line, judged_output, line_output}
 
 module _ (s : Bool) where
   -- what is set up, with the sign
-  judged-signed : (o : Outcome Description) → and_then (each (describedAs s) o) setUp ≡ each (factorAs s) (and_then o setUp)
-  judged-signed (refused k) = refl
-  judged-signed (accepted d) = set-up-signed s d
+  judged_signed : (o : Outcome Description) → and_then (each (described_as s) o) set_up ≡ each (factor_as s) (and_then o set_up)
+  judged_signed (refused k) = refl
+  judged_signed (accepted d) = set_up_signed s d
 
   -- and what is printed of it, without
-  output-signed : (i : ℕ) (o : Outcome Factor) → judgedOutput i (each (factorAs s) o) ≡ judgedOutput i o
-  unfolding sweptOutput suspectsOf
-  output-signed i (refused k) = refl
-  output-signed i (accepted f) = refl
+  output_signed : (i : ℕ) (o : Outcome Factor) → judged_output i (each (factor_as s) o) ≡ judged_output i o
+  unfolding swept_output suspects_of
+  output_signed i (refused k) = refl
+  output_signed i (accepted f) = refl
 
-  line-with : (i p : ℕ) → p < signAdded → (rest : List ℕ) → lineOutput i (hexDigits 2 (precisionByte s p) ++ rest) ≡ lineOutput i (hexDigits 2 p ++ rest)
-  unfolding lineOutput judgedLine
-  line-with i p h rest =
-      let line = hexDigits 2 p ++ rest in
-      ap (λ (o : Outcome Description). judgedOutput i (and_then o setUp)) (sign_read rest s p h) ∙ ap (judgedOutput i) (judged-signed (frame_of line)) ∙ output-signed i (judgedLine line)
+  line_with : (i p : ℕ) → p < sign_added → (rest : List ℕ) → line_output i (hex_digits 2 (precision_byte s p) ++ rest) ≡ line_output i (hex_digits 2 p ++ rest)
+  unfolding line_output judged_line
+  line_with i p h rest =
+      let line = hex_digits 2 p ++ rest in
+      ap (λ (o : Outcome Description). judged_output i (and_then o set_up)) (sign_read rest s p h) ∙ ap (judged_output i) (judged_signed (frame_of line)) ∙ output_signed i (judged_line line)
 
 -- line i with the byte p + 80 prints what it prints with the byte p
-pub line-signed : (i p : ℕ) → p < signAdded → (rest : List ℕ) → lineOutput i (hexDigits 2 (signAdded + p) ++ rest) ≡ lineOutput i (hexDigits 2 p ++ rest)
-line-signed = line-with true
+pub line_signed : (i p : ℕ) → p < sign_added → (rest : List ℕ) → line_output i (hex_digits 2 (sign_added + p) ++ rest) ≡ line_output i (hex_digits 2 p ++ rest)
+line_signed = line_with true

@@ -1,13 +1,13 @@
 // The program `plotconst` in steps by value (document 01, "Frames and report"): from what was read so far and the next bytes to the bytes to write.
 ghost use Rattle.std.specs.Prelude.{◌≡◌, true, ◌&&◌, [], ◌+◌, ◌-◌, ◌*◌, ◌≤◌, leb, length, take, drop};
-ghost use Rattle.factor.specs.SetUp.{outcomeOf, intact};
+ghost use Rattle.factor.specs.SetUp.{outcome_of, intact};
 ghost use Rattle.frame.specs.Written.{Written};
 ghost use Rattle.stream.specs.declared.Task;
-ghost use Rattle.stream.specs.Output.{wordLines, judgedLine, odds};
-ghost use Rattle.stream.specs.Keep.{keep, kept, upToFeed};
-ghost use Rattle.stream.specs.Step.{begunWith, tallied, partLines, mostWritten, sweepingTask, wantsStep, read_of, atLine, judgedStep, taskStep, step_of, end_of};
-ghost use Rattle.stream.specs.Work.{allSteps, next_of, workOf};
-ghost use Rattle.stream.specs.Good.{Going, Counted, GoodTask, Fit, addedTo, Addable};
+ghost use Rattle.stream.specs.Output.{word_lines, judged_line, odds};
+ghost use Rattle.stream.specs.Keep.{keep, kept, up_to_feed};
+ghost use Rattle.stream.specs.Step.{begun_with, tallied, part_lines, most_written, sweeping_task, wants_step, read_of, at_line, judged_step, task_step, step_of, end_of};
+ghost use Rattle.stream.specs.Work.{all_steps, next_of, work_of};
+ghost use Rattle.stream.specs.Good.{Going, Counted, GoodTask, Fit, added_to, Addable};
 ghost use Rattle.stream.specs.Moves.{Turned, Moved, WorkedOff};
 
 use factor::{Factor, SetUp};
@@ -117,7 +117,7 @@ fn keep_byte(held: &mut [u8], count: usize, b: u8) -> usize
 fn keep_line(held: &mut [u8], count: usize, input: &[u8], at: usize) -> Kept
     requires { (length held.old ≡ 40) × (count ≤ 40) × (at ≤ length input.now) }
     ensures held_len { (length held.new ≡ 40) × (result.length ≤ 40) × (take result.length held.new ≡ kept (take count held.old) (drop at input.now)) }
-    ensures at_in_bounds { (result.at ≤ length input.now) × (drop result.at input.now ≡ upToFeed (drop at input.now)) }
+    ensures at_in_bounds { (result.at ≤ length input.now) × (drop result.at input.now ≡ up_to_feed (drop at input.now)) }
 {
     let mut length = count;
     let mut place = at;
@@ -134,7 +134,7 @@ fn keep_line(held: &mut [u8], count: usize, input: &[u8], at: usize) -> Kept
 
 // What a line asks for: a factor to sweep, or a refusal.
 fn judge(line: &[u8]) -> SetUp
-    ensures { outcomeOf result ≡ judgedLine line.now }
+    ensures { outcome_of result ≡ judged_line line.now }
 {
     match frame::read_frame(line) {
         FrameAnswer::Frame(d) => factor::set_up(d),
@@ -152,7 +152,7 @@ fn widened(word: u32) -> u64
 // Prints the first words of a list, each on a line of its own, and counts the open ones, which are odd.
 fn put_words(list: &[u32], count: usize, out: &mut [u8], at: usize) -> Printed
     requires { (count ≤ length list.now) × (at + 9 * count ≤ length out.old) }
-    ensures written { Written out.old at (wordLines (take count list.now)) out.new result.at }
+    ensures written { Written out.old at (word_lines (take count list.now)) out.new result.at }
     ensures opens_value { result.opens ≡ odds (take count list.now) }
 {
     let mut place = at;
@@ -170,7 +170,7 @@ fn put_words(list: &[u32], count: usize, out: &mut [u8], at: usize) -> Printed
 // The tally with a call's state and trials, and with its words, of which so many are open ones.
 fn added(t: Tally, swept: Swept, opens: u64) -> Tally
     requires { Addable t swept.trials swept.place opens }
-    ensures { result ≡ addedTo t swept.state swept.trials swept.place opens }
+    ensures { result ≡ added_to t swept.state swept.trials swept.place opens }
 {
     let state = swept.state;
     Tally {
@@ -184,7 +184,7 @@ fn added(t: Tally, swept: Swept, opens: u64) -> Tally
 // One call of a sweep: its words go out, and the tally grows. The cap is none that counts.
 fn sweep_part(t: Tally, out: &mut [u8], used: usize) -> Part
     requires { Going t.state × Counted t × (used + 576 ≤ length out.old) }
-    ensures { (result.tally ≡ tallied t) × Written out.old used (partLines t.state) out.new result.used }
+    ensures { (result.tally ≡ tallied t) × Written out.old used (part_lines t.state) out.new result.used }
 {
     let mut list = [0u32; 64];
     let state = t.state;
@@ -205,7 +205,7 @@ fn sweep_part(t: Tally, out: &mut [u8], used: usize) -> Part
 // The sweep over all significands of a factor, at its beginning.
 fn begin(f: Factor) -> Tally
     requires { intact f ≡ true }
-    ensures { result ≡ begunWith f }
+    ensures { result ≡ begun_with f }
 {
     let p = f.precision;
     Tally {
@@ -225,7 +225,7 @@ fn begin(f: Factor) -> Tally
 // At the beginning of a line.
 fn at_line(number: u64, held: [u8; 40]) -> Progress
     requires { (number ≤ 65536) × (length held ≡ 40) }
-    ensures { Fit result × (read_of result ≡ atLine number) }
+    ensures { Fit result × (read_of result ≡ at_line number) }
 {
     Progress {
         number,
@@ -237,14 +237,14 @@ fn at_line(number: u64, held: [u8; 40]) -> Progress
 
 // At the beginning: line 1, nothing kept. What stands in `held` past what is kept is left free, here and in what `work` hands back: nothing reads it.
 pub fn new() -> Progress
-    ensures { Fit result × (read_of result ≡ atLine 1) }
+    ensures { Fit result × (read_of result ≡ at_line 1) }
 {
     at_line(1, [0; 40])
 }
 
 // Whether a sweep is on its way: then a step needs no input.
 fn is_sweeping(p: Progress) -> bool
-    ensures { result ≡ sweepingTask p.task }
+    ensures { result ≡ sweeping_task p.task }
 {
     let task = p.task;
     match task {
@@ -255,8 +255,8 @@ fn is_sweeping(p: Progress) -> bool
 
 // A part of a sweep, and its report at the end.
 fn sweep_step(p: Progress, t: Tally, at: usize, out: &mut [u8], used: usize) -> Move
-    requires { Fit p × GoodTask p.number (Task.Sweeping t) × (used + mostWritten ≤ length out.old) }
-    ensures { Turned (taskStep p.number [] (Task.Sweeping t) []) at result out.old used out.new }
+    requires { Fit p × GoodTask p.number (Task.Sweeping t) × (used + most_written ≤ length out.old) }
+    ensures { Turned (task_step p.number [] (Task.Sweeping t) []) at result out.old used out.new }
 {
     let part = sweep_part(t, out, used);
     let tally = part.tally;
@@ -297,8 +297,8 @@ fn line_step(
     out: &mut [u8],
     used: usize,
 ) -> Move
-    requires { (number ≤ 65535) × (length held ≡ 40) × (count ≤ 40) × (used + mostWritten ≤ length out.old) }
-    ensures { Turned (judgedStep number (judgedLine (take count held)) []) at result out.old used out.new }
+    requires { (number ≤ 65535) × (length held ≡ 40) × (count ≤ 40) × (used + most_written ≤ length out.old) }
+    ensures { Turned (judged_step number (judged_line (take count held)) []) at result out.old used out.new }
 {
     match judge(&held[..count]) {
         SetUp::Accepted(f) => {
@@ -327,8 +327,8 @@ fn line_step(
 
 // One step: from what was read so far, and the input from `at` on, to the bytes that it writes from `used` on.
 fn step(p: Progress, input: &[u8], at: usize, out: &mut [u8], used: usize) -> Move
-    requires { Fit p × (at ≤ length input.now) × (used + mostWritten ≤ length out.old) }
-    ensures { Moved (step_of (read_of p) (drop at input.now)) input.now result out.old used out.new × (result.used ≤ used + mostWritten) }
+    requires { Fit p × (at ≤ length input.now) × (used + most_written ≤ length out.old) }
+    ensures { Moved (step_of (read_of p) (drop at input.now)) input.now result out.old used out.new × (result.used ≤ used + most_written) }
 {
     let task = p.task;
     match task {
@@ -362,8 +362,8 @@ fn step(p: Progress, input: &[u8], at: usize, out: &mut [u8], used: usize) -> Mo
 
 // The end of the input: a last line without its line feed is refused.
 fn finish(p: Progress, out: &mut [u8], used: usize) -> usize
-    requires { Fit p × (used + mostWritten ≤ length out.old) }
-    ensures { Written out.old used (end_of (read_of p)) out.new result × (result ≤ used + mostWritten) }
+    requires { Fit p × (used + most_written ≤ length out.old) }
+    ensures { Written out.old used (end_of (read_of p)) out.new result × (result ≤ used + most_written) }
 {
     let task = p.task;
     match task {
@@ -382,7 +382,7 @@ fn finish(p: Progress, out: &mut [u8], used: usize) -> usize
 
 // Whether a step is to be made: input is left, or a sweep is on its way.
 fn wants_step(p: Progress, input: &[u8], at: usize) -> bool
-    ensures { result ≡ wantsStep p.task (drop at input.now) }
+    ensures { result ≡ wants_step p.task (drop at input.now) }
 {
     if at < input.len() {
         return true;
@@ -393,7 +393,7 @@ fn wants_step(p: Progress, input: &[u8], at: usize) -> bool
 // Whether a step is to be made, and an output of this size has room for whatever it may write.
 fn may_step(m: Move, input: &[u8], size: usize) -> bool
     requires { m.used ≤ size }
-    ensures { result ≡ (wantsStep m.progress.task (drop m.at input.now) && leb mostWritten (size - m.used)) }
+    ensures { result ≡ (wants_step m.progress.task (drop m.at input.now) && leb most_written (size - m.used)) }
 {
     let progress = m.progress;
     wants_step(progress, input, m.at) && MOST_WRITTEN <= size - m.used
@@ -402,7 +402,7 @@ fn may_step(m: Move, input: &[u8], size: usize) -> bool
 // Steps, as long as one is to be made and there is room for it.
 fn steps(p: Progress, input: &[u8], at: usize, out: &mut [u8]) -> Move
     requires { Fit p × (at ≤ length input.now) }
-    ensures { Moved (allSteps (length out.old) (read_of p) (drop at input.now)) input.now result out.old 0 out.new × (result.used ≤ length out.old) }
+    ensures { Moved (all_steps (length out.old) (read_of p) (drop at input.now)) input.now result out.old 0 out.new × (result.used ≤ length out.old) }
 {
     let mut moved = Move {
         progress: p,
@@ -431,8 +431,8 @@ fn next_after(p: Progress, input: &[u8], at: usize) -> Next
 
 // All that the program does between a read and a write, with the input from `at` on and an output that is free. Where nothing is left to do, the read gave nothing: the input has ended.
 pub fn work(p: Progress, input: &[u8], at: usize, out: &mut [u8]) -> Worked
-    requires { Fit p × (at ≤ length input.now) × (mostWritten ≤ length out.old) }
-    ensures { WorkedOff (workOf (length out.old) (read_of p) (drop at input.now)) input.now result out.old out.new }
+    requires { Fit p × (at ≤ length input.now) × (most_written ≤ length out.old) }
+    ensures { WorkedOff (work_of (length out.old) (read_of p) (drop at input.now)) input.now result out.old out.new }
 {
     if !wants_step(p, input, at) {
         let last = finish(p, out, 0);

@@ -1,8 +1,3 @@
 -- Suspects. Definitions: Suspects, and the search for the next of them (Next). Laws: the others, of which SuspectLaws has that every significand that is not right is one.
 pub mod Suspects
-pub mod RightLaws
-pub mod SuspectLaws
 pub mod Next
-pub mod NextLaws
-pub mod WindowLaws
-pub mod Examples

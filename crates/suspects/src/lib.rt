@@ -1,9 +1,9 @@
 // Suspects: the significands near a midpoint, among which every failing one is, and the search for the next of them (document 01, "Suspects and rounds").
 ghost use Rattle.std.specs.Prelude.{◌≡◌, ◌+◌, ◌-◌, ◌*◌, ◌%◌, ◌≤◌, ◌<◌, ◌^◌};
-ghost use Rattle.factor.specs.Context.{context_of, lowerOf, upperOf};
+ghost use Rattle.factor.specs.Context.{context_of, lower_of, upper_of};
 ghost use Rattle.factor.specs.SetUp.{Sound};
-ghost use Rattle.wide.specs.Value.{wordBits, halfWord};
-ghost use Rattle.suspects.specs.Next.{windowNear, windowIn, nextIn, firstHigh, windows, Askable};
+ghost use Rattle.wide.specs.Value.{word_bits, half_word};
+ghost use Rattle.suspects.specs.Next.{window_near, window_in, next_in, first_high, windows, Askable};
 
 use factor::Factor;
 use search::{Found, Place};
@@ -28,7 +28,7 @@ pub struct Windows {
 // The first high significand: 2 ^ (E + n) over the lower end, rounded up.
 pub fn first_high(f: Factor) -> u64
     requires { Sound f }
-    ensures { result ≡ firstHigh (context_of f) (lowerOf f) }
+    ensures { result ≡ first_high (context_of f) (lower_of f) }
 {
     let p = f.precision;
     let divided = wide::divide(wide::wide_power(p.scale() + p.bits), f.lower);
@@ -40,8 +40,8 @@ pub fn first_high(f: Factor) -> u64
 
 // The window near half the distance of two midpoints.
 fn window_near(lower: u64, half: u64, window: u64, widening: u64) -> Window
-    requires { (0 < window) × (window + widening ≤ half) × (2 * half ≤ halfWord) }
-    ensures { result ≡ windowNear lower half window widening }
+    requires { (0 < window) × (window + widening ≤ half) × (2 * half ≤ half_word) }
+    ensures { result ≡ window_near lower half window widening }
 {
     let modulus = 2 * half;
     Window {
@@ -55,7 +55,7 @@ fn window_near(lower: u64, half: u64, window: u64, widening: u64) -> Window
 // The window of the half whose products drop so many digits: two midpoints are 2 ^ dropped apart.
 fn window_in(f: Factor, dropped: u32) -> Window
     requires { Sound f × ((context_of f).E ≤ dropped) × (dropped ≤ (context_of f).E + 1) }
-    ensures { result ≡ windowIn (context_of f) (lowerOf f) (upperOf f) (2 ^ (dropped - 1)) }
+    ensures { result ≡ window_in (context_of f) (lower_of f) (upper_of f) (2 ^ (dropped - 1)) }
 {
     let p = f.precision;
     let window = wide::power(p.window_exponent());
@@ -66,7 +66,7 @@ fn window_in(f: Factor, dropped: u32) -> Window
 // The windows of a factor.
 pub fn windows_of(f: Factor) -> Windows
     requires { Sound f }
-    ensures { result ≡ windows (context_of f) (lowerOf f) (upperOf f) }
+    ensures { result ≡ windows (context_of f) (lower_of f) (upper_of f) }
 {
     let p = f.precision;
     Windows {
@@ -78,7 +78,7 @@ pub fn windows_of(f: Factor) -> Windows
 
 // x times y modulo m, a divisor of 2 ^ 64: the low word of the product tells.
 fn remainder(x: u64, y: u64, m: u64) -> u64
-    requires { (0 < m) × (2 ^ wordBits % m ≡ 0) }
+    requires { (0 < m) × (2 ^ word_bits % m ≡ 0) }
     ensures { result ≡ x * y % m }
 {
     let p = wide::product(x, y);
@@ -87,8 +87,8 @@ fn remainder(x: u64, y: u64, m: u64) -> u64
 
 // The next suspect from the start on, in the half of a window, with the search's rounds.
 pub fn next(w: Window, start: u64) -> Found
-    requires { Askable w × (start ≤ halfWord) }
-    ensures { result ≡ nextIn w start }
+    requires { Askable w × (start ≤ half_word) }
+    ensures { result ≡ next_in w start }
 {
     let base = remainder(w.step, start, w.modulus);
     let found = search::find_from(w.modulus, w.step, base, w.from, w.to);

@@ -18,23 +18,23 @@ abbrev pub code_of : State (Range Factor) → SweepState
 code_of s = record { factor = s.over.factor; first = s.over.first; last = s.over.last; next = s.next; finished = s.finished }
 
 -- the answer to a new sweep: a refusal its number, or the state
-abbrev pub newOf : NewSweep → Outcome (State (Range Factor))
-newOf (NewSweep.Accepted s) = accepted (view_of s)
-newOf (NewSweep.Refused n) = refused n
+abbrev pub new_of : NewSweep → Outcome (State (Range Factor))
+new_of (NewSweep.Accepted s) = accepted (view_of s)
+new_of (NewSweep.Refused n) = refused n
 
 -- a call: cap, list and first free place
 abbrev pub call_of : (cap : ℕ) → List ℕ → (free : ℕ) → Call
 call_of cap list free = record { cap = cap; width = 32; list = list; free = free }
 
 -- what it is judged by: cap, the list's length and first free place
-abbrev pub termsBy : (cap size free : ℕ) → Terms
-termsBy cap size free = record { cap = cap; width = 32; size = size; free = free }
+abbrev pub terms_by : (cap size free : ℕ) → Terms
+terms_by cap size free = record { cap = cap; width = 32; size = size; free = free }
 
 -- what an accepted call returns as numbers
 abbrev pub result_of : Swept → Result
 result_of r = record { trials = r.trials; rounds = r.rounds; place = r.place }
 
 -- the answer to a call, with the caller's list as it then is: a refusal its number and the state, any other the state and trials, rounds and place
-abbrev pub replyOf : SweepAnswer → List ℕ → Reply (Range Factor)
-replyOf (SweepAnswer.Accepted r) list = record { answer = accepted (result_of r); state = view_of r.state; list = list }
-replyOf (SweepAnswer.Refused r) list = record { answer = refused r.number; state = view_of r.state; list = list }
+abbrev pub reply_of : SweepAnswer → List ℕ → Reply (Range Factor)
+reply_of (SweepAnswer.Accepted r) list = record { answer = accepted (result_of r); state = view_of r.state; list = list }
+reply_of (SweepAnswer.Refused r) list = record { answer = refused r.number; state = view_of r.state; list = list }

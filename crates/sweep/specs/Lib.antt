@@ -1,10 +1,4 @@
 -- Sweeps of a factor. Definitions: Engine (what a sweep asks of a factor), Answers (what the code's states and answers say) and Steps. Laws: the others.
 pub mod Engine
-pub mod EngineLaws
-pub mod SignLaws
 pub mod Answers
 pub mod Steps
-pub mod StepLaws
-pub mod LoopLaws
-pub mod Demand3
-pub mod Examples

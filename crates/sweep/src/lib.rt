@@ -2,14 +2,14 @@
 ghost use Rattle.std.specs.Prelude.{◌≡◌, ◌+◌, ◌≤◌, ◌<◌, ◌^◌, min, max, length};
 ghost use Rattle.search.specs.declared.Place.TheVariants.{Nowhere};
 ghost use Rattle.factor.specs.Precision.{ValidPrecision};
-ghost use Rattle.wide.specs.Value.{wordBits, halfWord};
+ghost use Rattle.wide.specs.Value.{word_bits, half_word};
 ghost use Rattle.suspects.specs.Next.{Askable};
-ghost use Rattle.marks.specs.Answers.{refusalOf, First};
-ghost use Rattle.calls.specs.Call.{newState, conditions, sweepCall};
+ghost use Rattle.marks.specs.Answers.{refusal_of, First};
+ghost use Rattle.calls.specs.Call.{new_state, conditions, sweep_call};
 ghost use Rattle.calls.specs.Engine;
-ghost use Rattle.sweep.specs.Engine.{range, stateOut, engine};
-ghost use Rattle.sweep.specs.Answers.{view_of, newOf, call_of, termsBy, result_of, replyOf};
-ghost use Rattle.sweep.specs.Steps.{cut_at, soughtBefore, aheadIn, Searchable, mustStop, begunAt, resumedAt, haltedAt, withWord, tried_at, step_of, resultIn, Room, Stepping, Taken, partList, partRun, partWritten, Parted, Partible};
+ghost use Rattle.sweep.specs.Engine.{range, state_out, engine};
+ghost use Rattle.sweep.specs.Answers.{view_of, new_of, call_of, terms_by, result_of, reply_of};
+ghost use Rattle.sweep.specs.Steps.{cut_at, sought_before, ahead_in, Searchable, must_stop, begun_at, resumed_at, halted_at, with_word, tried_at, step_of, result_in, Room, Stepping, Taken, part_list, part_run, part_written, Parted, Partible};
 
 use factor::{Factor, Precision};
 use marks::{Judgement, Mark};
@@ -71,7 +71,7 @@ pub struct Work {
 
 // A new sweep over a range: 31 by the factor, then 17 by the range.
 pub fn new_state(f: Factor, first: u64, last: u64) -> NewSweep
-    ensures { newOf result ≡ newState engine (range f first last) }
+    ensures { new_of result ≡ new_state engine (range f first last) }
 {
     if !factor::is_intact(f) {
         return NewSweep::Refused(31);
@@ -92,7 +92,7 @@ pub fn new_state(f: Factor, first: u64, last: u64) -> NewSweep
 // Refusal 32: the range is one that 17 refuses, or the next significand lies outside it.
 fn state_out(s: SweepState) -> bool
     requires { ValidPrecision s.factor.precision.bits }
-    ensures { result ≡ stateOut (view_of s) }
+    ensures { result ≡ state_out (view_of s) }
 {
     let f = s.factor;
     let p = f.precision;
@@ -107,7 +107,7 @@ fn state_out(s: SweepState) -> bool
 
 // The first refusal of a call whose condition holds: state before input, the smaller number first.
 fn refusal_of(s: SweepState, cap: u64, size: usize, free: usize) -> Judgement
-    ensures { First (conditions engine (view_of s) (termsBy cap size free)) (refusalOf result) }
+    ensures { First (conditions engine (view_of s) (terms_by cap size free)) (refusal_of result) }
 {
     let f = s.factor;
     if !factor::is_intact(f) {
@@ -156,8 +156,8 @@ fn cut(found: Found, end: u64) -> Found
 
 // The search in a half, from `at` on, where the half's part of the range ends before `end`: passed over if nothing is left of it.
 fn sought_before(w: Window, at: u64, end: u64) -> Found
-    requires { Askable w × (end ≤ halfWord) }
-    ensures { result ≡ soughtBefore w at end }
+    requires { Askable w × (end ≤ half_word) }
+    ensures { result ≡ sought_before w at end }
 {
     if at < end {
         return cut(suspects::next(w, at), end);
@@ -187,8 +187,8 @@ fn larger(a: u64, b: u64) -> u64
 
 // The first suspect of the range from `at` on, low before high, with the rounds of the searches that lead to it.
 fn ahead(windows: Windows, last: u64, at: u64) -> Found
-    requires { Searchable windows × (last < halfWord) }
-    ensures { result ≡ aheadIn windows last at }
+    requires { Searchable windows × (last < half_word) }
+    ensures { result ≡ ahead_in windows last at }
 {
     let low = windows.low;
     let lower = sought_before(low, at, smaller(windows.first_high, last + 1));
@@ -209,7 +209,7 @@ fn ahead(windows: Windows, last: u64, at: u64) -> Found
 
 // Before a suspect is tried, a call stops if the cap is reached or no place is free.
 fn must_stop(trials: u64, cap: u64, place: usize, size: usize) -> bool
-    ensures { result ≡ mustStop trials cap place size }
+    ensures { result ≡ must_stop trials cap place size }
 {
     if trials == cap {
         return true;
@@ -219,7 +219,7 @@ fn must_stop(trials: u64, cap: u64, place: usize, size: usize) -> bool
 
 // Nothing is done yet: public for `kit` alone, as is `steps_on`.
 pub fn begun(s: SweepState) -> Work
-    ensures { result ≡ begunAt s.next }
+    ensures { result ≡ begun_at s.next }
 {
     Work {
         at: s.next,
@@ -234,7 +234,7 @@ pub fn begun(s: SweepState) -> Work
 
 // What is done so far, to be gone on with from a significand on: public for `kit` alone, as is `begun`. All else is constant, as what a loop carries on costs time.
 pub fn resumed(w: Work, at: u64) -> Work
-    ensures { result ≡ resumedAt w at }
+    ensures { result ≡ resumed_at w at }
 {
     let rounds = w.rounds;
     Work {
@@ -250,7 +250,7 @@ pub fn resumed(w: Work, at: u64) -> Work
 
 // The call stops at a suspect, or is over.
 fn halted(w: Work, rounds: u64, left: Place) -> Work
-    ensures { result ≡ haltedAt w rounds left }
+    ensures { result ≡ halted_at w rounds left }
 {
     Work {
         at: w.at,
@@ -265,8 +265,8 @@ fn halted(w: Work, rounds: u64, left: Place) -> Work
 
 // A word goes into the next free place.
 fn with_word(w: Work, word: u64) -> Work
-    requires { w.place + 1 < 2 ^ wordBits }
-    ensures { result ≡ withWord w word }
+    requires { w.place + 1 < 2 ^ word_bits }
+    ensures { result ≡ with_word w word }
 {
     let mut next = w;
     next.place = w.place + 1;
@@ -337,7 +337,7 @@ fn handed(s: SweepState, left: Place) -> SweepState
 
 // What an accepted call answers, once it is done.
 fn ended(s: SweepState, w: Work) -> Swept
-    ensures { (view_of result.state ≡ Engine.handed engine (view_of s) w.left) × (result_of result ≡ resultIn w) }
+    ensures { (view_of result.state ≡ Engine.handed engine (view_of s) w.left) × (result_of result ≡ result_in w) }
 {
     let left = w.left;
     Swept {
@@ -360,7 +360,7 @@ pub fn steps_on(
     tail: &mut [u32],
 ) -> Work
     requires { Partible s cap room paired (length tail.old) done }
-    ensures { Parted (partRun s cap room done) done result × (tail.new ≡ partWritten (partList paired lead) done (partRun s cap room done) tail.old) }
+    ensures { Parted (part_run s cap room done) done result × (tail.new ≡ part_written (part_list paired lead) done (part_run s cap room done) tail.old) }
 {
     let f = s.factor;
     let windows = suspects::windows_of(f);
@@ -384,7 +384,7 @@ pub fn steps_on(
 // The steps of an accepted call, which write into the tail that is lent to them, from its first place on.
 fn sweep_on(s: SweepState, cap: u64, tail: &mut [u32]) -> Swept
     requires { Taken s cap (length tail.old) }
-    ensures { (replyOf (SweepAnswer.Accepted result) tail.new ≡ sweepCall engine (view_of s) (call_of cap tail.old 0)) × (result.place ≤ length tail.old) }
+    ensures { (reply_of (SweepAnswer.Accepted result) tail.new ≡ sweep_call engine (view_of s) (call_of cap tail.old 0)) × (result.place ≤ length tail.old) }
 {
     let room = tail.len();
     ended(s, steps_on(s, cap, room, false, 0, begun(s), tail))
@@ -399,7 +399,7 @@ fn refused(s: SweepState, number: u32) -> SweepAnswer
 
 // A sweep call: the state, trials, rounds and the next first free place, or a refusal with the state as given. Only the free tail of the list is lent on.
 pub fn sweep_call(state: SweepState, cap: u64, list: &mut [u32], free: usize) -> SweepAnswer
-    ensures { replyOf result list.new ≡ sweepCall engine (view_of state) (call_of cap list.old free) }
+    ensures { reply_of result list.new ≡ sweep_call engine (view_of state) (call_of cap list.old free) }
 {
     let size = list.len();
     let verdict = refusal_of(state, cap, size, free);

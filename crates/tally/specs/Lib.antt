@@ -1,4 +1,2 @@
 -- The tally of a range, its laws, and request W2's figures.
 pub mod Tally
-pub mod TallyLaws
-pub mod Examples

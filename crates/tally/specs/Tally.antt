@@ -4,14 +4,14 @@ use Rattle.marks.specs.declared.Mark.{Mark}
 use Rattle.marks.specs.declared.Mark.TheVariants.{Right, Open, Wrong}
 use Rattle.marks.specs.Answers.{Outcome, refused, accepted, answer}
 use Rattle.factor.specs.declared.Factor.{Factor}
-use Rattle.factor.specs.Precision.{rangeOut}
+use Rattle.factor.specs.Precision.{range_out}
 use Rattle.factor.specs.SetUp.{intact}
 use Rattle.product.specs.declared.Device.{Device}
 use Rattle.product.specs.Marks.{mark}
 use Rattle.tally.specs.declared.Counts.{Counts}
 use Rattle.tally.specs.declared.TallyAnswer.{TallyAnswer}
-use Rattle.product.specs.OneStep.{oneStep}
-use Rattle.product.specs.Devices.{markOn}
+use Rattle.product.specs.OneStep.{one_step}
+use Rattle.product.specs.Devices.{mark_on}
 
 -- ---- counting
 -- 1 if a mark is m, and else 0
@@ -27,17 +27,17 @@ one Open Wrong = 0
 one Open Open = 1
 
 -- how many of the `count` significands from `first` on have the mark m, whoever marks them
-abbrev pub howMany : (marks : ℕ → Mark) (m : Mark) (first count : ℕ) → ℕ
-howMany marks m first zero = 0
-howMany marks m first (suc count) = howMany marks m first count + one m (marks (first + count))
+abbrev pub how_many : (marks : ℕ → Mark) (m : Mark) (first count : ℕ) → ℕ
+how_many marks m first zero = 0
+how_many marks m first (suc count) = how_many marks m first count + one m (marks (first + count))
 
 -- of every mark
-abbrev pub countsOf : (marks : ℕ → Mark) (first count : ℕ) → Counts
-countsOf marks first count = record { rights = howMany marks Right first count; wrongs = howMany marks Wrong first count; opens = howMany marks Open first count }
+abbrev pub counts_of : (marks : ℕ → Mark) (first count : ℕ) → Counts
+counts_of marks first count = record { rights = how_many marks Right first count; wrongs = how_many marks Wrong first count; opens = how_many marks Open first count }
 
 -- a tally with one significand more, of the mark m
-abbrev pub withOne : Counts → Mark → Counts
-withOne t m = record { rights = t.rights + one Right m; wrongs = t.wrongs + one Wrong m; opens = t.opens + one Open m }
+abbrev pub with_one : Counts → Mark → Counts
+with_one t m = record { rights = t.rights + one Right m; wrongs = t.wrongs + one Wrong m; opens = t.opens + one Open m }
 
 -- no significands, and those of two spans together
 abbrev pub nothing : Counts
@@ -48,29 +48,29 @@ together t u = record { rights = t.rights + u.rights; wrongs = t.wrongs + u.wron
 
 -- ---- the one-step device
 -- its mark of a significand
-unfoldable pub markOnce : Factor → ℕ → Mark
-unfolding oneStep mark
-markOnce f X = markOn Device.OneStep f X
+unfoldable pub mark_once : Factor → ℕ → Mark
+unfolding one_step mark
+mark_once f X = mark_on Device.OneStep f X
 
 -- ---- a call
 -- so many significands go into one
-abbrev pub mostTallied : ℕ
-mostTallied = 65536
+abbrev pub most_tallied : ℕ
+most_tallied = 65536
 
 -- how many significands a range has
-abbrev pub spanLength : (first last : ℕ) → ℕ
-spanLength first last = suc last - first
+abbrev pub span_length : (first last : ℕ) → ℕ
+span_length first last = suc last - first
 
 -- 31 by the factor, then 17 by the range, then 41: "tally range longer than 65,536"
 abbrev pub conditions : Factor → (first last : ℕ) → List (ℕ × Bool)
-conditions f first last = (31, not (intact f)) ∷ (17, rangeOut f.precision.bits first last) ∷ (41, ltb mostTallied (spanLength first last)) ∷ []
+conditions f first last = (31, not (intact f)) ∷ (17, range_out f.precision.bits first last) ∷ (41, ltb most_tallied (span_length first last)) ∷ []
 
 -- the tally of a range, unless one of them holds
 unfoldable pub tallied : Factor → (first last : ℕ) → Outcome Counts
-unfolding intact markOnce
-tallied f first last = answer (conditions f first last) (countsOf (markOnce f) first (spanLength first last))
+unfolding intact mark_once
+tallied f first last = answer (conditions f first last) (counts_of (mark_once f) first (span_length first last))
 
 -- what each case of the answer says
-abbrev pub tallySays : TallyAnswer → Outcome Counts
-tallySays (TallyAnswer.Accepted t) = accepted t
-tallySays (TallyAnswer.Refused k) = refused k
+abbrev pub tally_says : TallyAnswer → Outcome Counts
+tally_says (TallyAnswer.Accepted t) = accepted t
+tally_says (TallyAnswer.Refused k) = refused k

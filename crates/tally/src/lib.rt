@@ -1,12 +1,12 @@
 // The tally (request W2): how many significands of a range are right, wrong and open on the one-step device, so that an office sees what an old unit costs.
 ghost use Rattle.std.specs.Prelude.{◌≡◌, ◌*◌, ◌<◌, ◌^◌};
-ghost use Rattle.marks.specs.Answers.{refusalOf, First};
+ghost use Rattle.marks.specs.Answers.{refusal_of, First};
 ghost use Rattle.rounding.specs.Round.{HasBits};
 ghost use Rattle.round.specs.Cuts.{cut_at};
-ghost use Rattle.factor.specs.Context.{context_of, lowerOf, upperOf};
+ghost use Rattle.factor.specs.Context.{context_of, lower_of, upper_of};
 ghost use Rattle.factor.specs.SetUp.{Sound};
-ghost use Rattle.product.specs.AnswerLaws.{InRange};
-ghost use Rattle.tally.specs.Tally.{withOne, countsOf, markOnce, spanLength, conditions, tallied, tallySays};
+ghost use Rattle.product.proofs.AnswerLaws.{InRange};
+ghost use Rattle.tally.specs.Tally.{with_one, counts_of, mark_once, span_length, conditions, tallied, tally_says};
 
 use factor::Factor;
 use marks::{Judgement, Mark};
@@ -34,8 +34,8 @@ pub enum TallyAnswer {
 
 // The one-step product's mark, given both ends times the significand, each cut behind its step of binade 0: a mark compares whole numbers of such steps.
 fn mark_once(f: Factor, x: u64, lower: Cut, upper: Cut) -> Mark
-    requires { Sound f × HasBits f.precision.bits x × (lower ≡ cut_at (context_of f).E (lowerOf f * x)) × (upper ≡ cut_at (context_of f).E (upperOf f * x)) }
-    ensures { result ≡ markOnce f x }
+    requires { Sound f × HasBits f.precision.bits x × (lower ≡ cut_at (context_of f).E (lower_of f * x)) × (upper ≡ cut_at (context_of f).E (upper_of f * x)) }
+    ensures { result ≡ mark_once f x }
 {
     let p = f.precision;
     let e = p.scale();
@@ -49,7 +49,7 @@ fn mark_once(f: Factor, x: u64, lower: Cut, upper: Cut) -> Mark
 // A tally with one significand more, of a mark.
 fn counted(t: Counts, m: Mark) -> Counts
     requires { (t.rights < 2 ^ 32) × (t.wrongs < 2 ^ 32) × (t.opens < 2 ^ 32) }
-    ensures { result ≡ withOne t m }
+    ensures { result ≡ with_one t m }
 {
     match m {
         Mark::Right => Counts {
@@ -73,7 +73,7 @@ fn counted(t: Counts, m: Mark) -> Counts
 // The tally of a range in which all significands are of a factor that was accepted. From one to the next both ends' products grow by the end itself, so no two-word product is made but for the first.
 fn count(f: Factor, first: u64, last: u64) -> Counts
     requires { Sound f × InRange f.precision.bits first last }
-    ensures { result ≡ countsOf (markOnce f) first (spanLength first last) }
+    ensures { result ≡ counts_of (mark_once f) first (span_length first last) }
 {
     let mut t = Counts {
         rights: 0,
@@ -98,7 +98,7 @@ fn count(f: Factor, first: u64, last: u64) -> Counts
 
 // The first refusal of a tally whose condition holds: 31 by the factor, 17 by the range, then 41 by its length.
 fn refusal_of(f: Factor, first: u64, last: u64) -> Judgement
-    ensures { First (conditions f first last) (refusalOf result) }
+    ensures { First (conditions f first last) (refusal_of result) }
 {
     if !factor::is_intact(f) {
         return Judgement::Refused(31);
@@ -115,7 +115,7 @@ fn refusal_of(f: Factor, first: u64, last: u64) -> Judgement
 
 // Tallies a range on the one-step device, both ends included: how many significands are right, wrong and open, or refusal 31, 17 or 41.
 pub fn tally_range(f: Factor, first: u64, last: u64) -> TallyAnswer
-    ensures { tallySays result ≡ tallied f first last }
+    ensures { tally_says result ≡ tallied f first last }
 {
     match refusal_of(f, first, last) {
         Judgement::Refused(number) => TallyAnswer::Refused(number),

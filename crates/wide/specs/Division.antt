@@ -3,7 +3,7 @@ use Rattle.std.specs.Prelude.{◌≡◌, ℕ, ◌+◌, ◌*◌, ◌^◌, ◌≤�
 
 -- x times 2 ^ k has w binary digits, the highest of them set.
 pub record Normal (w x k : ℕ) : Type 0 where
-  pub shift-lt : k < w
+  pub shift_lt : k < w
   pub fits : x * 2 ^ k < 2 ^ w
   pub half : 2 ^ w ≤ 2 * (x * 2 ^ k)
 
@@ -11,4 +11,4 @@ pub record Normal (w x k : ℕ) : Type 0 where
 pub record Estimate (n d estimate left taken : ℕ) : Type 0 where
   pub sum : n + taken ≡ estimate * d + left
   pub left_lt : left < d
-  pub taken-lt : taken < 2 * d
+  pub taken_lt : taken < 2 * d

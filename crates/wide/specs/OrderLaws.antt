@@ -5,8 +5,8 @@ use Rattle.std.proofs.Math.Decide.{dec_lt, ℕ_discrete}
 use Rattle.std.proofs.Math.Arith.{digits_lt, digits_div}
 
 -- A number below the base is its low part.
-pub below-base : (W h l : ℕ) → h * W + l < W → l ≡ h * W + l
-below-base W h l below =
+pub below_base : (W h l : ℕ) → h * W + l < W → l ≡ h * W + l
+below_base W h l below =
     let none : h < 1 = lt_of_mul-lt-mul_right W (omega arith) in
     let zero : h ≡ 0 = omega arith in
     omega (arith, ap (λ (x : ℕ). x * W) zero)
@@ -16,8 +16,8 @@ pub high_lt : (W h l A : ℕ) → h * W + l < A * W → h < A
 high_lt W h l A lt = lt_of_mul-lt-mul_right W (omega arith)
 
 -- The number with the smaller high part is the smaller one.
-below-by-high : (W uh ul vh vl : ℕ) → ul < W → uh < vh → uh * W + ul < vh * W + vl
-below-by-high W uh ul vh vl hu h = lt_of_lt_of_le (digits_lt h hu) (le-add_right (vh * W) vl)
+below_by_high : (W uh ul vh vl : ℕ) → ul < W → uh < vh → uh * W + ul < vh * W + vl
+below_by_high W uh ul vh vl hu h = lt_of_lt_of_le (digits_lt h hu) (le-add_right (vh * W) vl)
 
 module _ (W uh ul vh vl : ℕ) (hu : ul < W) (hv : vl < W) where
   abbrev u : ℕ
@@ -27,18 +27,18 @@ module _ (W uh ul vh vl : ℕ) (hu : ul < W) (hv : vl < W) where
   v = vh * W + vl
 
   -- The high parts decide, and the low parts where the high ones are the same.
-  pub below-by-parts : ltb (uh * W + ul) (vh * W + vl) ≡ cond (eqb uh vh) (ltb ul vl) (ltb uh vh)
-  below-by-parts = go (ℕ_discrete uh vh) (dec_lt uh vh) (dec_lt ul vl)
+  pub below_by_parts : ltb (uh * W + ul) (vh * W + vl) ≡ cond (eqb uh vh) (ltb ul vl) (ltb uh vh)
+  below_by_parts = go (ℕ_discrete uh vh) (dec_lt uh vh) (dec_lt ul vl)
     where
       go : Dec (uh ≡ vh) → Dec (uh < vh) → Dec (ul < vl) → ltb (uh * W + ul) (vh * W + vl) ≡ cond (eqb uh vh) (ltb ul vl) (ltb uh vh)
       go (yes e) h (yes l) = let p = ap (λ (x : ℕ). x * W) e in simp (eq-eqb uh vh e, lt-ltb ul vl l) (lt-ltb u v (omega arith))
       go (yes e) h (no l) = let p = ap (λ (x : ℕ). x * W) e in simp (eq-eqb uh vh e, le-ltb ul vl (omega arith)) (le-ltb u v (omega arith))
-      go (no n) (yes h) l = simp (ne_eqb uh vh n, lt-ltb uh vh h) (lt-ltb u v (below-by-high W uh ul vh vl hu h))
-      go (no n) (no h) l = simp (ne_eqb uh vh n, le-ltb uh vh (omega arith)) (le-ltb u v (le_of_lt (below-by-high W vh vl uh ul hv (omega arith))))
+      go (no n) (yes h) l = simp (ne_eqb uh vh n, lt-ltb uh vh h) (lt-ltb u v (below_by_high W uh ul vh vl hu h))
+      go (no n) (no h) l = simp (ne_eqb uh vh n, le-ltb uh vh (omega arith)) (le-ltb u v (le_of_lt (below_by_high W vh vl uh ul hv (omega arith))))
 
   -- The same number has the same parts.
-  pub same-by-parts : eqb (uh * W + ul) (vh * W + vl) ≡ cond (eqb uh vh) (eqb ul vl) false
-  same-by-parts = go (ℕ_discrete uh vh) (ℕ_discrete ul vl)
+  pub same_by_parts : eqb (uh * W + ul) (vh * W + vl) ≡ cond (eqb uh vh) (eqb ul vl) false
+  same_by_parts = go (ℕ_discrete uh vh) (ℕ_discrete ul vl)
     where
       high : u ≡ v → uh ≡ vh
       high e = sym (digits_div uh hu) ∙ ap (λ (x : ℕ). x / W) e ∙ digits_div vh hv

@@ -4,8 +4,8 @@ use Rattle.std.proofs.Common.{sym, ap, ap₂, ◌∙◌, subst, add_assoc, add_c
 use Rattle.std.proofs.Math.Nat.{add_left_comm}
 
 -- The product is the sum of the four products of digits, each in its column.
-pub product-by-digits : (B a b : ℕ) → a * b ≡ a / B * (b / B) * (B * B) + (a / B * (b % B) + a % B * (b / B)) * B + a % B * (b % B)
-product-by-digits B a b =
+pub product_by_digits : (B a b : ℕ) → a * b ≡ a / B * (b / B) * (B * B) + (a / B * (b % B) + a % B * (b / B)) * B + a % B * (b % B)
+product_by_digits B a b =
     ap₂ (λ (x y : ℕ). x * y) (sym (div-add-mod' a B)) (sym (div-add-mod' b B)) ∙ spread (a / B) (a % B) (b / B) (b % B)
   where
     spread : (a₁ a₀ b₁ b₀ : ℕ) → (a₁ * B + a₀) * (b₁ * B + b₀) ≡ a₁ * b₁ * (B * B) + (a₁ * b₀ + a₀ * b₁) * B + a₀ * b₀
@@ -21,16 +21,16 @@ columns B p₁₁ p₁₀ p₀₁ p₀₀ m n em en =
     simp add-mul (omega (arith, simp (add-mul, mul_assoc) at first, simp (add-mul, mul_assoc) at second))
 
 -- The product by one digit d is two of them: p is that of the lowest digit, m the next one with its carry.
-pub digit-columns : (B a d p m : ℕ) → p ≡ a % B * d → m ≡ a / B * d + p / B → m / B * (B * B) + (m % B * B + p % B) ≡ a * d
-digit-columns B a d p m ep em =
+pub digit_columns : (B a d p m : ℕ) → p ≡ a % B * d → m ≡ a / B * d + p / B → m / B * (B * B) + (m % B * B + p % B) ≡ a * d
+digit_columns B a d p m ep em =
     let lowest = div-add-mod' p B in
     let next = ap (λ (x : ℕ). x * B) (div-add-mod' m B ∙ em) in
     let whole = ap (λ (x : ℕ). x * d) (div-add-mod' a B) in
     omega (arith, ep, lowest, next, whole)
 
 -- A product of two digits leaves room for two digits more.
-pub product-room : (B x y : ℕ) → x < B → y < B → x * y + 2 * B ≤ B * B + 1
-product-room B x y hx hy = subst (λ (b : ℕ). x * y + 2 * b ≤ b * b + 1) e (largest (B - 1) (omega arith) (omega arith))
+pub product_room : (B x y : ℕ) → x < B → y < B → x * y + 2 * B ≤ B * B + 1
+product_room B x y hx hy = subst (λ (b : ℕ). x * y + 2 * b ≤ b * b + 1) e (largest (B - 1) (omega arith) (omega arith))
   where
     e : B - 1 + 1 ≡ B
     e = omega arith

@@ -2,7 +2,7 @@
 // Each contract is an equation on the number that the words make.
 ghost use Rattle.std.specs.Prelude.{◌≡◌, false, ◌+◌, ◌-◌, ◌*◌, ◌/◌, ◌%◌, ◌<◌, ◌≤◌, ◌^◌, ltb, eqb};
 ghost use Rattle.std.specs.Float.Ieee.{size};
-ghost use Rattle.wide.specs.Value.{halfWord, value_of};
+ghost use Rattle.wide.specs.Value.{half_word, value_of};
 
 // The base of a digit of 32 bits, of which a word has two.
 const BASE: u64 = 4294967296;
@@ -220,7 +220,7 @@ pub fn digits(u: Wide) -> u32
 // One step of long division, high * 2 ^ 32 + low by d, for a divisor with its highest bit set:
 // the quotient is estimated by the divisor's upper digit and is at most 2 less.
 fn quotient_digit(high: u64, low: u64, d: u64) -> Divided
-    requires { (halfWord ≤ d) × (high < d) × (low < 2 ^ 32) }
+    requires { (half_word ≤ d) × (high < d) × (low < 2 ^ 32) }
     ensures quotient { result.quotient ≡ (high * 2 ^ 32 + low) / d }
     ensures remainder { result.remainder ≡ (high * 2 ^ 32 + low) % d }
 {
@@ -250,7 +250,7 @@ fn quotient_digit(high: u64, low: u64, d: u64) -> Divided
 
 // u by d in two steps of long division, for a divisor with its highest bit set.
 fn divide_normal(u: Wide, d: u64) -> Divided
-    requires { (halfWord ≤ d) × (u.hi < d) }
+    requires { (half_word ≤ d) × (u.hi < d) }
     ensures quotient { result.quotient ≡ value_of u / d }
     ensures remainder { result.remainder ≡ value_of u % d }
 {

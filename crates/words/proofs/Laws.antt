@@ -13,9 +13,9 @@ pub word_below : (w : ℕ) (z : ℤ) → lt_z z (pos 0) ≡ true → unsigned w 
 word_below w (pos n) h = absurd (not-suc-le-zero (ltb-true n 0 h))
 word_below w (negsuc m) h = refl
 
-pub word-above : (w : ℕ) (z : ℤ) → lt_z z (pos 0) ≡ false → unsigned w z ≡ nat_abs z
-word-above w (pos n) h = refl
-word-above w (negsuc m) h = absurd (true≢false h)
+pub word_above : (w : ℕ) (z : ℤ) → lt_z z (pos 0) ≡ false → unsigned w z ≡ nat_abs z
+word_above w (pos n) h = refl
+word_above w (negsuc m) h = absurd (true≢false h)
 
 pub size_below : (z : ℤ) → lt_z z (pos 0) ≡ true → 0 < nat_abs z
 size_below (pos n) h = absurd (not-suc-le-zero (ltb-true n 0 h))

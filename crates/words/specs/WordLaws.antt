@@ -4,29 +4,29 @@ use Rattle.std.proofs.Common.{ap, ◌∙◌, arith, mod-eq_of_lt, lt-ltb, le-ltb
 use Rattle.std.proofs.Math.Nat.{pow-succ'}
 use Rattle.std.specs.Int.Signed.{mag}
 use Rattle.std.proofs.lemmas.Bool.{lt-leb}
-use Rattle.words.specs.Words.{unsigned, signed, low32, pastHalf}
+use Rattle.words.specs.Words.{unsigned, signed, low32, past_half}
 
 module _ (w : ℕ) (some : 0 < w) where
   half : 2 ^ w ≡ 2 * 2 ^ (w - 1)
   half = let e : w ≡ suc (w - 1) = omega arith in ap (λ (k : ℕ). 2 ^ k) e ∙ pow-succ' 2 (w - 1)
 
   -- a signed number that w bits hold is a word of w bits,
-  pub unsigned-below : (z : ℤ) → mag z < 2 ^ (w - 1) → unsigned w z < 2 ^ w
-  unsigned-below (pos m) h = omega (arith, half)
-  unsigned-below (negsuc m) h = omega (arith, half)
+  pub unsigned_below : (z : ℤ) → mag z < 2 ^ (w - 1) → unsigned w z < 2 ^ w
+  unsigned_below (pos m) h = omega (arith, half)
+  unsigned_below (negsuc m) h = omega (arith, half)
 
   -- and is read back from it
-  pub signed-unsigned : (z : ℤ) → mag z < 2 ^ (w - 1) → signed w (unsigned w z) ≡ z
-  signed-unsigned (pos m) h = ap (λ (t : Bool). cond t (pos m) (negsuc (2 ^ w - suc m))) (lt-ltb m (2 ^ (w - 1)) h)
-  signed-unsigned (negsuc m) h =
+  pub signed_unsigned : (z : ℤ) → mag z < 2 ^ (w - 1) → signed w (unsigned w z) ≡ z
+  signed_unsigned (pos m) h = ap (λ (t : Bool). cond t (pos m) (negsuc (2 ^ w - suc m))) (lt-ltb m (2 ^ (w - 1)) h)
+  signed_unsigned (negsuc m) h =
       let v = 2 ^ w - suc m in
       let least : 2 ^ (w - 1) ≤ v = omega (arith, half) in
       let e : 2 ^ w - suc v ≡ m = omega (arith, half) in
       ap (λ (t : Bool). cond t (pos v) (negsuc (2 ^ w - suc v))) (le-ltb v (2 ^ (w - 1)) least) ∙ ap negsuc e
 
 -- of a word below 2 ^ 32 the low half is all
-pub low-all : (v : ℕ) → v < 2 ^ 32 → low32 v ≡ v
-low-all v h = mod-eq_of_lt h
+pub low_all : (v : ℕ) → v < 2 ^ 32 → low32 v ≡ v
+low_all v h = mod-eq_of_lt h
 
-pub not-past : (v : ℕ) → v < 2 ^ 32 → pastHalf v ≡ false
-not-past v h = lt-leb (2 ^ 32) v h
+pub not_past : (v : ℕ) → v < 2 ^ 32 → past_half v ≡ false
+not_past v h = lt-leb (2 ^ 32) v h

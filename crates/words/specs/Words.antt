@@ -14,5 +14,5 @@ abbrev pub low32 : ℕ → ℕ
 low32 v = v % 2 ^ 32
 
 -- a word's upper 32 bits are not all 0
-abbrev pub pastHalf : ℕ → Bool
-pastHalf v = leb (2 ^ 32) v
+abbrev pub past_half : ℕ → Bool
+past_half v = leb (2 ^ 32) v

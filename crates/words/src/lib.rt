@@ -1,6 +1,6 @@
 // Signed numbers as words, in two's complement. For programs that store factors or hand them to others.
 ghost use Rattle.std.specs.Prelude.{◌≡◌};
-ghost use Rattle.words.specs.Words.{unsigned, signed, low32, pastHalf};
+ghost use Rattle.words.specs.Words.{unsigned, signed, low32, past_half};
 
 // A word's low 32 bits.
 pub fn low_half(v: u64) -> u32
@@ -11,7 +11,7 @@ pub fn low_half(v: u64) -> u32
 
 // Whether a word's upper 32 bits are not all 0.
 pub fn is_past_half(v: u64) -> bool
-    ensures { result ≡ pastHalf v }
+    ensures { result ≡ past_half v }
 {
     4294967296 <= v
 }

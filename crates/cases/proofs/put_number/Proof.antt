@@ -3,7 +3,7 @@ use mathlib.Core.Path.{◌≡◌, sym}
 use native.Mathlib.Omega.{arith}
 use lib.ListN.{length}
 use lib.Seq.{length-take-le}
-use Rattle.frame.specs.WrittenLaws.{written-length}
+use Rattle.frame.specs.WrittenLaws.{written_length}
 use borrow.Author.Rules.{rules}
 use Rattle.cases.proofs.put_number.Statement.{statement}
 use Rattle.cases.proofs.put_number.Tie as tie
@@ -12,7 +12,7 @@ slice-aggregate-write-all : tie.Need-slice-aggregate-write-all
 slice-aggregate-write-all c =
     let d = c.before.before in
     let a = d.before.before in
-    let e : length d.put-digits.new.0 ≡ 16 = written-length d.put-digits.ensures in
+    let e : length d.put-digits.new.0 ≡ 16 = written_length d.put-digits.ensures in
     sym (length-take-le a.args.width d.put-digits.new.0 (omega (arith, a.requires.0, e)))
 
 pub put-number-spec : {M : Type 1} → statement M

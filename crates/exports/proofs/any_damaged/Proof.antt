@@ -3,7 +3,7 @@ use Prim.Native.Nat.{◌+◌, ◌-◌, ◌*◌, ◌≤◌, ◌<◌}
 use lib.ListN.{length}
 use native.Mathlib.Omega.{arith}
 use borrow.Author.Rules.{rules}
-use Rattle.exports.specs.KitWordLaws.{lent-long, Looking, look-start, look_hit, look-miss, look-end}
+use Rattle.exports.proofs.KitWordLaws.{lent_long, Looking, look_start, look_hit, look_miss, look_end}
 use Rattle.exports.proofs.any_damaged.Statement.{statement}
 use Rattle.exports.proofs.any_damaged.Tie as tie
 
@@ -14,7 +14,7 @@ abbrev decreases-loop : tie.decreases-loop
 decreases-loop words count i₀ i = count - i
 
 loop-holds : tie.Need-loop-init invariant-loop decreases-loop
-loop-holds c = let a = c.before.args in look-start a.words.now a.count
+loop-holds c = let a = c.before.args in look_start a.words.now a.count
 
 -- the words of the place are there
 module _ (c : tie.In-loop invariant-loop decreases-loop) where
@@ -37,13 +37,13 @@ loop-again : tie.Need-loop-preserved invariant-loop decreases-loop
 loop-again c =
     let told = c.before in
     let turn = told.before.before in
-    look-miss turn.before.loop.invariant (omega (arith, turn.loop-test.true)) told.is-damaged.ensures c.if1.false
+    look_miss turn.before.loop.invariant (omega (arith, turn.loop-test.true)) told.is-damaged.ensures c.if1.false
 
 returns-2 : tie.Need-returns-2 invariant-loop decreases-loop
-returns-2 c = look-end c.before.loop.invariant (omega (arith, c.loop-test.false))
+returns-2 c = look_end c.before.loop.invariant (omega (arith, c.loop-test.false))
 
 is-damaged-requires : tie.Need-is-damaged-requires invariant-loop decreases-loop
-is-damaged-requires c κs = let turn = c.before in lent-long (start turn).args.words.now (1 + 10 * turn.before.loop.i) 10 (omega (arith, long turn))
+is-damaged-requires c κs = let turn = c.before in lent_long (start turn).args.words.now (1 + 10 * turn.before.loop.i) 10 (omega (arith, long turn))
 
 pub any-damaged-spec : {M : Type 1} → statement M
 any-damaged-spec =

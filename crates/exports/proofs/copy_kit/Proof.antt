@@ -1,7 +1,7 @@
 -- `exports::copy_kit` meets its contract: the words before i are copied. Assumes nothing.
 use Prim.Native.Nat.{◌-◌}
 use native.Mathlib.Omega.{arith}
-use Rattle.exports.specs.KitWordLaws.{Copying, copy_start, copy-next, copy-end}
+use Rattle.exports.proofs.KitWordLaws.{Copying, copy_start, copy_next, copy_end}
 use Rattle.exports.proofs.copy_kit.Statement.{statement}
 use Rattle.exports.proofs.copy_kit.Tie as tie
 
@@ -24,13 +24,13 @@ loop-less : tie.Need-loop-smaller invariant-loop decreases-loop
 loop-less c = let turn = c.before in omega (arith, turn.loop-test.true)
 
 loop-again : tie.Need-loop-preserved invariant-loop decreases-loop
-loop-again c = let turn = c.before in copy-next turn.before.loop.invariant (omega (arith, turn.loop-test.true)) turn.before.before.requires.0
+loop-again c = let turn = c.before in copy_next turn.before.loop.invariant (omega (arith, turn.loop-test.true)) turn.before.before.requires.0
 
 same_length : tie.Need-same-length invariant-loop decreases-loop
 same_length c = c.before.loop.invariant.long
 
 returns : tie.Need-returns invariant-loop decreases-loop
-returns c = copy-end c.before.loop.invariant (omega (arith, c.loop-test.false))
+returns c = copy_end c.before.loop.invariant (omega (arith, c.loop-test.false))
 
 pub copy-kit-spec : {M : Type 1} → statement M
 copy-kit-spec =

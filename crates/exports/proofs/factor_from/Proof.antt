@@ -2,34 +2,34 @@
 use mathlib.Core.Path.{◌≡◌}
 use mir.Syntax.{w32, w64}
 use mir.Val.{to_z, of_z}
-use Rattle.exports.specs.Words.{factorFrom}
+use Rattle.exports.specs.Words.{factor_from}
 use borrow.Author.Rules.{rules}
 use Rattle.exports.proofs.factor_from.Statement.{statement}
 use Rattle.exports.proofs.factor_from.Tie as tie
 
-low-is : (c : tie.After-signed-word) → to_z w64 (of_z w64 c.signed_word.result) ≡ c.signed_word.result
-low-is c = search rules
+low_is : (c : tie.After-signed-word) → to_z w64 (of_z w64 c.signed_word.result) ≡ c.signed_word.result
+low_is c = search rules
 
 scale-is : (c : tie.After-signed-half) → to_z w32 (of_z w32 c.signed-half.result) ≡ c.signed-half.result
 scale-is c = search rules
 
 returns : tie.Need-returns
-unfolding factorFrom
+unfolding factor_from
 returns c =
     let scale = c.before.before.before in
     let low_float = scale.before.before.before in
-    let high-float = low_float.before.before.before in
-    let places = high-float.before.before.before in
+    let high_float = low_float.before.before.before in
+    let places = high_float.before.before.before in
     let low = places.before.before in
     let bits = low.before.before.before in
     rw (
-      low-is low,
+      low_is low,
       scale-is scale,
       bits.low_half_lem.ensures,
       low.signed_word.ensures,
       places.low-half2.ensures,
-      high-float.float-from.ensures,
-      high-float.before.low-half3.ensures,
+      high_float.float-from.ensures,
+      high_float.before.low-half3.ensures,
       low_float.float-from2.ensures,
       low_float.before.low-half4.ensures,
       scale.signed-half.ensures,

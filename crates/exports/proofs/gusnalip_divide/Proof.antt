@@ -4,22 +4,22 @@ use Prim.Native.Nat.{◌≤◌}
 use lib.ListN.{length}
 use borrow.Author.Rules.{rules}
 use Rattle.quotient.specs.declared.QuotientAnswer.{QuotientAnswer}
-use Rattle.quotient.specs.Answer.{divided, outcomeOf}
-use Rattle.exports.specs.Answers.{Answer, plainAnswer, quotientWords, divideTo}
-use Rattle.exports.specs.AnswerLaws.{enough, answered, not_taken, gives}
+use Rattle.quotient.specs.Answer.{divided, outcome_of}
+use Rattle.exports.specs.Answers.{Answer, plain_answer, quotient_words, divide_to}
+use Rattle.exports.proofs.AnswerLaws.{enough, answered, not_taken, gives}
 use Rattle.exports.proofs.gusnalip_divide.Statement.{statement}
 use Rattle.exports.proofs.gusnalip_divide.Tie as tie
 
 -- what the engine answers, and so what is answered
 abbrev says : QuotientAnswer → Answer
-says r = plainAnswer quotientWords (outcomeOf r)
+says r = plain_answer quotient_words (outcome_of r)
 
-answer : (s : tie.After-divide) → let a = s.before.before.before.before.before.before.before.args in divideTo a.factor.now a.x a.out.now ≡ says s.divide.result
-unfolding divideTo
+answer : (s : tie.After-divide) → let a = s.before.before.before.before.before.before.before.args in divide_to a.factor.now a.x a.out.now ≡ says s.divide.result
+unfolding divide_to
 answer s =
     let told = s.before.before in
     let a = told.before.before.before.before.before.args in
-    answered (plainAnswer quotientWords) (λ f. divided f a.x) told.before.before.take-factor.ensures told.f.given.1 s.divide.ensures
+    answered (plain_answer quotient_words) (λ f. divided f a.x) told.before.before.take-factor.ensures told.f.given.1 s.divide.ensures
 
 -- there is room for the quotient
 roomy : (s : tie.After-divide) → 4 ≤ length s.before.before.before.before.before.before.before.args.out.now
@@ -27,12 +27,12 @@ roomy s = let told = s.before.before in (enough told.before.before.take-factor.e
 
 -- the words were not taken
 refused : tie.Need-returns-3
-unfolding divideTo
+unfolding divide_to
 refused c =
     let told = c.before in
     let take = told.before.before in
     let a = take.before.before.before.args in
-    gives _ (refl, refl) (not_taken (plainAnswer quotientWords) (λ f. divided f a.x) take.take-factor.ensures told.k2.given.1)
+    gives _ (refl, refl) (not_taken (plain_answer quotient_words) (λ f. divided f a.x) take.take-factor.ensures told.k2.given.1)
 
 pub gusnalip-divide-spec : {M : Type 1} → statement M
 gusnalip-divide-spec =

@@ -5,24 +5,24 @@ use lib.ListN.{length}
 use borrow.Author.Rules.{rules}
 use lib.Ieee.{binary32, of_bits}
 use Rattle.reading.specs.declared.NumberAnswer.{NumberAnswer}
-use Rattle.reading.specs.Reading.{numberSays}
-use Rattle.reading.specs.Divided.{dividedReading}
-use Rattle.exports.specs.Answers.{Answer, plainAnswer, readingWords, divideReadingTo}
-use Rattle.exports.specs.AnswerLaws.{enough, answered, not_taken, gives}
+use Rattle.reading.specs.Reading.{number_says}
+use Rattle.reading.specs.Divided.{divided_reading}
+use Rattle.exports.specs.Answers.{Answer, plain_answer, reading_words, divide_reading_to}
+use Rattle.exports.proofs.AnswerLaws.{enough, answered, not_taken, gives}
 use Rattle.exports.proofs.gusnalip_divide_reading.Statement.{statement}
 use Rattle.exports.proofs.gusnalip_divide_reading.Tie as tie
 
 -- what the engine answers, and so what is answered
 abbrev says : NumberAnswer → Answer
-says r = plainAnswer readingWords (numberSays r)
+says r = plain_answer reading_words (number_says r)
 
-answer : (s : tie.After-divide) → let a = s.before.before.before.before.before.before.before.before.args in divideReadingTo a.factor.now a.reading a.out.now ≡ says s.divide.result
-unfolding divideReadingTo
+answer : (s : tie.After-divide) → let a = s.before.before.before.before.before.before.before.before.args in divide_reading_to a.factor.now a.reading a.out.now ≡ says s.divide.result
+unfolding divide_reading_to
 answer s =
     let told = s.before.before.before in
     let a = told.before.before.before.before.before.args in
-    answered (plainAnswer readingWords) (λ f. dividedReading f (of_bits binary32 a.reading)) told.before.before.take-factor.ensures told.f.given.1
-    (s.divide.ensures ∙ ap (dividedReading told.f.given.0.0) s.before.float-from.ensures)
+    answered (plain_answer reading_words) (λ f. divided_reading f (of_bits binary32 a.reading)) told.before.before.take-factor.ensures told.f.given.1
+    (s.divide.ensures ∙ ap (divided_reading told.f.given.0.0) s.before.float-from.ensures)
 
 -- there is room for the quotient
 roomy : (s : tie.After-divide) → 2 ≤ length s.before.before.before.before.before.before.before.before.args.out.now
@@ -30,12 +30,12 @@ roomy s = let told = s.before.before.before in (enough told.before.before.take-f
 
 -- the words were not taken
 refused : tie.Need-returns-3
-unfolding divideReadingTo
+unfolding divide_reading_to
 refused c =
     let told = c.before in
     let take = told.before.before in
     let a = take.before.before.before.args in
-    gives _ (refl, refl) (not_taken (plainAnswer readingWords) (λ f. dividedReading f (of_bits binary32 a.reading)) take.take-factor.ensures told.k2.given.1)
+    gives _ (refl, refl) (not_taken (plain_answer reading_words) (λ f. divided_reading f (of_bits binary32 a.reading)) take.take-factor.ensures told.k2.given.1)
 
 pub gusnalip-divide-reading-spec : {M : Type 1} → statement M
 gusnalip-divide-reading-spec =

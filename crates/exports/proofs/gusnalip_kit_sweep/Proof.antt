@@ -9,7 +9,7 @@ use borrow.Author.Rules.{rules}
 use Rattle.marks.specs.Answers.{Outcome}
 use Rattle.factor.specs.declared.Factor.{Factor}
 use Rattle.calls.specs.State.{State}
-use Rattle.calls.specs.Call.{sweepCall}
+use Rattle.calls.specs.Call.{sweep_call}
 use Rattle.calls.specs.Kit.{Kit}
 use Rattle.sweep.specs.Answers.{call_of}
 use Rattle.kit.specs.declared.KitAnswer.{KitAnswer}
@@ -17,24 +17,24 @@ use Rattle.kit.specs.declared.KitState.{KitState}
 use Rattle.kit.specs.Engine.{kits}
 use Rattle.kit.specs.Answers.{view_of, answer_of}
 use Rattle.exports.specs.Answers.{SweepWords}
-use Rattle.exports.specs.AnswerLaws.{Enough}
-use Rattle.exports.specs.Kits.{kitStateOf, kitSweepAnswer, kitReplyWords, kitReplyTo, kitSweepTo}
-use Rattle.exports.specs.KitAnswerLaws.{kit-refused, kit-passed, kit-enough, behind-is, gives-kit}
+use Rattle.exports.proofs.AnswerLaws.{Enough}
+use Rattle.exports.specs.Kits.{kit_state_of, kit_sweep_answer, kit_reply_words, kit_reply_to, kit_sweep_to}
+use Rattle.exports.proofs.KitAnswerLaws.{kit_refused, kit_passed, kit_enough, behind_is, gives_kit}
 use Rattle.exports.proofs.gusnalip_kit_sweep.Statement.{statement}
 use Rattle.exports.proofs.gusnalip_kit_sweep.Tie as tie
 
 -- what is answered, where the words are taken or not
 abbrev asked : tie.Start → Outcome (Kit Factor) → SweepWords
-asked c o = let a = c.args in kitReplyTo a.list.now o (λ k. sweepCall kits (kitStateOf k a.state.now) (call_of a.cap a.list.now a.free))
+asked c o = let a = c.args in kit_reply_to a.list.now o (λ k. sweep_call kits (kit_state_of k a.state.now) (call_of a.cap a.list.now a.free))
 
 returns : tie.Need-returns
-unfolding kitSweepTo
+unfolding kit_sweep_to
 returns c =
     let told = c.before in
     let take = told.before.before in
     let start = take.before.before.before.before.before in
     let a = start.args in
-    gives-kit _ _ a.state.now a.counts.now (ap (asked start) (kit-refused a.state.now 964 (length a.counts.now) 3 take.take-kit.ensures told.k.given.1))
+    gives_kit _ _ a.state.now a.counts.now (ap (asked start) (kit_refused a.state.now 964 (length a.counts.now) 3 take.take-kit.ensures told.k.given.1))
 
 -- the words were taken
 module _ (c : tie.After-enum-told) where
@@ -42,28 +42,28 @@ module _ (c : tie.After-enum-told) where
   start = c.before.before.before.before.before.before.before
 
   lists : Enough start.args.state.now 964 (length start.args.counts.now) 3
-  lists = kit-enough start.args.state.now 964 (length start.args.counts.now) 3 c.before.before.take-kit.ensures c.enum_told.given.1
+  lists = kit_enough start.args.state.now 964 (length start.args.counts.now) 3 c.before.before.take-kit.ensures c.enum_told.given.1
 
 -- the reply of a call and the list it left, as words
 abbrev words : List ℕ → KitState → KitAnswer → SweepWords
-words list s a = kitSweepAnswer (answer_of a) (view_of s) list
+words list s a = kit_sweep_answer (answer_of a) (view_of s) list
 
 -- what the engine answers, and so what is answered
 answer : (c : tie.After-kit-call) → let a = (start c.before.before.before.before.before.before).args in
-    kitSweepTo a.state.now a.cap a.list.now a.free a.counts.now ≡ words c.kit-call.new.1.1.0 c.kit-call.result.state c.kit-call.result.answer
-unfolding kitSweepTo
+    kit_sweep_to a.state.now a.cap a.list.now a.free a.counts.now ≡ words c.kit-call.new.1.1.0 c.kit-call.result.state c.kit-call.result.answer
+unfolding kit_sweep_to
 answer c =
     let of = c.before.before in
     let from = of.before.before in
     let told = from.before.before in
     let a = (start told).args in
-    ap (asked (start told)) (kit-passed a.state.now 964 (length a.counts.now) 3 told.before.before.take-kit.ensures told.enum_told.given.1)
-    ∙ ap kitReplyWords (sym (c.kit-call.ensures ∙ ap (λ (s : State (Kit Factor)). sweepCall kits s (call_of a.cap a.list.now a.free))
-    (of.kit-state-of.ensures ∙ ap (λ (k : Kit Factor). kitStateOf k a.state.now) from.kit-from.ensures)))
+    ap (asked (start told)) (kit_passed a.state.now 964 (length a.counts.now) 3 told.before.before.take-kit.ensures told.enum_told.given.1)
+    ∙ ap kit_reply_words (sym (c.kit-call.ensures ∙ ap (λ (s : State (Kit Factor)). sweep_call kits s (call_of a.cap a.list.now a.free))
+    (of.kit-state-of.ensures ∙ ap (λ (k : Kit Factor). kit_state_of k a.state.now) from.kit-from.ensures)))
 
 -- where it is a case
 case : (c : tie.After-kit-call) (v : KitAnswer) → c.kit-call.result.answer ≡ v → let a = (start c.before.before.before.before.before.before).args in
-    kitSweepTo a.state.now a.cap a.list.now a.free a.counts.now ≡ words c.kit-call.new.1.1.0 c.kit-call.result.state v
+    kit_sweep_to a.state.now a.cap a.list.now a.free a.counts.now ≡ words c.kit-call.new.1.1.0 c.kit-call.result.state v
 case c v e = answer c ∙ ap (words c.kit-call.new.1.1.0 c.kit-call.result.state) e
 
 returns-2 : tie.Need-returns-2
@@ -71,7 +71,7 @@ returns-2 c =
     let answer = c.before in
     let call = answer.before.before.before.before in
     let a = (start call.before.before.before.before.before.before).args in
-    gives-kit _ _ a.state.now a.counts.now (case call (KitAnswer.Refused answer.answer.given.0.0) answer.answer.given.1)
+    gives_kit _ _ a.state.now a.counts.now (case call (KitAnswer.Refused answer.answer.given.0.0) answer.answer.given.1)
 
 -- a significand is a word
 word : (c : tie.After-kit-call) → c.kit-call.result.state.next < 2 ^ 64
@@ -98,8 +98,8 @@ returns-3 c =
     let answer = s.before.before in
     let a = (start (told s)).args in
     let r = (made s).kit-call.result.state in
-    let all = gives-kit _ _ a.state.now a.counts.now (case (made s) (KitAnswer.Accepted answer.answer2.given.0.0) answer.answer2.given.1) in
-    (all.0, (put.put-behind.ensures ∙ ap (sets a.state.now 961) (sym (behind-is r (word (made s)))) ∙ all.1.0, all.1.1))
+    let all = gives_kit _ _ a.state.now a.counts.now (case (made s) (KitAnswer.Accepted answer.answer2.given.0.0) answer.answer2.given.1) in
+    (all.0, (put.put-behind.ensures ∙ ap (sets a.state.now 961) (sym (behind_is r (word (made s)))) ∙ all.1.0, all.1.1))
 
 pub gusnalip-kit-sweep-spec : {M : Type 1} → statement M
 gusnalip-kit-sweep-spec =

@@ -8,28 +8,28 @@ use borrow.Author.Rules.{rules}
 use Rattle.marks.specs.declared.Judgement.{Judgement}
 use Rattle.marks.specs.Answers.{Outcome, and_then}
 use Rattle.factor.specs.declared.Factor.{Factor}
-use Rattle.calls.specs.Call.{newState}
+use Rattle.calls.specs.Call.{new_state}
 use Rattle.calls.specs.Kit.{Kit}
 use Rattle.kit.specs.Engine.{kits}
-use Rattle.kit.specs.Answers.{newBy, newOf}
+use Rattle.kit.specs.Answers.{new_by, new_of}
 use Rattle.exports.specs.Answers.{Answer}
-use Rattle.exports.specs.AnswerLaws.{Enough, gives}
-use Rattle.exports.specs.Kits.{newKitAnswer, newKitTo}
-use Rattle.exports.specs.KitAnswerLaws.{kit-refused, kit-passed, kit-enough, behind-is, kit-words}
+use Rattle.exports.proofs.AnswerLaws.{Enough, gives}
+use Rattle.exports.specs.Kits.{new_kit_answer, new_kit_to}
+use Rattle.exports.proofs.KitAnswerLaws.{kit_refused, kit_passed, kit_enough, behind_is, kit_words}
 use Rattle.exports.proofs.gusnalip_new_kit_sweep.Statement.{statement}
 use Rattle.exports.proofs.gusnalip_new_kit_sweep.Tie as tie
 
 -- what is answered, where the words are taken or not
 abbrev taken : tie.Start → Outcome (Kit Factor) → Answer
-taken c o = newKitAnswer c.args.kit.now (and_then o (newState kits))
+taken c o = new_kit_answer c.args.kit.now (and_then o (new_state kits))
 
 returns : tie.Need-returns
-unfolding newKitTo
+unfolding new_kit_to
 returns c =
     let told = c.before in
     let take = told.before.before in
     let start = take.before.before.before in
-    gives start.args.out.now (refl, refl) (ap (taken start) (kit-refused start.args.kit.now 961 (length start.args.out.now) 964 take.take-kit.ensures told.k.given.1))
+    gives start.args.out.now (refl, refl) (ap (taken start) (kit_refused start.args.kit.now 961 (length start.args.out.now) 964 take.take-kit.ensures told.k.given.1))
 
 -- the words were taken
 module _ (c : tie.After-enum-told) where
@@ -37,28 +37,28 @@ module _ (c : tie.After-enum-told) where
   start = c.before.before.before.before.before
 
   lists : Enough start.args.kit.now 961 (length start.args.out.now) 964
-  lists = kit-enough start.args.kit.now 961 (length start.args.out.now) 964 c.before.before.take-kit.ensures c.enum_told.given.1
+  lists = kit_enough start.args.kit.now 961 (length start.args.out.now) 964 c.before.before.take-kit.ensures c.enum_told.given.1
 
 -- the engine's answer, and so what is answered
-answer : (c : tie.After-new-state) → let a = (start c.before.before).args in newKitTo a.kit.now a.out.now ≡ newKitAnswer a.kit.now (newOf c.new-state.result)
-unfolding newKitTo
+answer : (c : tie.After-new-state) → let a = (start c.before.before).args in new_kit_to a.kit.now a.out.now ≡ new_kit_answer a.kit.now (new_of c.new-state.result)
+unfolding new_kit_to
 answer c =
     let from = c.before in
     let told = from.before in
     let a = (start told).args in
-    ap (taken (start told)) (kit-passed a.kit.now 961 (length a.out.now) 964 told.before.before.take-kit.ensures told.enum_told.given.1)
-    ∙ ap (newKitAnswer a.kit.now) (sym (c.new-state.ensures.0 ∙ ap (newState kits) from.kit-from.ensures))
+    ap (taken (start told)) (kit_passed a.kit.now 961 (length a.out.now) 964 told.before.before.take-kit.ensures told.enum_told.given.1)
+    ∙ ap (new_kit_answer a.kit.now) (sym (c.new-state.ensures.0 ∙ ap (new_state kits) from.kit-from.ensures))
 
 -- by how the kit is judged
-told-by : (c : tie.After-new-state) (v : Judgement) → c.new-state.result.judgement ≡ v
-    → let a = (start c.before.before).args in newKitTo a.kit.now a.out.now ≡ newKitAnswer a.kit.now (newBy c.new-state.result.state v)
-told-by c v e = answer c ∙ ap (λ (v : Judgement). newKitAnswer (start c.before.before).args.kit.now (newBy c.new-state.result.state v)) e
+told_by : (c : tie.After-new-state) (v : Judgement) → c.new-state.result.judgement ≡ v
+    → let a = (start c.before.before).args in new_kit_to a.kit.now a.out.now ≡ new_kit_answer a.kit.now (new_by c.new-state.result.state v)
+told_by c v e = answer c ∙ ap (λ (v : Judgement). new_kit_answer (start c.before.before).args.kit.now (new_by c.new-state.result.state v)) e
 
 returns-2 : tie.Need-returns-2
 returns-2 c =
     let verdict = c.before in
     let begun = verdict.before.before in
-    gives (start begun.before.before).args.out.now (refl, refl) (told-by begun (Judgement.Refused verdict.judgement.given.0.0) verdict.judgement.given.1)
+    gives (start begun.before.before).args.out.now (refl, refl) (told_by begun (Judgement.Refused verdict.judgement.given.0.0) verdict.judgement.given.1)
 
 -- a significand is a word
 word : (c : tie.After-s) → c.before.before.before.new-state.result.state.next < 2 ^ 64
@@ -81,8 +81,8 @@ returns-3 : tie.Need-returns-3
 returns-3 c =
     let a = (start (begun c).before.before).args in
     let s = (begun c).new-state.result.state in
-    gives a.out.now (refl, kit-words a.out.now a.kit.now (copied c).copy-kit.ensures (behind-is s (word (state c))) (put c).put-behind.ensures (lists (begun c).before.before).long)
-    (told-by (begun c) Judgement.Passed (state c).before.enum-told2.given.1)
+    gives a.out.now (refl, kit_words a.out.now a.kit.now (copied c).copy-kit.ensures (behind_is s (word (state c))) (put c).put-behind.ensures (lists (begun c).before.before).long)
+    (told_by (begun c) Judgement.Passed (state c).before.enum-told2.given.1)
 
 copy-kit-requires : tie.Need-copy-kit-requires
 copy-kit-requires c κs = let enough = lists c.before.before.before.before.before.before in (enough.long, omega (arith, enough.roomy))

@@ -4,7 +4,7 @@ use lib.ListN.{length}
 use native.Mathlib.Omega.{arith}
 use borrow.Author.Rules.{rules}
 use Rattle.exports.specs.Words.{word}
-use Rattle.exports.specs.KitWordLaws.{lent-long, Filling, fill_start, fill-next, fill_end}
+use Rattle.exports.proofs.KitWordLaws.{lent_long, Filling, fill_start, fill_next, fill_end}
 use Rattle.exports.proofs.kit_from.Statement.{statement}
 use Rattle.exports.proofs.kit_from.Tie as tie
 
@@ -23,19 +23,19 @@ module _ (c : tie.In-loop invariant-loop decreases-loop) where
   long = (start.pre, omega (arith, c.loop-test.true))
 
 factor-from-requires : tie.Need-factor-from-requires invariant-loop decreases-loop
-factor-from-requires c κs = let start = c.before.before in lent-long start.args.words.now 1 10 (omega (arith, start.requires))
+factor-from-requires c κs = let start = c.before.before in lent_long start.args.words.now 1 10 (omega (arith, start.requires))
 
 loop-holds : tie.Need-loop-init invariant-loop decreases-loop
 loop-holds c = fill_start c.factor-from.ensures
 
 factor-from-requires-2 : tie.Need-factor-from-requires-2 invariant-loop decreases-loop
-factor-from-requires-2 c κs = let turn = c.before in lent-long (start turn).args.words.now (1 + 10 * turn.before.loop.i) 10 (omega (arith, long turn))
+factor-from-requires-2 c κs = let turn = c.before in lent_long (start turn).args.words.now (1 + 10 * turn.before.loop.i) 10 (omega (arith, long turn))
 
 loop-less : tie.Need-loop-smaller invariant-loop decreases-loop
 loop-less c = let turn = c.before.before in omega (arith, turn.loop-test.true)
 
 loop-again : tie.Need-loop-preserved invariant-loop decreases-loop
-loop-again c = let turn = c.before.before in fill-next turn.before.loop.invariant (omega (arith, turn.loop-test.true)) c.factor-from2.ensures
+loop-again c = let turn = c.before.before in fill_next turn.before.loop.invariant (omega (arith, turn.loop-test.true)) c.factor-from2.ensures
 
 returns : tie.Need-returns invariant-loop decreases-loop
 returns c =

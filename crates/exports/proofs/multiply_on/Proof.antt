@@ -4,22 +4,22 @@ use Prim.Native.Nat.{◌≤◌}
 use lib.ListN.{length}
 use borrow.Author.Rules.{rules}
 use Rattle.product.specs.declared.ProductAnswer.{ProductAnswer}
-use Rattle.product.specs.Answer.{multiplied, outcomeOf}
-use Rattle.exports.specs.Answers.{Answer, markedAnswer, productWords, multiplyTo}
-use Rattle.exports.specs.AnswerLaws.{enough, answered, not_taken, gives}
+use Rattle.product.specs.Answer.{multiplied, outcome_of}
+use Rattle.exports.specs.Answers.{Answer, marked_answer, product_words, multiply_to}
+use Rattle.exports.proofs.AnswerLaws.{enough, answered, not_taken, gives}
 use Rattle.exports.proofs.multiply_on.Statement.{statement}
 use Rattle.exports.proofs.multiply_on.Tie as tie
 
 -- what the engine answers, and so what is answered
 abbrev says : ProductAnswer → Answer
-says r = markedAnswer productWords (outcomeOf r)
+says r = marked_answer product_words (outcome_of r)
 
-answer : (s : tie.After-multiply) → let a = s.before.before.before.before.before.before.before.args in multiplyTo a.d a.factor.now a.x a.out.now ≡ says s.multiply.result
-unfolding multiplyTo
+answer : (s : tie.After-multiply) → let a = s.before.before.before.before.before.before.before.args in multiply_to a.d a.factor.now a.x a.out.now ≡ says s.multiply.result
+unfolding multiply_to
 answer s =
     let told = s.before.before in
     let a = told.before.before.before.before.before.args in
-    answered (markedAnswer productWords) (λ f. multiplied a.d f a.x) told.before.before.take-factor.ensures told.f.given.1 s.multiply.ensures
+    answered (marked_answer product_words) (λ f. multiplied a.d f a.x) told.before.before.take-factor.ensures told.f.given.1 s.multiply.ensures
 
 -- there is room for the product
 roomy : (s : tie.After-multiply) → 4 ≤ length s.before.before.before.before.before.before.before.args.out.now
@@ -27,12 +27,12 @@ roomy s = let told = s.before.before in (enough told.before.before.take-factor.e
 
 -- the words were not taken
 refused : tie.Need-returns-5
-unfolding multiplyTo
+unfolding multiply_to
 refused c =
     let told = c.before in
     let take = told.before.before in
     let a = take.before.before.before.args in
-    gives _ (refl, refl) (not_taken (markedAnswer productWords) (λ f. multiplied a.d f a.x) take.take-factor.ensures told.k2.given.1)
+    gives _ (refl, refl) (not_taken (marked_answer product_words) (λ f. multiplied a.d f a.x) take.take-factor.ensures told.k2.given.1)
 
 pub multiply-on-spec : {M : Type 1} → statement M
 multiply-on-spec =

@@ -1,14 +1,14 @@
 -- `exports::put_state` meets its contract: the factor's words, then four more. Assumes nothing.
 use native.Mathlib.Omega.{arith}
 use lib.ListN.{length-set}
-use Rattle.exports.specs.Words.{factorWords, stateWords}
+use Rattle.exports.specs.Words.{factor_words, state_words}
 use borrow.Author.Rules.{rules}
 use Rattle.exports.proofs.Laws.{flag_is}
 use Rattle.exports.proofs.put_state.Statement.{statement}
 use Rattle.exports.proofs.put_state.Tie as tie
 
 returns : tie.Need-returns
-unfolding stateWords factorWords
+unfolding state_words factor_words
 returns c =
     let put = c.before.before.before in
     rw (put.put-factor.ensures, flag_is put.before.before.before.before.args.s.finished)

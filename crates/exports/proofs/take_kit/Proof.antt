@@ -7,9 +7,9 @@ use native.Mathlib.Omega.{arith}
 use lib.Dec.{eqb, ltb}
 use lib.ListN.{length, drop}
 use borrow.Author.Tests.{lt-ltb, le-ltb, ltb-false}
-use Rattle.marks.specs.AnswerLaws.{pass, stop, end, or-false}
+use Rattle.marks.specs.AnswerLaws.{pass, stop, end, or_false}
 use Rattle.exports.specs.Words.{word}
-use Rattle.exports.specs.Kits.{anyDamaged}
+use Rattle.exports.specs.Kits.{any_damaged}
 use Rattle.exports.proofs.take_kit.Statement.{statement}
 use Rattle.exports.proofs.take_kit.Tie as tie
 
@@ -52,21 +52,21 @@ module _ (c : tie.Else3) where
 any-damaged-requires : tie.Need-any-damaged-requires
 any-damaged-requires c κs =
     let ws = (start (room c).before).args.words.now in
-    (omega (arith, (start (room c).before).pre, (room c).before.if1.false), ltb-false 96 (word ws 0) (or-false (eqb (word ws 0) 0) (ltb 96 (word ws 0)) (number_in c)).1)
+    (omega (arith, (start (room c).before).pre, (room c).before.if1.false), ltb-false 96 (word ws 0) (or_false (eqb (word ws 0) 0) (ltb 96 (word ws 0)) (number_in c)).1)
 
 returns-4 : tie.Need-returns-4
 returns-4 c =
     let number = c.before.before in
     let ws = (start (room number).before).args.words.now in
-    let some : anyDamaged (word ws 0) (drop 1 ws) ≡ true = sym c.before.any-damaged.ensures ∙ c.if4.true in
+    let some : any_damaged (word ws 0) (drop 1 ws) ≡ true = sym c.before.any-damaged.ensures ∙ c.if4.true in
     pass (long (room number).before) (pass (roomy (room number)) (pass (number_in number) (stop some)))
 
 returns-5 : tie.Need-returns-5
 returns-5 c =
     let number = c.before.before in
     let ws = (start (room number).before).args.words.now in
-    let none-damaged : anyDamaged (word ws 0) (drop 1 ws) ≡ false = sym c.before.any-damaged.ensures ∙ c.if4.false in
-    pass (long (room number).before) (pass (roomy (room number)) (pass (number_in number) (pass none-damaged end)))
+    let none_damaged : any_damaged (word ws 0) (drop 1 ws) ≡ false = sym c.before.any-damaged.ensures ∙ c.if4.false in
+    pass (long (room number).before) (pass (roomy (room number)) (pass (number_in number) (pass none_damaged end)))
 
 pub take-kit-spec : {M : Type 1} → statement M
 take-kit-spec =

@@ -2,14 +2,14 @@
 use mathlib.Core.Path.{ap}
 use borrow.Author.Rules.{rules}
 use Rattle.reading.specs.declared.ReadingAnswer.{ReadingAnswer}
-use Rattle.reading.specs.Reading.{outcomeOf}
-use Rattle.exports.specs.Answers.{Answer, readingAnswer}
-use Rattle.exports.specs.AnswerLaws.{gives}
+use Rattle.reading.specs.Reading.{outcome_of}
+use Rattle.exports.specs.Answers.{Answer, reading_answer}
+use Rattle.exports.proofs.AnswerLaws.{gives}
 use Rattle.exports.proofs.tell_reading.Statement.{statement}
 use Rattle.exports.proofs.tell_reading.Tie as tie
 
 abbrev says : ReadingAnswer → Answer
-says r = readingAnswer (outcomeOf r)
+says r = reading_answer (outcome_of r)
 
 pub tell-reading-spec : {M : Type 1} → statement M
 tell-reading-spec =

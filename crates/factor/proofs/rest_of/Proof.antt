@@ -15,7 +15,7 @@ returns : tie.Need-returns
 returns c =
     let a = c.before.before.args in
     let size : a.whole - a.end ≡ apart a.end a.whole = omega (arith, c.before.if1.true) in
-    to_z-of_z w64 _ (record { sfits = c.with-sign.type-inv }) ∙ c.with-sign.ensures ∙ ap₂ signed_of (sym (lt-ltb a.end a.whole c.before.if1.true)) size
+    to_z-of_z w64 _ (record { sfits = c.with_sign_lem.type-inv }) ∙ c.with_sign_lem.ensures ∙ ap₂ signed_of (sym (lt-ltb a.end a.whole c.before.if1.true)) size
 
 returns-2 : tie.Need-returns-2
 returns-2 c =

@@ -6,13 +6,13 @@ use mir.Syntax.{w64}
 use mir.Val.{SFits, of_z}
 use borrow.Author.Rules.{rules}
 use borrow.Author.Tests.{eq-eqb, ne_eqb}
-use Rattle.factor.specs.SetUp.{sameZ}
+use Rattle.factor.specs.SetUp.{same_z}
 use Rattle.factor.proofs.Same.{same_bits}
 use Rattle.factor.proofs.same_low.Statement.{statement}
 use Rattle.factor.proofs.same_low.Tie as tie
 
 -- the bits that are compared
-compared : (c : tie.After-struct-told2) → let a = c.before.before.before.before.args in sameZ a.p.low a.q.low ≡ eqb (of_z w64 a.p.low) (of_z w64 a.q.low)
+compared : (c : tie.After-struct-told2) → let a = c.before.before.before.before.args in same_z a.p.low a.q.low ≡ eqb (of_z w64 a.p.low) (of_z w64 a.q.low)
 compared c =
     let a = c.before.before.before.before.args in
     let p : SFits w64 a.p.low = search rules in

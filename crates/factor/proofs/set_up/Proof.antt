@@ -3,14 +3,14 @@ use mathlib.Core.Path.{◌≡◌, sym, ap, ◌∙◌}
 use borrow.Author.Rules.{rules}
 use Rattle.marks.specs.Answers.{each}
 use Rattle.factor.specs.declared.StoredAnswer.{StoredAnswer}
-use Rattle.factor.specs.SetUp.{factorWith, storedSays, setUp}
-use Rattle.factor.specs.SetUpLaws.{set-up-stores}
+use Rattle.factor.specs.SetUp.{factor_with, stored_says, set_up}
+use Rattle.factor.proofs.SetUpLaws.{set_up_stores}
 use Rattle.factor.proofs.set_up.Statement.{statement}
 use Rattle.factor.proofs.set_up.Tie as tie
 
 -- whatever was stored
-given : (c : tie.After-stored-of) (r : StoredAnswer) → c.Stored-of.result ≡ r → let d = c.before.args.d in each (factorWith d) (storedSays r) ≡ setUp d
-given c r e = let d = c.before.args.d in ap (each (factorWith d)) (ap storedSays (sym e) ∙ c.Stored-of.ensures) ∙ sym (set-up-stores d)
+given : (c : tie.After-stored-of) (r : StoredAnswer) → c.Stored-of.result ≡ r → let d = c.before.args.d in each (factor_with d) (stored_says r) ≡ set_up d
+given c r e = let d = c.before.args.d in ap (each (factor_with d)) (ap stored_says (sym e) ∙ c.Stored-of.ensures) ∙ sym (set_up_stores d)
 
 returns : tie.Need-returns
 returns c = let number = c.before.number in given c.before.before.before (StoredAnswer.Refused number.given.0.0) number.given.1

@@ -1,7 +1,7 @@
 -- `floats::bits_of` meets its contract: a NaN has one pattern here. Assumes nothing.
 use mathlib.Core.Path.{◌≡◌, refl, sym, ap, ◌∙◌}
 use lib.Ieee.{nan, binary32, to_bits}
-use Rattle.floats.specs.Numbers.{is-nan, no_nan}
+use Rattle.floats.proofs.Numbers.{is_nan_lem, no_nan}
 use borrow.Author.Rules.{rules}
 use Rattle.floats.proofs.bits_of.Statement.{statement}
 use Rattle.floats.proofs.bits_of.Tie as tie
@@ -11,7 +11,7 @@ unfolding to_bits
 pattern = refl
 
 returns : tie.Need-returns
-returns c = pattern ∙ ap (to_bits binary32) (sym (is-nan c.before.args.x c.if1.true))
+returns c = pattern ∙ ap (to_bits binary32) (sym (is_nan_lem c.before.args.x c.if1.true))
 
 float-to-bits-result : tie.Need-float-to-bits-result
 float-to-bits-result c = no_nan c.before.args.x c.if1.false

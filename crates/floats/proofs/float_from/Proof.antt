@@ -3,7 +3,7 @@ use mathlib.Core.Path.{◌≡◌, refl, sym, ◌∙◌}
 use lib.Ieee
 use lib.Ieee.{nan, binary32, nan_bits, of_bits}
 use borrow.Author.Rules.{rules}
-use Rattle.floats.specs.Numbers.{nan_pattern, number-pattern}
+use Rattle.floats.proofs.Numbers.{nan_pattern, number_pattern}
 use Rattle.floats.proofs.float_from.Statement.{statement}
 use Rattle.floats.proofs.float_from.Tie as tie
 
@@ -19,7 +19,7 @@ returns : tie.Need-returns
 returns c = zero_by_zero ∙ sym (nan_pattern binary32 _ c.if1.true)
 
 float-from-bits-result : tie.Need-float-from-bits-result
-float-from-bits-result c = number-pattern binary32 _ c.if1.false
+float-from-bits-result c = number_pattern binary32 _ c.if1.false
 
 pub float-from-spec : {M : Type 1} → statement M
 float-from-spec = tie.close (tie.spec float-from-bits-zero returns float-from-bits-result (λ c. search rules))

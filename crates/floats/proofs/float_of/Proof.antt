@@ -3,8 +3,8 @@ use mathlib.Core.Path.{◌∙◌, sym, ap}
 use mathlib.Core.Bool.{Bool, true, false}
 use lib.Ieee.{binary32}
 use borrow.Author.Rules.{rules}
-use Rattle.floats.specs.Fields.{floatOf}
-use Rattle.floats.specs.Pattern.{pattern_number, pattern-is}
+use Rattle.floats.specs.Fields.{float_of}
+use Rattle.floats.proofs.Pattern.{pattern_number, pattern_is}
 use Rattle.floats.proofs.float_of.Statement.{statement}
 use Rattle.floats.proofs.float_of.Tie as tie
 
@@ -14,7 +14,7 @@ float-from-bits-result c = let a = c.before in pattern_number binary32 true a.ar
 returns : tie.Need-returns
 returns c =
     let a = c.before in
-    pattern-is binary32 true a.args.exponent a.args.m a.requires ∙ ap (λ (s : Bool). floatOf binary32 s a.args.exponent a.args.m) (sym c.if1.true)
+    pattern_is binary32 true a.args.exponent a.args.m a.requires ∙ ap (λ (s : Bool). float_of binary32 s a.args.exponent a.args.m) (sym c.if1.true)
 
 float-from-bits-result-2 : tie.Need-float-from-bits-result-2
 float-from-bits-result-2 c = let a = c.before in pattern_number binary32 false a.args.exponent a.args.m a.requires
@@ -22,7 +22,7 @@ float-from-bits-result-2 c = let a = c.before in pattern_number binary32 false a
 returns-2 : tie.Need-returns-2
 returns-2 c =
     let a = c.before in
-    pattern-is binary32 false a.args.exponent a.args.m a.requires ∙ ap (λ (s : Bool). floatOf binary32 s a.args.exponent a.args.m) (sym c.if1.false)
+    pattern_is binary32 false a.args.exponent a.args.m a.requires ∙ ap (λ (s : Bool). float_of binary32 s a.args.exponent a.args.m) (sym c.if1.false)
 
 pub float-of-spec : {M : Type 1} → statement M
 float-of-spec =

@@ -7,17 +7,17 @@ use lib.Dec.{T}
 use lib.Ieee.{Float, nan, inf, fin, Format, binary32, ones, to_bits, is_nan}
 use borrow.Author.Tests.{eqb-true}
 use borrow.Author.Rules.{rules}
-use Rattle.wide.specs.Value.{wordBits}
-use Rattle.floats.specs.Fields.{biasedExponent}
-use Rattle.floats.specs.Classes.{nan-class}
-use Rattle.floats.specs.Times.{units-none, units-from, units-shifted}
+use Rattle.wide.specs.Value.{word_bits}
+use Rattle.floats.specs.Fields.{biased_exponent}
+use Rattle.floats.proofs.Classes.{nan_class}
+use Rattle.floats.proofs.Times.{units_none, units_from, units_shifted}
 use Rattle.floats.proofs.units_of.Statement.{statement}
 use Rattle.floats.proofs.units_of.Tie as tie
 
 -- what is finite is no NaN
-number : (f : Format) (x : Float) → biasedExponent f (to_bits f x) < ones f → T (not (is_nan x))
+number : (f : Format) (x : Float) → biased_exponent f (to_bits f x) < ones f → T (not (is_nan x))
 unfolding is_nan
-number f nan h = absurd (omega (arith, eqb-true (biasedExponent f (to_bits f nan)) (ones f) (nan-class f)))
+number f nan h = absurd (omega (arith, eqb-true (biased_exponent f (to_bits f nan)) (ones f) (nan_class f)))
 number f (inf s) h = tt
 number f (fin s m e) h = tt
 
@@ -25,13 +25,13 @@ float-to-bits-bits : tie.Need-float-to-bits-bits
 float-to-bits-bits c = number binary32 c.args.x c.requires.finite
 
 returns : tie.Need-returns
-returns c = sym (units-none binary32 c.before.args.d _ c.if1.true)
+returns c = sym (units_none binary32 c.before.args.d _ c.if1.true)
 
 -- the field reaches the unit
 from : (c : tie.After-biased-exponent) → suc c.before.before.before.args.d ≤ c.biased-exponent.result
 from c =
     let e = c.before.before in
-    rw c.biased-exponent.ensures (units-from binary32 wordBits e.before.args.d _ e.if1.false e.before.requires)
+    rw c.biased-exponent.ensures (units_from binary32 word_bits e.before.args.d _ e.if1.false e.before.requires)
 
 sub-result : tie.Need-overflow-sub-result
 sub-result c = omega (arith, from c)
@@ -46,7 +46,7 @@ returns-2 : tie.Need-returns-2
 returns-2 c =
     let e = c.before.before in
     let d = e.before.args.d in
-    ap₂ (λ (m k : ℕ). m * 2 ^ (k - 1 - d) % 2 ^ wordBits) c.before.significand-of.ensures c.biased-exponent.ensures ∙ units-shifted binary32 wordBits d _ e.if1.false e.before.requires
+    ap₂ (λ (m k : ℕ). m * 2 ^ (k - 1 - d) % 2 ^ word_bits) c.before.significand_of_lem.ensures c.biased-exponent.ensures ∙ units_shifted binary32 word_bits d _ e.if1.false e.before.requires
 
 pub units-of-spec : {M : Type 1} → statement M
 units-of-spec = tie.close (tie.spec float-to-bits-bits returns (λ c κs. search rules) (λ c. search rules) (λ c κs. search rules) sub-result sub-result-2 (λ c. search rules) shl-result returns-2)

@@ -4,27 +4,27 @@ use mathlib.Core.Bool.{and-false}
 use native.Mathlib.Omega.{arith}
 use borrow.Author.Rules.{rules}
 use borrow.Author.Tests.{lt-leb}
-use Rattle.frame.specs.Digits.{digitValue}
+use Rattle.frame.specs.Digits.{digit_value}
 use Rattle.frame.specs.DigitLaws.{low_value, high_value}
 use Rattle.frame.proofs.digit_value.Statement.{statement}
 use Rattle.frame.proofs.digit_value.Tie as tie
 
 returns : tie.Need-returns
-unfolding digitValue
+unfolding digit_value
 returns c = let b = c.before.args.b in simp (lt-leb 48 b (omega arith), lt-leb 65 b (omega arith))
 
 returns-2 : tie.Need-returns-2
 returns-2 c = sym (low_value c.before.before.args.b (omega arith) (omega arith))
 
 returns-3 : tie.Need-returns-3
-unfolding digitValue
+unfolding digit_value
 returns-3 c = let b = c.before.before.before.args.b in simp (lt-leb b 57 (omega arith), and-false, lt-leb 65 b (omega arith))
 
 returns-4 : tie.Need-returns-4
 returns-4 c = sym (high_value c.before.before.before.before.args.b (omega arith) (omega arith))
 
 returns-5 : tie.Need-returns-5
-unfolding digitValue
+unfolding digit_value
 returns-5 c = let b = c.before.before.before.before.args.b in simp (lt-leb b 57 (omega arith), lt-leb b 70 (omega arith), and-false)
 
 pub digit-value-spec : {M : Type 1} → statement M

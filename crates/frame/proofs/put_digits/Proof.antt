@@ -8,7 +8,7 @@ use native.Mathlib.Omega.{arith}
 use lib.ListN.{length, set}
 use lib.Seq.{sets, length-sets}
 use borrow.Author.Rules.{rules}
-use Rattle.frame.specs.Digits.{digitByte, digits}
+use Rattle.frame.specs.Digits.{digit_byte, digits}
 use Rattle.frame.specs.DigitLaws.{length_digits}
 use Rattle.frame.specs.Written.{Written}
 use Rattle.frame.specs.WrittenLaws.{set_before}
@@ -30,12 +30,12 @@ module _ (buf₀ : List ℕ) (at width base v : ℕ) where
       (buf : List ℕ) (rest done : ℕ)
       → Begun buf₀ at width base v buf rest done
       → done < width
-      → Begun buf₀ at width base v (set buf (at + (width - (done + 1))) (digitByte (rest % base))) (rest / base) (done + 1)
+      → Begun buf₀ at width base v (set buf (at + (width - (done + 1))) (digit_byte (rest % base))) (rest / base) (done + 1)
   unfolding digits
   one_more buf rest done b h =
       let place = at + (width - (done + 1)) in
       let next : at + (width - done) ≡ suc place = omega arith in
-      let digit : digitByte (rest % base) ≡ digitByte (v / base ^ done % base) = ap (λ (x : ℕ). digitByte (x % base)) b.left in
+      let digit : digit_byte (rest % base) ≡ digit_byte (v / base ^ done % base) = ap (λ (x : ℕ). digit_byte (x % base)) b.left in
       record {
         within = omega arith;
         left = ap (λ (x : ℕ). x / base) b.left ∙ div-div-eq-div-mul v (base ^ done) base ∙ ap (λ (p : ℕ). v / p) (sym (pow-suc base done) ∙ ap (λ (k : ℕ). base ^ k) (sym (add-one done)));

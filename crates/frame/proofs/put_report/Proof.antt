@@ -3,8 +3,8 @@ use Prim.Native.Nat.{◌+◌, ◌*◌, ◌≤◌}
 use native.Mathlib.Omega.{arith}
 use lib.ListN.{length}
 use borrow.Author.Rules.{rules}
-use Rattle.frame.specs.Report.{reportLine}
-use Rattle.frame.specs.WrittenLaws.{written-field, field_room}
+use Rattle.frame.specs.Report.{report_line}
+use Rattle.frame.specs.WrittenLaws.{written_field, field_room}
 use Rattle.frame.proofs.put_report.Statement.{statement}
 use Rattle.frame.proofs.put_report.Tie as tie
 
@@ -31,17 +31,17 @@ room-4 :
 room-4 c = field_room _ _ _ _ c.put-field4.ensures _ (omega (arith, room-3 c.before.before.before.before))
 
 returns : tie.Need-returns
-unfolding reportLine
+unfolding report_line
 returns c =
     let fifth = c.before.before in
     let fourth = fifth.before.before.before.before in
     let third = fourth.before.before.before.before in
     let second = third.before.before.before.before in
     let first = second.before.before.before.before.before in
-    written-field _ _ _ _ first.put-field.ensures
-    (written-field _ _ _ _ (rw second.before.verdict.ensures at second.put-field2.ensures)
-    (written-field _ _ _ _ third.put-field3.ensures
-    (written-field _ _ _ _ fourth.put-field4.ensures fifth.put-field5.ensures)))
+    written_field _ _ _ _ first.put-field.ensures
+    (written_field _ _ _ _ (rw second.before.verdict.ensures at second.put-field2.ensures)
+    (written_field _ _ _ _ third.put-field3.ensures
+    (written_field _ _ _ _ fourth.put-field4.ensures fifth.put-field5.ensures)))
 
 pub put-report-spec : {M : Type 1} → statement M
 put-report-spec = tie.close (tie.spec (λ c κs. search rules) (λ c κs. search rules) (λ c κs. omega (arith, room c.before.before.before.before)) (λ c κs. omega (arith, room-2 c.before.before.before)) (λ c κs. omega (arith, room-3 c.before.before.before)) (λ c κs. omega (arith, room-4 c.before.before.before)) (λ c. search rules) returns)

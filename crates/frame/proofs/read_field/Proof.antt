@@ -10,9 +10,9 @@ use lib.ListN.{length, get_or}
 use lib.Seq.{slice}
 use borrow.Author.Rules.{rules}
 use Rattle.frame.specs.declared.Field.TheVariants.{Value, Malformed}
-use Rattle.frame.specs.Digits.{digitValue, and_then, valueAfter, field_at}
-use Rattle.frame.specs.DigitLaws.{digit-printed}
-use Rattle.frame.specs.FieldLaws.{field-inside, field-outside, value-step, value-end}
+use Rattle.frame.specs.Digits.{digit_value, and_then, value_after, field_at}
+use Rattle.frame.specs.DigitLaws.{digit_printed}
+use Rattle.frame.specs.FieldLaws.{field_inside, field_outside, value_step, value_end}
 use Rattle.frame.proofs.read_field.Statement.{statement}
 use Rattle.frame.proofs.read_field.Tie as tie
 
@@ -20,7 +20,7 @@ use Rattle.frame.proofs.read_field.Tie as tie
 record Begun (line : List ℕ) (at width value i : ℕ) : Type 0 where
   within : i ≤ width
   small : value < 16 ^ i
-  rest : valueAfter value (slice (at + i) (at + width) line) ≡ field_at line at width
+  rest : value_after value (slice (at + i) (at + width) line) ≡ field_at line at width
 
 module _ (line : List ℕ) (at width : ℕ) (inside : at + width ≤ length line) where
   begin : Begun line at width 0 0
@@ -28,35 +28,35 @@ module _ (line : List ℕ) (at width : ℕ) (inside : at + width ≤ length line
       record {
         within = omega arith;
         small = omega arith;
-        rest = ap (λ (k : ℕ). valueAfter 0 (slice k (at + width) line)) (add-zero at) ∙ sym (field-inside line at width inside);
+        rest = ap (λ (k : ℕ). value_after 0 (slice k (at + width) line)) (add-zero at) ∙ sym (field_inside line at width inside);
       }
 
   module _ (value i : ℕ) (b : Begun line at width value i) where
     next-digit :
         i < width
-        → and_then (digitValue (get_or line (at + i) 0)) (λ (d : ℕ). valueAfter (value * 16 + d) (slice (at + (i + 1)) (at + width) line))
+        → and_then (digit_value (get_or line (at + i) 0)) (λ (d : ℕ). value_after (value * 16 + d) (slice (at + (i + 1)) (at + width) line))
         ≡ field_at line at width
     next-digit h =
         let e : at + (i + 1) ≡ suc (at + i) = omega arith in
-        ap (λ (k : ℕ). and_then (digitValue (get_or line (at + i) 0)) (λ (d : ℕ). valueAfter (value * 16 + d) (slice k (at + width) line))) e
-        ∙ sym (value-step line value (at + i) (at + width) (omega arith) inside)
+        ap (λ (k : ℕ). and_then (digit_value (get_or line (at + i) 0)) (λ (d : ℕ). value_after (value * 16 + d) (slice k (at + width) line))) e
+        ∙ sym (value_step line value (at + i) (at + width) (omega arith) inside)
         ∙ b.rest
 
-    one_more : (d : ℕ) → i < width → digitValue (get_or line (at + i) 0) ≡ Value d → Begun line at width (value * 16 + d) (i + 1)
+    one_more : (d : ℕ) → i < width → digit_value (get_or line (at + i) 0) ≡ Value d → Begun line at width (value * 16 + d) (i + 1)
     one_more d h e =
         record {
           within = omega arith;
-          small = rw (add-one i, pow-suc 16 i) (digits_lt b.small (digit-printed _ d e).1);
+          small = rw (add-one i, pow-suc 16 i) (digits_lt b.small (digit_printed _ d e).1);
           rest = rw e at (next-digit h);
         }
 
-    no_more : i < width → digitValue (get_or line (at + i) 0) ≡ Malformed → Malformed ≡ field_at line at width
+    no_more : i < width → digit_value (get_or line (at + i) 0) ≡ Malformed → Malformed ≡ field_at line at width
     no_more h e = rw e at (next-digit h)
 
     all_read : width ≤ i → Value value ≡ field_at line at width
     all_read h =
         let e : i ≡ width = omega (arith, b.within) in
-        sym (value-end line value (at + width)) ∙ ap (λ (k : ℕ). valueAfter value (slice (at + k) (at + width) line)) (sym e) ∙ b.rest
+        sym (value_end line value (at + width)) ∙ ap (λ (k : ℕ). value_after value (slice (at + k) (at + width) line)) (sym e) ∙ b.rest
 
     fits : width ≤ 16 → value < 2 ^ 64
     fits h = omega (arith, b.small, pow-le-pow_right {n = 16} (omega arith) {i = i} {j = 16} (omega (arith, b.within)))
@@ -82,8 +82,8 @@ loop-again c =
     let in-loop = called.before.before in
     one_more _ _ _ (omega arith) _ _ in-loop.before.loop.invariant _ in-loop.loop-test.true (sym called.digit_value.ensures ∙ c.before.digit.given.1)
 
-mul-value : tie.Need-overflow-mul-value invariant-loop decreases-loop
-mul-value c = omega (arith, fits _ _ _ (omega arith) _ _ (loop-again c) (omega arith))
+mul_value : tie.Need-overflow-mul-value invariant-loop decreases-loop
+mul_value c = omega (arith, fits _ _ _ (omega arith) _ _ (loop-again c) (omega arith))
 
 add-value : tie.Need-overflow-add-value invariant-loop decreases-loop
 add-value c = omega (arith, fits _ _ _ (omega arith) _ _ (loop-again c) (omega arith))
@@ -93,6 +93,6 @@ returns-4 c = all_read _ _ _ (omega arith) _ _ c.before.loop.invariant c.loop-te
 
 pub read-field-spec : {M : Type 1} → statement M
 read-field-spec =
-    tie.close (tie.spec invariant-loop decreases-loop (λ c. sym (field-outside _ _ _ (omega arith))) (λ c. search rules)
-    (λ c. sym (field-outside _ _ _ (omega arith))) loop-holds (λ c. search rules) (λ c. search rules) (λ c κs. search rules) (λ c. search rules) (λ c. search rules) returns-3 mul-value add-value
+    tie.close (tie.spec invariant-loop decreases-loop (λ c. sym (field_outside _ _ _ (omega arith))) (λ c. search rules)
+    (λ c. sym (field_outside _ _ _ (omega arith))) loop-holds (λ c. search rules) (λ c. search rules) (λ c κs. search rules) (λ c. search rules) (λ c. search rules) returns-3 mul_value add-value
     (λ c. search rules) (λ c. search rules) loop-again returns-4)

@@ -6,11 +6,11 @@ use lib.ListN.{length}
 use borrow.Author.Rules.{rules}
 use Rattle.marks.specs.Answers.{none, First}
 use Rattle.calls.specs.Call.{conditions}
-use Rattle.calls.specs.RefusalLaws.{call-refused}
-use Rattle.calls.specs.TailLaws.{moved, lent_length, tail-free, tail-taken, tail-moved}
-use Rattle.sweep.specs.Answers.{call_of, termsBy}
+use Rattle.calls.proofs.RefusalLaws.{call_refused}
+use Rattle.calls.proofs.TailLaws.{moved, lent_length, tail_free, tail_taken, tail_moved}
+use Rattle.sweep.specs.Answers.{call_of, terms_by}
 use Rattle.kit.specs.Engine.{kits}
-use Rattle.kit.specs.EngineLaws.{kits-lawful}
+use Rattle.kit.specs.EngineLaws.{kits_lawful}
 use Rattle.kit.specs.Answers.{view_of}
 use Rattle.kit.proofs.kit_call.Statement.{statement}
 use Rattle.kit.proofs.kit_call.Tie as tie
@@ -21,7 +21,7 @@ module _ (c : tie.After-enum-told) where
   start = c.before.before.before.before
 
   -- nothing refuses the call
-  taken : let a = start.args in First (conditions kits (view_of a.state) (termsBy a.cap (length a.list.now) a.free)) none
+  taken : let a = start.args in First (conditions kits (view_of a.state) (terms_by a.cap (length a.list.now) a.free)) none
   taken = rw c.enum_told.given.1 at c.before.before.refusal-of.ensures
 
   -- a list in memory has fewer than 2 ^ 64 places
@@ -30,7 +30,7 @@ module _ (c : tie.After-enum-told) where
 
   -- two places are free
   free : 2 ≤ length start.args.list.now - start.args.free
-  free = let a = start.args in tail-free kits-lawful (view_of a.state) (call_of a.cap a.list.now a.free) taken.is
+  free = let a = start.args in tail_free kits_lawful (view_of a.state) (call_of a.cap a.list.now a.free) taken.is
 
 mul-sweep-on : tie.Need-overflow-mul-sweep-on
 mul-sweep-on c = let places = free c in search rules
@@ -44,7 +44,7 @@ part-sweep-on-start c = omega (arith, free c)
 sweep-on-requires : tie.Need-sweep-on-requires
 sweep-on-requires c κs =
     let a = (start c.before).args in
-    tail-taken kits-lawful (view_of a.state) (call_of a.cap a.list.now a.free) (taken c.before).is
+    tail_taken kits_lawful (view_of a.state) (call_of a.cap a.list.now a.free) (taken c.before).is
 
 -- where the steps are done
 module _ (c : tie.After-struct-known) where
@@ -64,12 +64,12 @@ returns c =
     let number = c.before in
     let refused = number.before.before in
     let a = refused.before.before.args in
-    call-refused kits (view_of a.state) (call_of a.cap a.list.now a.free) number.number.given.0.0 (rw number.number.given.1 at refused.refusal-of.ensures).is
+    call_refused kits (view_of a.state) (call_of a.cap a.list.now a.free) number.number.given.0.0 (rw number.number.given.1 at refused.refusal-of.ensures).is
 
 returns-2 : tie.Need-returns-2
 returns-2 c =
     let a = (start (told c)).args in
-    ap (moved a.list.now a.free) (on c).sweep-on.ensures.0 ∙ tail-moved kits-lawful (view_of a.state) (call_of a.cap a.list.now a.free) (taken (told c)).is
+    ap (moved a.list.now a.free) (on c).sweep-on.ensures.0 ∙ tail_moved kits_lawful (view_of a.state) (call_of a.cap a.list.now a.free) (taken (told c)).is
 
 pub kit-call-spec : {M : Type 1} → statement M
 kit-call-spec =

@@ -5,23 +5,23 @@ use lib.Dec.{eqb}
 use borrow.Author.Rules.{rules}
 use borrow.Author.Tests.{eq-eqb, ne_eqb, not-true, not-false}
 use Rattle.marks.specs.Answers.{NoneHolds, accepted}
-use Rattle.marks.specs.AnswerLaws.{judged-passed}
+use Rattle.marks.specs.AnswerLaws.{judged_passed}
 use Rattle.kit.specs.Engine.{kits}
-use Rattle.kit.specs.Answers.{view_of, clean, notClean}
-use Rattle.kit.specs.StateLaws.{verdict-refused, verdict-told}
+use Rattle.kit.specs.Answers.{view_of, clean, not_clean}
+use Rattle.kit.specs.StateLaws.{verdict_refused, verdict_told}
 use Rattle.kit.proofs.kit_verdict.Statement.{statement}
 use Rattle.kit.proofs.kit_verdict.Tie as tie
 
 -- the state is not refused
 state-good : (c : tie.After-enum-told) → NoneHolds (kits.faults (view_of c.before.before.before.args.state))
-state-good c = judged-passed c.before.before.state-check.ensures c.enum_told.given.1
+state-good c = judged_passed c.before.before.state-check.ensures c.enum_told.given.1
 
 returns : tie.Need-returns
 returns c =
     let told = c.before.before in
     let a = told.before.before.before.args in
     let going : a.state.finished ≡ false = not-true a.state.finished c.if1.true in
-    verdict-told a.state a.entries (state-good told) going
+    verdict_told a.state a.entries (state-good told) going
 
 -- ---- it is finished
 module _ (c : tie.Else1) where
@@ -36,20 +36,20 @@ returns-2 c =
     let finished = c.before in
     let a = (start finished).args in
     let none : true ≡ eqb a.entries 0 = sym (eq-eqb a.entries 0 c.if2.true) in
-    ap (λ (b : Bool). accepted (cond b clean notClean)) none ∙ verdict-told a.state a.entries (state-good finished.before.before) (done finished)
+    ap (λ (b : Bool). accepted (cond b clean not_clean)) none ∙ verdict_told a.state a.entries (state-good finished.before.before) (done finished)
 
 returns-3 : tie.Need-returns-3
 returns-3 c =
     let number = c.before in
     let a = number.before.before.before.args in
-    verdict-refused a.state a.entries number.before.before.state-check.ensures number.number.given.1
+    verdict_refused a.state a.entries number.before.before.state-check.ensures number.number.given.1
 
 returns-4 : tie.Need-returns-4
 returns-4 c =
     let finished = c.before in
     let a = (start finished).args in
     let some : false ≡ eqb a.entries 0 = sym (ne_eqb a.entries 0 c.if2.false) in
-    ap (λ (b : Bool). accepted (cond b clean notClean)) some ∙ verdict-told a.state a.entries (state-good finished.before.before) (done finished)
+    ap (λ (b : Bool). accepted (cond b clean not_clean)) some ∙ verdict_told a.state a.entries (state-good finished.before.before) (done finished)
 
 pub kit-verdict-spec : {M : Type 1} → statement M
 kit-verdict-spec =

@@ -5,24 +5,24 @@ use native.Mathlib.Omega.{arith}
 use lib.ListN.{length, get_or, length-map}
 use borrow.Author.Rules.{rules}
 use Rattle.factor.specs.declared.Factor.{Factor}
-use Rattle.factor.specs.Precision.{ValidPrecision, leastOf}
-use Rattle.kit.specs.Answers.{kitOf, noFactor}
-use Rattle.kit.specs.StateLaws.{number-few, sound-at, out-past, out_below, out-above}
+use Rattle.factor.specs.Precision.{ValidPrecision, least_of}
+use Rattle.kit.specs.Answers.{kit_of, no_factor}
+use Rattle.kit.specs.StateLaws.{number_few, sound_at, out_past, out_below, out_above}
 use Rattle.kit.proofs.place_out.Statement.{statement}
 use Rattle.kit.proofs.place_out.Tie as tie
 
 -- the array has its length, and a significand is below 2 ^ 64
 long : (c : tie.Start) → length c.args.s.kit.factors ≡ 96
-long c = sym (length-map c.args.s.kit.factors _) ∙ c.well-formed.0.1.1.0.1.1.0.1.0.1
+long c = sym (length-map c.args.s.kit.factors _) ∙ c.well_formed.0.1.1.0.1.1.0.1.0.1
 
 short : (c : tie.Start) → c.args.s.next < 2 ^ 64
 short c = search rules
 
 few : (c : tie.Start) → c.args.s.kit.count ≤ 96
-few c = number-few (kitOf c.args.s.kit) (long c) c.requires
+few c = number_few (kit_of c.args.s.kit) (long c) c.requires
 
 returns : tie.Need-returns
-returns c = let s = c.before.before.args.s in out-past (kitOf s.kit) s.place s.next (short c.before.before) (omega (arith, c.if1.true))
+returns c = let s = c.before.before.args.s in out_past (kit_of s.kit) s.place s.next (short c.before.before) (omega (arith, c.if1.true))
 
 -- ---- a factor is at the place
 module _ (c : tie.Else1) where
@@ -33,10 +33,10 @@ module _ (c : tie.Else1) where
   there = omega (arith, c.if1.false)
 
   abbrev factor : Factor
-  factor = get_or start.args.s.kit.factors start.args.s.place noFactor
+  factor = get_or start.args.s.kit.factors start.args.s.place no_factor
 
   precision-valid : ValidPrecision factor.precision.bits
-  precision-valid = (sound-at (kitOf start.args.s.kit) (long start) start.pre start.args.s.place there).precision
+  precision-valid = (sound_at (kit_of start.args.s.kit) (long start) start.pre start.args.s.place there).precision
 
 mul-f : tie.Need-overflow-mul-f
 mul-f c = omega (arith, few (start c), there c)
@@ -48,16 +48,16 @@ returns-2 : tie.Need-returns-2
 returns-2 c =
     let at = c.before.before.before.before.before in
     let s = (start at).args.s in
-    let below : s.next < leastOf (factor at).precision.bits = omega (arith, c.before.before.least.ensures, c.if2.true) in
-    out_below (kitOf s.kit) (long (start at)) (start at).requires s.place s.next (short (start at)) (there at) below
+    let below : s.next < least_of (factor at).precision.bits = omega (arith, c.before.before.least.ensures, c.if2.true) in
+    out_below (kit_of s.kit) (long (start at)) (start at).requires s.place s.next (short (start at)) (there at) below
 
 returns-3 : tie.Need-returns-3
 returns-3 c =
     let tested = c.before.before in
     let at = tested.before.before.before.before.before in
     let s = (start at).args.s in
-    let from : leastOf (factor at).precision.bits ≤ s.next = omega (arith, tested.before.before.least.ensures, tested.if2.false) in
-    rw c.before.most.ensures (out-above (kitOf s.kit) (long (start at)) (start at).requires s.place s.next (short (start at)) (there at) from)
+    let from : least_of (factor at).precision.bits ≤ s.next = omega (arith, tested.before.before.least.ensures, tested.if2.false) in
+    rw c.before.most.ensures (out_above (kit_of s.kit) (long (start at)) (start at).requires s.place s.next (short (start at)) (there at) from)
 
 pub place-out-spec : {M : Type 1} → statement M
 place-out-spec =

@@ -3,15 +3,15 @@ use mathlib.Core.Path.{◌≡◌, sym, ◌∙◌}
 use Prim.Native.Nat.{◌+◌, ◌-◌}
 use native.Mathlib.Omega.{arith}
 use lib.ListN.{length, drop, length-map}
-use Rattle.calls.specs.Kit.{twoAlike, inKit}
+use Rattle.calls.specs.Kit.{two_alike, in_kit}
 use Rattle.kit.specs.Engine.{alike}
-use Rattle.kit.specs.Answers.{kitOf, noFactor}
-use Rattle.kit.specs.LoopLaws.{Seeking, seek_hit, seek-miss, Pairing, pair, pair-seek, pair-next, pair_end}
+use Rattle.kit.specs.Answers.{kit_of, no_factor}
+use Rattle.kit.specs.LoopLaws.{Seeking, seek_hit, seek_miss, Pairing, pair, pair_seek, pair_next, pair_end}
 use Rattle.kit.proofs.two_alike.Statement.{statement}
 use Rattle.kit.proofs.two_alike.Tie as tie
 
 abbrev invariant-loop2 : tie.invariant-loop2
-invariant-loop2 k i f j₀ j = Seeking (alike f) k.factors k.count (twoAlike alike (drop (i + 1) (inKit (kitOf k)))) (twoAlike alike (inKit (kitOf k))) j
+invariant-loop2 k i f j₀ j = Seeking (alike f) k.factors k.count (two_alike alike (drop (i + 1) (in_kit (kit_of k)))) (two_alike alike (in_kit (kit_of k))) j
 
 abbrev decreases-loop2 : tie.decreases-loop2
 decreases-loop2 k i f j₀ j = k.count - j
@@ -24,7 +24,7 @@ decreases-loop k i₀ i = k.count - i
 
 -- the array has its length
 long : (c : tie.Start invariant-loop2 decreases-loop2 invariant-loop decreases-loop) → length c.args.t1.factors ≡ 96
-long c = sym (length-map c.args.t1.factors _) ∙ c.well-formed.0.1.1.0.1.0.1
+long c = sym (length-map c.args.t1.factors _) ∙ c.well_formed.0.1.1.0.1.0.1
 
 loop-holds : tie.Need-loop-init invariant-loop2 decreases-loop2 invariant-loop decreases-loop
 loop-holds c = pair (omega (arith, long c))
@@ -39,7 +39,7 @@ add-j : tie.Need-overflow-add-j invariant-loop2 decreases-loop2 invariant-loop d
 add-j c = omega arith
 
 loop2-holds : tie.Need-loop2-init invariant-loop2 decreases-loop2 invariant-loop decreases-loop
-loop2-holds c = pair-seek c.before.before.loop.invariant noFactor (omega (arith, c.before.loop-test.true))
+loop2-holds c = pair_seek c.before.before.loop.invariant no_factor (omega (arith, c.before.loop-test.true))
 
 mul-g : tie.Need-overflow-mul-g invariant-loop2 decreases-loop2 invariant-loop decreases-loop
 mul-g c = omega arith
@@ -50,7 +50,7 @@ element-copy-out-g c = omega arith
 returns : tie.Need-returns invariant-loop2 decreases-loop2 invariant-loop decreases-loop
 returns c =
     let test = c.before.before.before in
-    seek_hit test.before.loop2.invariant noFactor (omega (arith, test.loop2-test.true)) (sym c.before.is-alike.ensures ∙ c.if1.true)
+    seek_hit test.before.loop2.invariant no_factor (omega (arith, test.loop2-test.true)) (sym c.before.is-alike.ensures ∙ c.if1.true)
 
 add-j-2 : tie.Need-overflow-add-j-2 invariant-loop2 decreases-loop2 invariant-loop decreases-loop
 add-j-2 c = omega arith
@@ -61,7 +61,7 @@ loop2-less c = omega arith
 loop2-again : tie.Need-loop2-preserved invariant-loop2 decreases-loop2 invariant-loop decreases-loop
 loop2-again c =
     let test = c.before.before.before in
-    seek-miss test.before.loop2.invariant noFactor (omega (arith, test.loop2-test.true)) (sym c.before.is-alike.ensures ∙ c.if1.false)
+    seek_miss test.before.loop2.invariant no_factor (omega (arith, test.loop2-test.true)) (sym c.before.is-alike.ensures ∙ c.if1.false)
 
 add-i : tie.Need-overflow-add-i invariant-loop2 decreases-loop2 invariant-loop decreases-loop
 add-i c = omega arith
@@ -70,7 +70,7 @@ loop-less : tie.Need-loop-smaller invariant-loop2 decreases-loop2 invariant-loop
 loop-less c = omega arith
 
 loop-again : tie.Need-loop-preserved invariant-loop2 decreases-loop2 invariant-loop decreases-loop
-loop-again c = pair-next c.before.loop2.invariant (omega (arith, c.loop2-test.false))
+loop-again c = pair_next c.before.loop2.invariant (omega (arith, c.loop2-test.false))
 
 returns-2 : tie.Need-returns-2 invariant-loop2 decreases-loop2 invariant-loop decreases-loop
 returns-2 c = pair_end c.before.loop.invariant (omega (arith, c.loop-test.false))

@@ -6,13 +6,13 @@ use native.Mathlib.Omega.{arith}
 use lib.ListN.{length}
 use lib.Seq.{length-take-le}
 use borrow.Author.Rules.{rules}
-use Rattle.stream.specs.Step.{mostWritten}
+use Rattle.stream.specs.Step.{most_written}
 use Rattle.stream.specs.Good.{Fit}
 use Rattle.plotconst.proofs.main.Statement.{statement}
 use Rattle.plotconst.proofs.main.Tie as tie
 
 abbrev invariant-loop : tie.invariant-loop
-invariant-loop input₀ out₀ progress₀ next₀ count₀ at₀ turns₀ input out progress next count at turns = Fit progress × (at ≤ count) × (count ≤ length input) × (mostWritten ≤ length out)
+invariant-loop input₀ out₀ progress₀ next₀ count₀ at₀ turns₀ input out progress next count at turns = Fit progress × (at ≤ count) × (count ≤ length input) × (most_written ≤ length out)
 
 abbrev decreases-loop : tie.decreases-loop
 decreases-loop input₀ out₀ progress₀ next₀ count₀ at₀ turns₀ input out progress next count at turns = turns

@@ -3,15 +3,15 @@ use mathlib.Core.Path.{sym, ap, ◌∙◌}
 use Prim.Native.Nat.{ℕ}
 use borrow.Author.Rules.{rules}
 use Rattle.marks.specs.Answers.{NoneHolds, accepted}
-use Rattle.marks.specs.AnswerLaws.{judged-passed, judged-refused, none-refuses}
+use Rattle.marks.specs.AnswerLaws.{judged_passed, judged_refused, none_refuses}
 use Rattle.rounding.specs.Round.{HasBits}
 use Rattle.factor.specs.declared.Factor.{Factor}
 use Rattle.factor.specs.SetUp.{Sound}
 use Rattle.product.specs.declared.Device.{Device}
 use Rattle.product.specs.declared.DirectedProduct.{DirectedProduct}
-use Rattle.product.specs.DeviceLaws.{formed}
+use Rattle.product.proofs.DeviceLaws.{formed}
 use Rattle.product.specs.Answer.{conditions, marked, answered, multiplied}
-use Rattle.product.specs.AnswerLaws.{let_through}
+use Rattle.product.proofs.AnswerLaws.{let_through}
 use Rattle.product.proofs.multiply.Statement.{statement}
 use Rattle.product.proofs.multiply.Tie as tie
 
@@ -27,7 +27,7 @@ module _ (c : tie.After-enum-told) where
   d = c.before.before.before.args.d
 
   none : NoneHolds (conditions f x)
-  none = judged-passed c.before.before.refusal-of.ensures c.enum_told.given.1
+  none = judged_passed c.before.before.refusal-of.ensures c.enum_told.given.1
 
   through : Sound f × HasBits f.precision.bits x
   through = let_through f x none
@@ -44,7 +44,7 @@ marked-requires c κs =
 
 returns : tie.Need-returns
 unfolding multiplied
-returns c = judged-refused c.before.before.before.refusal-of.ensures c.before.number.given.1 _
+returns c = judged_refused c.before.before.before.refusal-of.ensures c.before.number.given.1 _
 
 returns-2 : tie.Need-returns-2
 unfolding multiplied
@@ -52,7 +52,7 @@ returns-2 c =
     let k = c.before.before in
     c.marked.ensures
     ∙ ap (λ (v : DirectedProduct). accepted (answered (f k) (marked (f k) (x k) v))) c.before.product-of.ensures
-    ∙ sym (none-refuses (conditions (f k) (x k)) _ (none k))
+    ∙ sym (none_refuses (conditions (f k) (x k)) _ (none k))
 
 pub multiply-spec : {M : Type 1} → statement M
 multiply-spec = tie.close (tie.spec (λ c κs. search rules) (λ c. search rules) (λ c. search rules) product-of-requires marked-requires returns returns-2)

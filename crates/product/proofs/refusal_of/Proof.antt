@@ -5,19 +5,19 @@ use borrow.Author.Rules.{rules}
 use borrow.Author.Tests.{not-false}
 use Rattle.marks.specs.AnswerLaws.{pass, stop, end}
 use Rattle.factor.specs.SetUp.{intact}
-use Rattle.factor.specs.SetUpLaws.{intact-sound}
+use Rattle.factor.proofs.SetUpLaws.{intact_sound}
 use Rattle.product.proofs.refusal_of.Statement.{statement}
 use Rattle.product.proofs.refusal_of.Tie as tie
 
 returns : tie.Need-returns
-returns c = stop (ap not (sym c.before.is-intact.ensures) ∙ c.if1.true)
+returns c = stop (ap not (sym c.before.is_intact.ensures) ∙ c.if1.true)
 
 -- 31 lets the factor through
 through : (c : tie.Else1) → not (intact c.before.before.args.f) ≡ false
-through c = ap not (sym c.before.is-intact.ensures) ∙ c.if1.false
+through c = ap not (sym c.before.is_intact.ensures) ∙ c.if1.false
 
 significand-out-requires : tie.Need-significand-out-requires
-significand-out-requires c κs = let f = c.before.before.before.args.f in (intact-sound f (not-false _ (through c.before))).precision
+significand-out-requires c κs = let f = c.before.before.before.args.f in (intact_sound f (not-false _ (through c.before))).precision
 
 returns-2 : tie.Need-returns-2
 returns-2 c = pass (through c.before.before.before) (stop (sym c.before.significand-out.ensures ∙ c.if2.true))

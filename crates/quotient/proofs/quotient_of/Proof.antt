@@ -13,10 +13,10 @@ use mir.Val.{SFits, to_z, of_z}
 use borrow.Author.Rules.{rules}
 use Rattle.round.specs.declared.Neighbour.{Neighbour}
 use Rattle.round.specs.Neighbour.{neighbour}
-use Rattle.factor.specs.Context.{tieRule, context_of}
-use Rattle.product.specs.SoundLaws.{sound-fine, sound-high}
-use Rattle.quotient.specs.Quotient.{binadesBelow}
-use Rattle.quotient.specs.QuotientLaws.{quotient_is, quotient-direction}
+use Rattle.factor.specs.Context.{tie_rule, context_of}
+use Rattle.product.proofs.SoundLaws.{sound_fine, sound_high}
+use Rattle.quotient.specs.Quotient.{binades_below}
+use Rattle.quotient.specs.QuotientLaws.{quotient_is, quotient_direction}
 use Rattle.quotient.proofs.quotient_of.Statement.{statement}
 use Rattle.quotient.proofs.quotient_of.Tie as tie
 
@@ -74,7 +74,7 @@ shl-nearest-quotient c = omega (arith, few c)
 
 nearest-quotient-requires : tie.Need-nearest-quotient-requires
 nearest-quotient-requires c κs = (
-  le_trans (pow_pos (n c - 1)) (sound-high (a c).args.f (a c).requires.0).least,
+  le_trans (pow_pos (n c - 1)) (sound_high (a c).args.f (a c).requires.0).least,
   subst (λ (z : ℕ). z / H c + 1 < 2 ^ 64) (sym (word-is c)) (omega (arith, div-le_self (X c * 2 ^ t c) (H c), word_lt c)),
 )
 
@@ -85,17 +85,17 @@ sub-t : tie.Need-overflow-sub-t14
 sub-t c = let k = c.before in rw k.before.binades-below.ensures (minus-fits (ltb (X k) (H k)))
 
 returns : tie.Need-returns
-unfolding tieRule
+unfolding tie_rule
 returns c =
     let k = c.before in
     let f = (a k).args.f in
     let s = (a k).requires.0 in
     let e = k.before.binades-below.ensures in
-    let near : c.nearest-quotient.result ≡ neighbour tieRule (X k * 2 ^ (n k - 1 + binadesBelow (X k) (H k))) (H k) =
-    c.nearest-quotient.ensures ∙ ap (λ (z : ℕ). neighbour tieRule z (H k)) (word-is k ∙ ap (λ (z : ℕ). X k * 2 ^ (n k - 1 + z)) e) in
+    let near : c.nearest-quotient.result ≡ neighbour tie_rule (X k * 2 ^ (n k - 1 + binades_below (X k) (H k))) (H k) =
+    c.nearest-quotient.ensures ∙ ap (λ (z : ℕ). neighbour tie_rule z (H k)) (word-is k ∙ ap (λ (z : ℕ). X k * 2 ^ (n k - 1 + z)) e) in
     let binade = ap (λ (z : ℕ). to_z w32 (of_z w32 (pos 0 -ℤ to_z w32 z))) e ∙ minus_is (ltb (X k) (H k)) in
-    let is = quotient_is (context_of f) (sound-fine f s).some f.parts (X k) (sound-high f s) (a k).requires.1 in
-    let direction = quotient-direction (context_of f) (sound-fine f s).some f.parts (X k) (sound-high f s) (a k).requires.1 tieRule in
+    let is = quotient_is (context_of f) (sound_fine f s).some f.parts (X k) (sound_high f s) (a k).requires.1 in
+    let direction = quotient_direction (context_of f) (sound_fine f s).some f.parts (X k) (sound_high f s) (a k).requires.1 tie_rule in
     ap₂ (λ (m : Neighbour) (z : ℤ). record { quotient = record { significand = m.taken; binade = z }; direction = m.direction }) near binade
     ∙ (λ i. record { quotient = sym is i; direction = sym direction i })
 

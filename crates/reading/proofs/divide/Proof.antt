@@ -11,16 +11,16 @@ use borrow.Author.Rules.{rules}
 use Rattle.marks.specs.Answers.{accepted}
 use Rattle.rounding.specs.declared.Direction.TheVariants.{Equal}
 use Rattle.rounding.specs.Round.{HasBits}
-use Rattle.floats.specs.Fields.{zero_of, significandOf, exponentOf}
+use Rattle.floats.specs.Fields.{zero_of, significand_of, exponent_of}
 use Rattle.factor.specs.declared.Factor.{Factor}
 use Rattle.quotient.specs.declared.Quotient.{Quotient}
 use Rattle.quotient.specs.declared.DirectedQuotient.{DirectedQuotient}
-use Rattle.quotient.specs.Quotient.{quotientBy, directedBy}
-use Rattle.quotient.specs.Tells.{sound-quotient, sound-binade}
+use Rattle.quotient.specs.Quotient.{quotient_by, directed_by}
+use Rattle.quotient.specs.Tells.{sound_quotient, sound_binade}
 use Rattle.reading.specs.Reading.{placed}
-use Rattle.reading.specs.Divided.{placedQuotient, quotient_of, dividedReading}
-use Rattle.reading.specs.Exponents.{size-sum, scale-size, size-negated}
-use Rattle.reading.specs.AnswerLaws.{Ready, ready, normal-answered, zero-answered, refused-answered}
+use Rattle.reading.specs.Divided.{placed_quotient, quotient_of, divided_reading}
+use Rattle.reading.proofs.Exponents.{size_sum, scale_size, size_negated}
+use Rattle.reading.proofs.AnswerLaws.{Ready, ready, normal_answered, zero_answered, refused_answered}
 use Rattle.reading.proofs.Laws.{kept}
 use Rattle.reading.proofs.divide.Statement.{statement}
 use Rattle.reading.proofs.divide.Tie as tie
@@ -36,11 +36,11 @@ module _ (c : tie.After-known-told3) where
   abbrev b : ℕ
   b = c.before.bits2.given.0.0
 
-  is-ready : Ready f b
-  is-ready = ready f x c.before.before.before.take.result c.before.before.before.take.ensures c.before.bits2.given.1
+  is_ready : Ready f b
+  is_ready = ready f x c.before.before.before.take.result c.before.before.before.take.ensures c.before.bits2.given.1
 
 quotient-of-requires : tie.Need-quotient-of-requires
-quotient-of-requires c κs = let k = c.before in ((is-ready k).sound, rw c.significand-of.ensures (is-ready k).bits)
+quotient-of-requires c κs = let k = c.before in ((is_ready k).sound, rw c.significand_of_lem.ensures (is_ready k).bits)
 
 -- ---- its quotient, and what is put on the exponent
 module _ (c : tie.After-quotient-of) where
@@ -51,7 +51,7 @@ module _ (c : tie.After-quotient-of) where
   scale = (f k).applied.scale
 
   abbrev X : ℕ
-  X = significandOf binary32 (b k)
+  X = significand_of binary32 (b k)
 
   abbrev w : DirectedQuotient
   w = c.quotient-of.result
@@ -59,19 +59,19 @@ module _ (c : tie.After-quotient-of) where
   abbrev v : Quotient
   v = w.quotient
 
-  w-is : w ≡ directedBy (f k) X
-  w-is = c.quotient-of.ensures ∙ ap (directedBy (f k)) c.before.significand-of.ensures
+  w_is : w ≡ directed_by (f k) X
+  w_is = c.quotient-of.ensures ∙ ap (directed_by (f k)) c.before.significand_of_lem.ensures
 
-  v-is : v ≡ quotientBy (f k) X
-  v-is = ap (λ (z : DirectedQuotient). z.quotient) w-is
+  v_is : v ≡ quotient_by (f k) X
+  v_is = ap (λ (z : DirectedQuotient). z.quotient) w_is
 
-  v-bits : HasBits (prec binary32) v.significand
-  v-bits = rw v-is (subst (λ (n : ℕ). HasBits n (quotientBy (f k) X).significand) (is-ready k).precision (sound-quotient (f k) (is-ready k).sound X (is-ready k).bits false).bits)
+  v_bits : HasBits (prec binary32) v.significand
+  v_bits = rw v_is (subst (λ (n : ℕ). HasBits n (quotient_by (f k) X).significand) (is_ready k).precision (sound_quotient (f k) (is_ready k).sound X (is_ready k).bits false).bits)
 
   few : nat_abs (v.binade -ℤ scale) < 102
   few =
-      let one = subst (λ (w : Quotient). nat_abs w.binade ≤ 1) (sym v-is) (sound-binade (f k) (is-ready k).sound X (is-ready k).bits) in
-      omega (arith, size-sum v.binade (neg_ℤ scale), size-negated scale, scale-size scale (is-ready k).sound.scale, one)
+      let one = subst (λ (w : Quotient). nat_abs w.binade ≤ 1) (sym v_is) (sound_binade (f k) (is_ready k).sound X (is_ready k).bits) in
+      omega (arith, size_sum v.binade (neg_ℤ scale), size_negated scale, scale_size scale (is_ready k).sound.scale, one)
 
   abbrev left : ℤ
   left = to_z w32 (of_z w32 v.binade) -ℤ to_z w32 (of_z w32 scale)
@@ -86,28 +86,28 @@ sub-place : tie.Need-overflow-sub-place
 sub-place c = (is-kept c.before.before.before.before.before.before).0
 
 place-requires : tie.Need-place-requires
-place-requires c κs = let q = c.before.before.before.before.before.before in (subst (λ (z : ℤ). nat_abs z ≤ 101) (sym (is-kept q).1) (omega (arith, few q)), v-bits q)
+place-requires c κs = let q = c.before.before.before.before.before.before in (subst (λ (z : ℤ). nat_abs z ≤ 101) (sym (is-kept q).1) (omega (arith, few q)), v_bits q)
 
 returns : tie.Need-returns
-unfolding dividedReading
-returns c = let t = c.before.before.before in let a = t.before.args in refused-answered a.f a.reading t.take.result t.take.ensures (quotient_of a.f) c.before.number.given.1
+unfolding divided_reading
+returns c = let t = c.before.before.before in let a = t.before.args in refused_answered a.f a.reading t.take.result t.take.ensures (quotient_of a.f) c.before.number.given.1
 
 returns-2 : tie.Need-returns-2
-unfolding dividedReading
+unfolding divided_reading
 returns-2 c =
     let t = c.before.before.before.before.before in
     let a = t.before.args in
-    ap (λ (y : Float). accepted (record { number = y; direction = Equal })) (c.zero.ensures ∙ ap zero_of c.before.sign-with.ensures) ∙ zero-answered a.f a.reading t.take.result t.take.ensures (quotient_of a.f) c.before.before.before.bits.given.1
+    ap (λ (y : Float). accepted (record { number = y; direction = Equal })) (c.zero.ensures ∙ ap zero_of c.before.sign-with.ensures) ∙ zero_answered a.f a.reading t.take.result t.take.ensures (quotient_of a.f) c.before.before.before.bits.given.1
 
 returns-3 : tie.Need-returns-3
-unfolding dividedReading
+unfolding divided_reading
 returns-3 c =
     let q = c.before.before.before.before.before.before.before in
     let n = k q in
     c.place.ensures
-    ∙ ap₂ (λ (m : Bool) (z : ℤ). placed m (v q).significand (exponentOf binary32 (b n) +ℤ z) (w q).direction) c.before.before.before.before.before.sign-with2.ensures (is-kept q).1
-    ∙ ap (placedQuotient (f n) (b n)) (w-is q)
-    ∙ normal-answered (f n) (x n) n.before.before.before.take.result n.before.before.before.take.ensures (quotient_of (f n)) n.before.bits2.given.1
+    ∙ ap₂ (λ (m : Bool) (z : ℤ). placed m (v q).significand (exponent_of binary32 (b n) +ℤ z) (w q).direction) c.before.before.before.before.before.sign-with2.ensures (is-kept q).1
+    ∙ ap (placed_quotient (f n) (b n)) (w_is q)
+    ∙ normal_answered (f n) (x n) n.before.before.before.take.result n.before.before.before.take.ensures (quotient_of (f n)) n.before.bits2.given.1
 
 pub divide-spec : {M : Type 1} → statement M
 divide-spec =

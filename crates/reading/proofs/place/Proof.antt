@@ -11,12 +11,12 @@ use borrow.Author.Rules.{rules}
 use Rattle.marks.specs.Answers.{accepted}
 use Rattle.marks.specs.AnswerLaws.{pass, stop, end, refuses, accepts}
 use Rattle.rounding.specs.declared.Direction.{Direction}
-use Rattle.rounding.specs.Direction.{signedDirection}
-use Rattle.floats.specs.Fields.{biasedExponent, exponentOf, floatOf}
-use Rattle.floats.specs.Powers.{sub-le}
-use Rattle.floats.specs.Pattern.{biased-most}
-use Rattle.reading.specs.Exponents.{biased-is, size-sum, below-least, above_most, in_between, out_none}
-use Rattle.reading.specs.ReadingLaws.{number-normalized, number_is}
+use Rattle.rounding.specs.Direction.{signed_direction}
+use Rattle.floats.specs.Fields.{biased_exponent, exponent_of, float_of}
+use Rattle.floats.proofs.Powers.{sub_le}
+use Rattle.floats.proofs.Pattern.{biased_most}
+use Rattle.reading.proofs.Exponents.{biased_is, size_sum, below_least, above_most, in_between, out_none}
+use Rattle.reading.proofs.ReadingLaws.{number_normalized, number_is}
 use Rattle.reading.proofs.Laws.{kept}
 use Rattle.reading.proofs.place.Statement.{statement}
 use Rattle.reading.proofs.place.Tie as tie
@@ -27,10 +27,10 @@ module _ (c : tie.After-biased-exponent) where
   a = c.before
 
   abbrev exponent : ℤ
-  exponent = exponentOf binary32 a.args.bits +ℤ a.args.raise
+  exponent = exponent_of binary32 a.args.bits +ℤ a.args.raise
 
   abbrev biased : ℤ
-  biased = pos (biasedExponent binary32 a.args.bits) +ℤ a.args.raise
+  biased = pos (biased_exponent binary32 a.args.bits) +ℤ a.args.raise
 
   -- as the machine has it
   abbrev summed : ℤ
@@ -39,16 +39,16 @@ module _ (c : tie.After-biased-exponent) where
   summed-is : summed ≡ biased
   summed-is =
       let F = c.biased-exponent.ensures in
-      let few : c.biased-exponent.result < 2 ^ 31 = rw F (omega (arith, biased-most binary32 a.args.bits)) in
+      let few : c.biased-exponent.result < 2 ^ 31 = rw F (omega (arith, biased_most binary32 a.args.bits)) in
       ap₂ (λ (x y : ℤ). x +ℤ y) (to_z_pos w32 c.biased-exponent.result few ∙ ap pos F) (to_z-of_z w32 a.args.raise a.fits.raise)
 
   is-kept : SFits w32 summed × (to_z w32 (of_z w32 summed) ≡ biased)
   is-kept =
-      let F = biasedExponent binary32 a.args.bits in
-      kept summed biased summed-is (omega (arith, size-sum (pos F) a.args.raise, biased-most binary32 a.args.bits, a.pre.0))
+      let F = biased_exponent binary32 a.args.bits in
+      kept summed biased summed-is (omega (arith, size_sum (pos F) a.args.raise, biased_most binary32 a.args.bits, a.pre.0))
 
   at : exponent +ℤ pos (emax binary32) ≡ biased
-  at = biased-is binary32 (biasedExponent binary32 a.args.bits) a.args.raise
+  at = biased_is binary32 (biased_exponent binary32 a.args.bits) a.args.raise
 
 add-exponent : tie.Need-overflow-add-exponent
 add-exponent c = (is-kept c).0
@@ -56,7 +56,7 @@ add-exponent c = (is-kept c).0
 returns : tie.Need-returns
 returns c =
     let k = c.before in
-    refuses (stop (below-least binary32 (exponent k) (to_z w32 (of_z w32 (summed k))) (at k ∙ sym (is-kept k).1) c.if1.true)) _
+    refuses (stop (below_least binary32 (exponent k) (to_z w32 (of_z w32 (summed k))) (at k ∙ sym (is-kept k).1) c.if1.true)) _
 
 returns-2 : tie.Need-returns-2
 returns-2 c =
@@ -79,7 +79,7 @@ module _ (c : tie.Else2) where
 
   -- counted from the least
   less_one : SFits w32 (to_z w32 (of_z w32 (summed k)) -ℤ pos 1) × (to_z w32 (of_z w32 (to_z w32 (of_z w32 (summed k)) -ℤ pos 1)) ≡ pos (p - 1))
-  less_one = kept (to_z w32 (of_z w32 (summed k)) -ℤ pos 1) (pos (p - 1)) (ap (λ (z : ℤ). z -ℤ pos 1) within.1 ∙ sub-le p 1 (p - 1) (omega (arith, within.2))) (omega (arith, within.3))
+  less_one = kept (to_z w32 (of_z w32 (summed k)) -ℤ pos 1) (pos (p - 1)) (ap (λ (z : ℤ). z -ℤ pos 1) within.1 ∙ sub_le p 1 (p - 1) (omega (arith, within.2))) (omega (arith, within.3))
 
 sub-float-of : tie.Need-overflow-sub-float-of
 sub-float-of c = (less_one c).0
@@ -90,16 +90,16 @@ cast-float-of c = rw (less_one c).1 (tt, record { fits = omega (arith, (within c
 float-of-requires : tie.Need-float-of-requires
 float-of-requires c κs =
     let s = a (k c) in
-    rw (less_one c).1 (number-normalized binary32 s.args.minus s.args.significand (exponent (k c)) s.pre.1 (p c) (at_p c) (within c).2 (within c).3)
+    rw (less_one c).1 (number_normalized binary32 s.args.minus s.args.significand (exponent (k c)) s.pre.1 (p c) (at_p c) (within c).2 (within c).3)
 
 returns-3 : tie.Need-returns-3
 returns-3 c =
     let told = c.before in
     let h = told.before in
     let s = a (k h) in
-    let mirrored : c.signed-direction.result ≡ signedDirection s.args.minus s.args.d = c.signed-direction.ensures in
+    let mirrored : c.signed-direction.result ≡ signed_direction s.args.minus s.args.d = c.signed-direction.ensures in
     ap₂ (λ (y : Float) (d : Direction). accepted (record { number = y; direction = d }))
-    (told.float_of.ensures ∙ ap (λ (z : ℕ). floatOf binary32 s.args.minus z s.args.significand) (ap nat_abs (less_one h).1)
+    (told.float_of.ensures ∙ ap (λ (z : ℕ). float_of binary32 s.args.minus z s.args.significand) (ap nat_abs (less_one h).1)
     ∙ number_is binary32 s.args.minus s.args.significand (exponent (k h)) s.pre.1 (p h) (at_p h) (within h).2 (within h).3)
     mirrored
     ∙ accepts (pass (out_none binary32 (exponent (k h)) (p h) (at_p h) (within h).2 (within h).3) end) _

@@ -8,18 +8,18 @@ use borrow.Author.Rules.{rules}
 use borrow.Author.Tests.{eq-eqb, ne_eqb}
 use Rattle.marks.specs.Answers.{accepted}
 use Rattle.marks.specs.AnswerLaws.{pass, stop, end, refuses, accepts}
-use Rattle.floats.specs.Fields.{biasedExponent, trailingSignificand, infiniteOrNaN, subnormal}
+use Rattle.floats.specs.Fields.{biased_exponent, trailing_significand, infinite_or_na_n, subnormal}
 use Rattle.factor.specs.SetUp.{intact}
 use Rattle.reading.specs.Reading.{zero, normal, kind_of}
 use Rattle.reading.proofs.take.Statement.{statement}
 use Rattle.reading.proofs.take.Tie as tie
 
 returns : tie.Need-returns
-returns c = refuses (stop (ap not (sym c.before.is-intact.ensures) ∙ c.if1.true)) _
+returns c = refuses (stop (ap not (sym c.before.is_intact.ensures) ∙ c.if1.true)) _
 
 -- 31 lets the factor through
 through : (c : tie.Else1) → not (intact c.before.before.args.f) ≡ false
-through c = ap not (sym c.before.is-intact.ensures) ∙ c.if1.false
+through c = ap not (sym c.before.is_intact.ensures) ∙ c.if1.false
 
 returns-2 : tie.Need-returns-2
 returns-2 c = refuses (pass (through c.before) (stop (ap not (ne_eqb _ (prec binary32) c.if2.true)))) _
@@ -39,17 +39,17 @@ module _ (c : tie.After-trailing-significand) where
   abbrev b : ℕ
   b = to_bits binary32 t.before.before.args.reading
 
-  field_is : c.before.biased-exponent.result ≡ biasedExponent binary32 b
-  field_is = c.before.biased-exponent.ensures ∙ ap (biasedExponent binary32) c.before.before.bits_of.ensures
+  field_is : c.before.biased-exponent.result ≡ biased_exponent binary32 b
+  field_is = c.before.biased-exponent.ensures ∙ ap (biased_exponent binary32) c.before.before.bits_of.ensures
 
-  digits-is : c.trailing-significand.result ≡ trailingSignificand binary32 b
-  digits-is = c.trailing-significand.ensures ∙ ap (trailingSignificand binary32) c.before.before.bits_of.ensures
+  digits_is : c.trailing-significand.result ≡ trailing_significand binary32 b
+  digits_is = c.trailing-significand.ensures ∙ ap (trailing_significand binary32) c.before.before.bits_of.ensures
 
 returns-3 : tie.Need-returns-3
 returns-3 c = let d = c.before in refuses (pass (through (t d)) (pass (precise (e d)) (stop (eq-eqb _ (ones binary32) (sym (field_is d) ∙ c.if3.true))))) _
 
 -- 21 lets it through
-ended : (c : tie.Else3) → infiniteOrNaN binary32 (b c.before) ≡ false
+ended : (c : tie.Else3) → infinite_or_na_n binary32 (b c.before) ≡ false
 ended c = ne_eqb _ (ones binary32) (λ is. c.if3.false (field_is c.before ∙ is))
 
 returns-4 : tie.Need-returns-4
@@ -57,7 +57,7 @@ returns-4 c =
     let z = c.before in
     let n = z.before in
     let d = n.before in
-    let is : subnormal binary32 (b d) ≡ true = rw (eq-eqb (biasedExponent binary32 (b d)) 0 (sym (field_is d) ∙ z.if4.true), ne_eqb (trailingSignificand binary32 (b d)) 0 (λ is. c.if5.true (digits-is d ∙ is))) in
+    let is : subnormal binary32 (b d) ≡ true = rw (eq-eqb (biased_exponent binary32 (b d)) 0 (sym (field_is d) ∙ z.if4.true), ne_eqb (trailing_significand binary32 (b d)) 0 (λ is. c.if5.true (digits_is d ∙ is))) in
     refuses (pass (through (t d)) (pass (precise (e d)) (pass (ended n) (stop is)))) _
 
 returns-5 : tie.Need-returns-5
@@ -65,8 +65,8 @@ returns-5 c =
     let z = c.before in
     let n = z.before in
     let d = n.before in
-    let none = eq-eqb (biasedExponent binary32 (b d)) 0 (sym (field_is d) ∙ z.if4.true) in
-    let nil = eq-eqb (trailingSignificand binary32 (b d)) 0 (sym (digits-is d) ∙ c.if5.false) in
+    let none = eq-eqb (biased_exponent binary32 (b d)) 0 (sym (field_is d) ∙ z.if4.true) in
+    let nil = eq-eqb (trailing_significand binary32 (b d)) 0 (sym (digits_is d) ∙ c.if5.false) in
     let is : subnormal binary32 (b d) ≡ false = rw (none, nil) in
     let kind : zero (b d) ≡ kind_of (b d) = rw (none, nil) in
     ap (λ (z : ℕ). accepted (zero z)) d.before.before.bits_of.ensures ∙ ap accepted kind ∙ accepts (pass (through (t d)) (pass (precise (e d)) (pass (ended n) (pass is end)))) _
@@ -75,7 +75,7 @@ returns-6 : tie.Need-returns-6
 returns-6 c =
     let n = c.before in
     let d = n.before in
-    let some = ne_eqb (biasedExponent binary32 (b d)) 0 (λ is. c.if4.false (field_is d ∙ is)) in
+    let some = ne_eqb (biased_exponent binary32 (b d)) 0 (λ is. c.if4.false (field_is d ∙ is)) in
     let is : subnormal binary32 (b d) ≡ false = rw some in
     let kind : normal (b d) ≡ kind_of (b d) = rw some in
     ap (λ (z : ℕ). accepted (normal z)) d.before.before.bits_of.ensures ∙ ap accepted kind ∙ accepts (pass (through (t d)) (pass (precise (e d)) (pass (ended n) (pass is end)))) _

@@ -4,19 +4,19 @@ use native.Mathlib.Nat.{div-lt_iff_lt-mul, mod-lt, lt_of_lt_of_le}
 use native.Mathlib.Omega.{arith}
 use lib.Pow.{pow-add, pow_pos, pow_mono}
 use borrow.Author.Rules.{rules}
-use Rattle.wide.specs.Value.{wordBits}
+use Rattle.wide.specs.Value.{word_bits}
 use Rattle.round.proofs.cut_wide.Statement.{statement}
 use Rattle.round.proofs.cut_wide.Tie as tie
 
 to-word-requires : tie.Need-to-word-requires
 to-word-requires c κs =
     let a = c.before in
-    rw c.shifted-right.ensures ((div-lt_iff_lt-mul (pow_pos a.args.k)).1 (omega (arith, a.requires.1, pow-add 2 wordBits a.args.k)))
+    rw c.shifted-right.ensures ((div-lt_iff_lt-mul (pow_pos a.args.k)).1 (omega (arith, a.requires.1, pow-add 2 word_bits a.args.k)))
 
 to-word-requires-2 : tie.Need-to-word-requires-2
 to-word-requires-2 c κs =
     let a = c.before.before.before in
-    rw c.low-digits.ensures (lt_of_lt_of_le (mod-lt _ (pow_pos a.args.k)) (pow_mono {i = a.args.k} {j = wordBits} (omega (arith, a.requires.0))))
+    rw c.low-digits.ensures (lt_of_lt_of_le (mod-lt _ (pow_pos a.args.k)) (pow_mono {i = a.args.k} {j = word_bits} (omega (arith, a.requires.0))))
 
 returns : tie.Need-returns
 returns c =

@@ -11,7 +11,7 @@ use Rattle.rounding.specs.declared.Direction.TheVariants.{Below, Above}
 use Rattle.rounding.specs.declared.Location.{Location}
 use Rattle.rounding.specs.declared.Location.TheVariants.{Exact, BelowHalf, Half, AboveHalf}
 use Rattle.rounding.specs.contracts.Location as location
-use Rattle.rounding.specs.Grid.{sideTaken}
+use Rattle.rounding.specs.Grid.{side_taken}
 use Rattle.round.proofs.direction_at.Statement.{statement}
 use Rattle.round.proofs.direction_at.Tie as tie
 
@@ -21,7 +21,7 @@ no_key (inl e) = omega (arith, e)
 no_key (inr (inl e)) = omega (arith, e)
 no_key (inr (inr e)) = omega (arith, e)
 
-not-exact : (l : Location) (up b : Bool) → Run.OneOf (1 ∷ 2 ∷ 3 ∷ []) (Declared.tag_of location.the_type l) → up ≡ b → cond b Above Below ≡ sideTaken l up
+not-exact : (l : Location) (up b : Bool) → Run.OneOf (1 ∷ 2 ∷ 3 ∷ []) (Declared.tag_of location.the_type l) → up ≡ b → cond b Above Below ≡ side_taken l up
 not-exact Exact up b k e = absurd (no_key k)
 not-exact BelowHalf up b k e = rw e
 not-exact Half up b k e = rw e

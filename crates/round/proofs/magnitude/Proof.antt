@@ -8,8 +8,8 @@ use mir.Syntax.{w64}
 use mir.Val.{SFits, to_z, of_z}
 use mir.ValLaws.{to_z-of_z}
 use borrow.Author.Rules.{rules}
-use Rattle.wide.specs.Value.{halfWord}
-use Rattle.round.proofs.Laws.{neg_is, neg-fits, below-zero, not-below, up_one, size_fits}
+use Rattle.wide.specs.Value.{half_word}
+use Rattle.round.proofs.Laws.{neg_is, neg_fits, below_zero, not_below, up_one, size_fits}
 use Rattle.round.proofs.magnitude.Statement.{statement}
 use Rattle.round.proofs.magnitude.Tie as tie
 
@@ -18,17 +18,17 @@ pub record Below (z : ℤ) : Type 0 where
   pub m : ℕ
   pub is : to_z w64 (of_z w64 z) ≡ negsuc m
   pub size : nat_abs z ≡ m + 1
-  pub small : m < halfWord
+  pub small : m < half_word
   pub up_fits : SFits w64 (neg_ℤ (pos m))
 
 known : (c : tie.Then1) → Below c.before.args.z
 known c =
     let z = c.before.args.z in
     let k = to_z-of_z w64 z c.before.ranges.z in
-    let b = below-zero z (rw k at c.if1.true) in
+    let b = below_zero z (rw k at c.if1.true) in
     let f : SFits w64 (negsuc b.0) = rw b.1 at c.before.ranges.z in
-    let small : b.0 < halfWord = f.sfits in
-    record { m = b.0; is = k ∙ b.1; size = ap nat_abs b.1 ∙ sym (add-one b.0); small = small; up_fits = neg-fits w64 (pos b.0) small }
+    let small : b.0 < half_word = f.sfits in
+    record { m = b.0; is = k ∙ b.1; size = ap nat_abs b.1 ∙ sym (add-one b.0); small = small; up_fits = neg_fits w64 (pos b.0) small }
 
 add-result : tie.Need-overflow-add-result
 add-result c = let k = known c in rw (k.is, up_one k.m) k.up_fits
@@ -53,7 +53,7 @@ cast-result-2 : tie.Need-overflow-cast-result-2
 cast-result-2 c =
     let z = c.before.args.z in
     let k = to_z-of_z w64 z c.before.ranges.z in
-    rw k (not-below z (rw k at c.if1.false), size_fits z c.before.ranges.z)
+    rw k (not_below z (rw k at c.if1.false), size_fits z c.before.ranges.z)
 
 pub magnitude-spec : {M : Type 1} → statement M
 magnitude-spec = tie.close (tie.spec add-result sub-result cast-result add-result-2 returns cast-result-2 (λ c. search rules))

@@ -4,9 +4,9 @@ use Prim.Native.Nat.{◌-◌}
 use native.Mathlib.Nat.{pos_of_ne-zero}
 use lib.Ieee.Digits.{size-lt}
 use borrow.Author.Rules.{rules}
-use Rattle.rounding.specs.Grid.{ruleOf}
+use Rattle.rounding.specs.Grid.{rule_of}
 use Rattle.rounding.specs.Round.{normalised, rounded}
-use Rattle.rounding.specs.ByDigitsLaws.{rounded-few, rounded-many}
+use Rattle.rounding.proofs.ByDigitsLaws.{rounded_few, rounded_many}
 use Rattle.round.specs.declared.Neighbour.{Neighbour}
 use Rattle.round.proofs.round_word.Statement.{statement}
 use Rattle.round.proofs.round_word.Tie as tie
@@ -25,7 +25,7 @@ returns-2 : tie.Need-returns-2
 returns-2 c =
     let s = c.before.before in
     let a = s.before.before in
-    c.widened.ensures ∙ rounded-few (ruleOf a.args.rule) a.args.n a.requires.0 a.args.x s.word-digits.result s.word-digits.ensures.0 (pos_of_ne-zero s.before.if1.false) c.before.if2.true
+    c.widened.ensures ∙ rounded_few (rule_of a.args.rule) a.args.n a.requires.0 a.args.x s.word-digits.result s.word-digits.ensures.0 (pos_of_ne-zero s.before.if1.false) c.before.if2.true
 
 returns-3 : tie.Need-returns-3
 returns-3 c =
@@ -34,7 +34,7 @@ returns-3 c =
     let k = s.word-digits.result - a.args.n in
     c.normalise.ensures
     ∙ ap (λ (m : Neighbour). normalised a.args.n m.taken k 0 m.direction) c.before.nearest-word.ensures
-    ∙ rounded-many (ruleOf a.args.rule) a.args.n a.requires.0 a.args.x s.word-digits.result s.word-digits.ensures.0 (pos_of_ne-zero s.before.if1.false) c.before.before.if2.false
+    ∙ rounded_many (rule_of a.args.rule) a.args.n a.requires.0 a.args.x s.word-digits.result s.word-digits.ensures.0 (pos_of_ne-zero s.before.if1.false) c.before.before.if2.false
 
 pub round-word-spec : {M : Type 1} → statement M
 round-word-spec = tie.close (tie.spec returns (λ c κs. search rules) widened-requires returns-2 (λ c. search rules) (λ c κs. search rules) (λ c κs. search rules) returns-3)

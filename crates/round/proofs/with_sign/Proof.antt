@@ -5,12 +5,12 @@ use mir.Syntax.{w64}
 use mir.Facts.{to_z_pos}
 use mir.ValLaws.{to_z-of_z}
 use borrow.Author.Rules.{rules}
-use Rattle.round.proofs.Laws.{neg_is, neg-fits}
+use Rattle.round.proofs.Laws.{neg_is, neg_fits}
 use Rattle.round.proofs.with_sign.Statement.{statement}
 use Rattle.round.proofs.with_sign.Tie as tie
 
 sub-result : tie.Need-overflow-sub-result
-sub-result c = rw (to_z_pos w64 c.before.requires, neg_is) (neg-fits w64 (pos c.before.args.m) c.before.requires)
+sub-result c = rw (to_z_pos w64 c.before.requires, neg_is) (neg_fits w64 (pos c.before.args.m) c.before.requires)
 
 returns : tie.Need-returns
 returns c = to_z-of_z w64 _ (sub-result c) ∙ rw (to_z_pos w64 c.before.requires, c.if1.true) (neg_is (pos c.before.args.m))

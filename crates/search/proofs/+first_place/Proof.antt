@@ -7,11 +7,11 @@ use native.Mathlib.Omega.{arith}
 use borrow.Author.Rules.{rules}
 use borrow.Fn.PlainCycle.{Measures, is, falls, and}
 use Rattle.search.specs.declared.Trace.{Trace}
-use Rattle.search.specs.Search.{ceilDiv}
+use Rattle.search.specs.Search.{ceil_div}
 use Rattle.search.specs.Cases.{start, still, multiple}
 use Rattle.search.specs.Trace.{Below}
-use Rattle.search.specs.MultipleLaws.{ceilDiv-lt}
-use Rattle.search.specs.TraceLaws.{wound-at, wound-none, wound-mirror, wound-round, searchWindow-below}
+use Rattle.search.specs.MultipleLaws.{ceil_div_lt}
+use Rattle.search.specs.TraceLaws.{wound_at, wound_none, wound_mirror, wound_round, search_window_below}
 use Rattle.search.proofs.first_place.Reads as reads
 use Rattle.search.proofs.first_place.Kinds as kinds
 use Rattle.search.proofs.+first_place.Lts-first_place as lts
@@ -26,7 +26,7 @@ abbrev μ : Measures 0 kinds.ps ℕ
 
 -- The needs come in the order of the code: what an operation or a call asks, then, where the code returns, what it answers.
 pub +first-place-spec : {M : Type 1} → statement M
-unfolding ceilDiv
+unfolding ceil_div
 +first-place-spec =
     close μ λ t.
     lts.spec (
@@ -47,14 +47,14 @@ unfolding ceilDiv
     let entry = c.before.before in
     let a = entry.args in
     c.at_once.ensures
-    ∙ wound-at a.m a.step a.l a.r entry.requires.1.0 0 (omega arith) (start c.before.if1.true))
+    ∙ wound_at a.m a.step a.l a.r entry.requires.1.0 0 (omega arith) (start c.before.if1.true))
     -- the step is 0: the call of at_once, and the answer
     (λ c κs. search rules)
     (λ c.
     let entry = c.before.before.before in
     let a = entry.args in
     c.at-once2.ensures
-    ∙ wound-none a.m a.step a.l a.r entry.requires.1.0 (still (omega arith) c.before.if2.true))
+    ∙ wound_none a.m a.step a.l a.r entry.requires.1.0 (still (omega arith) c.before.if2.true))
     -- the step is above half of the modulus: the product of the test, the three differences, the calls of first_place and mirror_back, and the answer
     (λ c. search rules)
     (λ c. search rules)
@@ -65,42 +65,42 @@ unfolding ceilDiv
     let entry = c.before.before.before.before in
     let a = entry.args in
     let mirrored = c.first-place in
-    (wound-mirror a.m a.step a.l a.r entry.requires.1.0 (omega arith) (omega arith) mirrored.result mirrored.ensures).0)
+    (wound_mirror a.m a.step a.l a.r entry.requires.1.0 (omega arith) (omega arith) mirrored.result mirrored.ensures).0)
     (λ c.
     let entry = c.before.before.before.before.before in
     let a = entry.args in
     let mirrored = c.before.first-place in
     c.mirror-back.ensures
-    ∙ (wound-mirror a.m a.step a.l a.r entry.requires.1.0 (omega arith) (omega arith) mirrored.result mirrored.ensures).1)
+    ∙ (wound_mirror a.m a.step a.l a.r entry.requires.1.0 (omega arith) (omega arith) mirrored.result mirrored.ensures).1)
     -- the first multiple from l on: the difference, sum and quotient of `first`, and the product
     (λ c. search rules)
     (λ c. search rules)
     (λ c. search rules)
-    (λ c. let a = c.before.before.before.args in omega (arith, ceilDiv-lt a.l a.step (omega arith)))
+    (λ c. let a = c.before.before.before.args in omega (arith, ceil_div_lt a.l a.step (omega arith)))
     -- it lies in the window: the call of at_once, and the answer
     (λ c κs. search rules)
     (λ c.
     let entry = c.before.before.before.before.before in
     let a = entry.args in
     c.at-once3.ensures
-    ∙ wound-at a.m a.step a.l a.r entry.requires.1.0 (ceilDiv a.l a.step) (omega arith) (multiple (omega arith) (omega arith)))
+    ∙ wound_at a.m a.step a.l a.r entry.requires.1.0 (ceil_div a.l a.step) (omega arith) (multiple (omega arith) (omega arith)))
     -- it does not: the remainder, the two differences, the call of first_place, the quotient, the call of round_back, and the answer
     (λ c. search rules)
     (λ c. search rules)
     (λ c. search rules)
     (λ c κs.
     let a = c.before.before.before.before.args in
-    omega (arith, ceilDiv-lt a.l a.step (omega arith), mod-lt a.m {m = a.step} (omega arith)))
+    omega (arith, ceil_div_lt a.l a.step (omega arith), mod-lt a.m {m = a.step} (omega arith)))
     (λ c. search rules)
     (λ c κs.
     let entry = c.before.before.before.before.before in
     let a = entry.args in
     let next = c.first-place2 in
-    let back = wound-round a.m a.step a.l a.r entry.requires.1.0 (omega arith) (omega arith) next.result next.ensures in
-    omega (arith, subst (λ (t : Trace). Below a.m t.found) (sym back) (searchWindow-below a.m a.step a.l a.r entry.requires.1.0)))
+    let back = wound_round a.m a.step a.l a.r entry.requires.1.0 (omega arith) (omega arith) next.result next.ensures in
+    omega (arith, subst (λ (t : Trace). Below a.m t.found) (sym back) (search_window_below a.m a.step a.l a.r entry.requires.1.0)))
     (λ c.
     let entry = c.before.before.before.before.before.before in
     let a = entry.args in
     let next = c.before.first-place2 in
     c.round-back.ensures
-    ∙ wound-round a.m a.step a.l a.r entry.requires.1.0 (omega arith) (omega arith) next.result next.ensures)
+    ∙ wound_round a.m a.step a.l a.r entry.requires.1.0 (omega arith) (omega arith) next.result next.ensures)

@@ -1,6 +1,6 @@
 -- `stream::begin` meets its contract. Assumes nothing.
 use mathlib.Core.Bool.{false}
-use Rattle.factor.specs.SetUpLaws.{intact-sound}
+use Rattle.factor.proofs.SetUpLaws.{intact_sound}
 use Rattle.stream.proofs.begin.Statement.{statement}
 use Rattle.stream.proofs.begin.Tie as tie
 
@@ -17,5 +17,5 @@ returns c =
 
 pub begin-spec : {M : Type 1} → statement M
 begin-spec =
-    tie.close (tie.spec (λ c κs. (intact-sound _ c.before.requires).precision) (λ c κs. (intact-sound _ c.before.before.requires).precision)
-    (λ c κs. (intact-sound _ c.before.before.before.requires).precision) returns)
+    tie.close (tie.spec (λ c κs. (intact_sound _ c.before.requires).precision) (λ c κs. (intact_sound _ c.before.before.requires).precision)
+    (λ c κs. (intact_sound _ c.before.before.before.requires).precision) returns)

@@ -6,27 +6,27 @@ use native.Mathlib.Numerals.{add-one}
 use native.Mathlib.Omega.{arith}
 use lib.ListN.{length, take, drop, get_or}
 use borrow.Author.Rules.{rules}
-use Rattle.frame.specs.Lines.{lineFeed}
-use Rattle.stream.specs.Keep.{keep, kept, upToFeed, mostKept}
-use Rattle.stream.specs.KeepLaws.{at-end, at-feed, at_byte}
+use Rattle.frame.specs.Lines.{line_feed}
+use Rattle.stream.specs.Keep.{keep, kept, up_to_feed, most_kept}
+use Rattle.stream.specs.KeepLaws.{at_end, at_feed, at_byte}
 use Rattle.stream.proofs.keep_line.Statement.{statement}
 use Rattle.stream.proofs.keep_line.Tie as tie
 
 -- a line of which the buffer holds n bytes, at a place of the input, comes to the same as the line that it began with
 record Begun (h : List ℕ) (input : List ℕ) (at : ℕ) (held : List ℕ) (n place : ℕ) : Type 0 where
-  size : length held ≡ mostKept
-  few : n ≤ mostKept
+  size : length held ≡ most_kept
+  few : n ≤ most_kept
   inside : place ≤ length input
   line : kept (take n held) (drop place input) ≡ kept h (drop at input)
-  rest : upToFeed (drop place input) ≡ upToFeed (drop at input)
+  rest : up_to_feed (drop place input) ≡ up_to_feed (drop at input)
 
 module _ (h : List ℕ) (input : List ℕ) (at : ℕ) (held : List ℕ) (n place : ℕ) (b : Begun h input at held n place) where
   one_more :
       (held' : List ℕ) (n' : ℕ)
       → place < length input
-      → ¬ (get_or input place 0 ≡ lineFeed)
-      → length held' ≡ mostKept
-      → n' ≤ mostKept
+      → ¬ (get_or input place 0 ≡ line_feed)
+      → length held' ≡ most_kept
+      → n' ≤ most_kept
       → take n' held' ≡ keep (take n held) (get_or input place 0)
       → Begun h input at held' n' (place + 1)
   one_more held' n' i f size few e =
@@ -36,12 +36,12 @@ module _ (h : List ℕ) (input : List ℕ) (at : ℕ) (held : List ℕ) (n place
         few = few;
         inside = omega arith;
         line = ap₂ (λ (l : List ℕ) (p : ℕ). kept l (drop p input)) e (add-one place) ∙ sym next.0 ∙ b.line;
-        rest = ap (λ (p : ℕ). upToFeed (drop p input)) (add-one place) ∙ sym next.1 ∙ b.rest;
+        rest = ap (λ (p : ℕ). up_to_feed (drop p input)) (add-one place) ∙ sym next.1 ∙ b.rest;
       }
 
   -- where the line stops, what the buffer holds is what was to be kept
-  told : (kept (take n held) (drop place input) ≡ take n held) × (upToFeed (drop place input) ≡ drop place input)
-      → (length held ≡ mostKept × n ≤ mostKept × take n held ≡ kept h (drop at input)) × (place ≤ length input × drop place input ≡ upToFeed (drop at input))
+  told : (kept (take n held) (drop place input) ≡ take n held) × (up_to_feed (drop place input) ≡ drop place input)
+      → (length held ≡ most_kept × n ≤ most_kept × take n held ≡ kept h (drop at input)) × (place ≤ length input × drop place input ≡ up_to_feed (drop at input))
   told s = ((b.size, b.few, sym s.0 ∙ b.line), (b.inside, sym s.1 ∙ b.rest))
 
 abbrev invariant-loop : tie.invariant-loop
@@ -61,7 +61,7 @@ same_length c = let at-loop = c.before.before.before in at-loop.loop.invariant.s
 returns : tie.Need-returns invariant-loop decreases-loop
 returns c =
     let at-loop = c.before.before.before in
-    told _ _ _ _ _ _ at-loop.loop.invariant (at-feed _ _ _ c.before.before.loop-test.true c.if1.true)
+    told _ _ _ _ _ _ at-loop.loop.invariant (at_feed _ _ _ c.before.before.loop-test.true c.if1.true)
 
 keep-byte-requires : tie.Need-keep-byte-requires invariant-loop decreases-loop
 keep-byte-requires c κs = let at-loop = c.before.before.before.before in (at-loop.loop.invariant.size, at-loop.loop.invariant.few)
@@ -80,7 +80,7 @@ same-length-2 : tie.Need-same-length-2 invariant-loop decreases-loop
 same-length-2 c = let at-loop = c.before in at-loop.loop.invariant.size ∙ sym at-loop.before.before.before.requires.0
 
 returns-2 : tie.Need-returns-2 invariant-loop decreases-loop
-returns-2 c = told _ _ _ _ _ _ c.before.loop.invariant (at-end _ _ _ c.loop-test.false)
+returns-2 c = told _ _ _ _ _ _ c.before.loop.invariant (at_end _ _ _ c.loop-test.false)
 
 pub keep-line-spec : {M : Type 1} → statement M
 keep-line-spec = tie.close (tie.spec invariant-loop decreases-loop loop-holds (λ c. search rules) same_length returns keep-byte-requires (λ c. search rules) loop-less loop-again same-length-2 returns-2)

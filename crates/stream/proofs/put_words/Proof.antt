@@ -10,21 +10,21 @@ use lib.Seq.{take-suc, length-take-le}
 use borrow.Author.Rules.{rules}
 use Rattle.frame.specs.Report.{word_line}
 use Rattle.frame.specs.Written.{Written}
-use Rattle.frame.specs.WrittenLaws.{written_then, written-length}
-use Rattle.stream.specs.Output.{wordLines, odds}
-use Rattle.stream.specs.SweepLaws.{odds-few, lines-last, odds-last, length-lines}
+use Rattle.frame.specs.WrittenLaws.{written_then, written_length}
+use Rattle.stream.specs.Output.{word_lines, odds}
+use Rattle.stream.specs.SweepLaws.{odds_few, lines_last, odds_last, length_lines}
 use Rattle.stream.proofs.put_words.Statement.{statement}
 use Rattle.stream.proofs.put_words.Tie as tie
 
 -- the first i words are printed, and their open ones counted
 record Begun (list : List ℕ) (count : ℕ) (out₀ : List ℕ) (at : ℕ) (out : List ℕ) (place opens i : ℕ) : Type 0 where
   within : i ≤ count
-  written : Written out₀ at (wordLines (take i list)) out place
+  written : Written out₀ at (word_lines (take i list)) out place
   odd : opens ≡ odds (take i list)
 
 module _ (list : List ℕ) (count : ℕ) (out₀ : List ℕ) (at : ℕ) (some : count ≤ length list) (room : at + 9 * count ≤ length out₀) where
   begin : Begun list count out₀ at out₀ at 0 0
-  unfolding wordLines odds
+  unfolding word_lines odds
   begin = record { within = omega arith; written = record { list = refl; place = omega arith }; odd = refl }
 
   module _ (out : List ℕ) (place opens i : ℕ) (b : Begun list count out₀ at out place opens i) where
@@ -36,15 +36,15 @@ module _ (list : List ℕ) (count : ℕ) (out₀ : List ℕ) (at : ℕ) (some : 
         let e : take (i + 1) list ≡ take i list ++ (word ∷ []) = ap (λ (k : ℕ). take k list) (add-one i) ∙ take-suc list i 0 (omega arith) ∙ ap (λ (x : ℕ). take i list ++ (x ∷ [])) (sym g) in
         record {
           within = omega arith;
-          written = subst (λ (l : List ℕ). Written out₀ at l out' place') (sym (ap wordLines e ∙ lines-last (take i list) word)) (written_then b.written w);
-          odd = ap (λ (n : ℕ). n + word % 2) b.odd ∙ sym (ap odds e ∙ odds-last (take i list) word);
+          written = subst (λ (l : List ℕ). Written out₀ at l out' place') (sym (ap word_lines e ∙ lines_last (take i list) word)) (written_then b.written w);
+          odd = ap (λ (n : ℕ). n + word % 2) b.odd ∙ sym (ap odds e ∙ odds_last (take i list) word);
         }
 
     more_room : i < count → place + 9 ≤ length out
-    more_room h = omega (arith, b.written.place, written-length b.written, length-lines (take i list), first-i)
+    more_room h = omega (arith, b.written.place, written_length b.written, length_lines (take i list), first-i)
 
     few-opens : opens ≤ i
-    few-opens = omega (arith, b.odd, odds-few (take i list), first-i)
+    few-opens = omega (arith, b.odd, odds_few (take i list), first-i)
 
 abbrev invariant-loop : tie.invariant-loop
 invariant-loop list count out₀ at place₀ opens₀ i₀ out place opens i = Begun list count out₀ at out place opens i
@@ -81,7 +81,7 @@ loop-again c =
     one_more _ _ _ _ start.requires.0 start.requires.1 _ _ _ _ in-loop.before.loop.invariant _ _ _ word.widened.ensures in-loop.loop-test.true call.put_word.ensures
 
 same_length : tie.Need-same-length invariant-loop decreases-loop
-same_length c = written-length c.before.loop.invariant.written
+same_length c = written_length c.before.loop.invariant.written
 
 returns : tie.Need-returns invariant-loop decreases-loop
 returns c =

@@ -2,7 +2,7 @@
 use mathlib.Core.Path.{refl, subst}
 use native.Mathlib.Omega.{arith}
 use Rattle.stream.specs.Good.{GoodTask}
-use Rattle.stream.specs.MoveLaws.{with-room, moved-swept, moved-past, moved-kept, moved-line}
+use Rattle.stream.specs.MoveLaws.{with_room, moved_swept, moved_past, moved_kept, moved_line}
 use borrow.Author.Rules.{rules}
 use Rattle.stream.proofs.step.Statement.{statement}
 use Rattle.stream.proofs.step.Tie as tie
@@ -17,7 +17,7 @@ returns : tie.Need-returns
 returns c =
     let told = c.before.before in
     let start = told.before.before.before.before in
-    with-room start.args.p _ start.args.at _ _ _ _ (moved-past _ start.requires.0 _ start.args.at _ _ told.enum_told.given.1 c.if1.true)
+    with_room start.args.p _ start.args.at _ _ _ _ (moved_past _ start.requires.0 _ start.args.at _ _ told.enum_told.given.1 c.if1.true)
 
 returns-2 : tie.Need-returns-2
 returns-2 c =
@@ -26,7 +26,7 @@ returns-2 c =
     let told = few.before.before in
     let start = told.before.before.before.before in
     let kept = call.keep-line.ensures in
-    with-room start.args.p _ start.args.at _ _ _ _ (moved-kept _ start.requires.0 _ start.args.at _ _ told.enum_told.given.1 few.if1.false _ _ _ kept.0.0 kept.0.1 kept.0.2 kept.1.0 kept.1.1 c.if2.true)
+    with_room start.args.p _ start.args.at _ _ _ _ (moved_kept _ start.requires.0 _ start.args.at _ _ told.enum_told.given.1 few.if1.false _ _ _ kept.0.0 kept.0.1 kept.0.2 kept.1.0 kept.1.1 c.if2.true)
 
 add-line-step : tie.Need-overflow-add-line-step
 add-line-step c =
@@ -41,7 +41,7 @@ returns-3 c =
     let turn = c.before.before in
     let known = turn.before.before.before in
     let start = known.before.before.before.before in
-    with-room start.args.p _ start.args.at _ _ _ _ (moved-swept _ start.requires.0 _ start.args.at _ _ _ known.task.given.1 start.requires.1 _ _ turn.sweep-step.ensures)
+    with_room start.args.p _ start.args.at _ _ _ _ (moved_swept _ start.requires.0 _ start.args.at _ _ _ known.task.given.1 start.requires.1 _ _ turn.sweep-step.ensures)
 
 returns-4 : tie.Need-returns-4
 returns-4 c =
@@ -52,7 +52,7 @@ returns-4 c =
     let told = few.before.before in
     let start = told.before.before.before.before in
     let kept = call.keep-line.ensures in
-    with-room start.args.p _ start.args.at _ _ _ _ (moved-line _ start.requires.0 _ start.args.at _ _ told.enum_told.given.1 few.if1.false _ _ _ kept.0.0 kept.0.1 kept.0.2 kept.1.0 kept.1.1 test.if2.false _ _ _ turn.line_step.ensures refl)
+    with_room start.args.p _ start.args.at _ _ _ _ (moved_line _ start.requires.0 _ start.args.at _ _ told.enum_told.given.1 few.if1.false _ _ _ kept.0.0 kept.0.1 kept.0.2 kept.1.0 kept.1.1 test.if2.false _ _ _ turn.line_step.ensures refl)
 
 pub step_spec : {M : Type 1} → statement M
 step_spec =

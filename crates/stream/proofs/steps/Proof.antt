@@ -3,15 +3,15 @@ use mathlib.Core.Path.{sym, ◌∙◌}
 use Prim.Native.Nat.{◌+◌, ◌-◌}
 use native.Mathlib.Omega.{arith}
 use lib.ListN.{length, drop}
-use Rattle.frame.specs.WrittenLaws.{written-length}
+use Rattle.frame.specs.WrittenLaws.{written_length}
 use Rattle.stream.specs.Step.{read_of}
-use Rattle.stream.specs.Work.{allSteps}
-use Rattle.stream.specs.LoopLaws.{Begun, begin, used-within, room-for-step, one_less, one_more, all_done}
+use Rattle.stream.specs.Work.{all_steps}
+use Rattle.stream.specs.LoopLaws.{Begun, begin, used_within, room_for_step, one_less, one_more, all_done}
 use Rattle.stream.proofs.steps.Statement.{statement}
 use Rattle.stream.proofs.steps.Tie as tie
 
 abbrev invariant-loop : tie.invariant-loop
-invariant-loop input at out₀ moved₀ out moved = Begun (allSteps (length out₀) (read_of moved₀.progress) (drop at input)) input out₀ moved out
+invariant-loop input at out₀ moved₀ out moved = Begun (all_steps (length out₀) (read_of moved₀.progress) (drop at input)) input out₀ moved out
 
 abbrev decreases-loop : tie.decreases-loop
 decreases-loop input at out₀ moved₀ out moved = length input - moved.at + (length out₀ - moved.used)
@@ -20,14 +20,14 @@ loop-holds : tie.Need-loop-init invariant-loop decreases-loop
 loop-holds c = let start = c.before.before in begin _ start.requires.0 _ _ start.requires.1 _
 
 may-step-requires : tie.Need-may-step-requires invariant-loop decreases-loop
-may-step-requires c κs = used-within _ _ _ _ _ c.loop.invariant
+may-step-requires c κs = used_within _ _ _ _ _ c.loop.invariant
 
 step-requires : tie.Need-step-requires invariant-loop decreases-loop
 step-requires c κs =
     let test = c.before.before in
     let call = test.before in
     let b = call.before.loop.invariant in
-    (b.fit, b.inside, omega (arith, room-for-step _ _ _ _ _ b (sym call.may-step.ensures ∙ test.if1.true)))
+    (b.fit, b.inside, omega (arith, room_for_step _ _ _ _ _ b (sym call.may-step.ensures ∙ test.if1.true)))
 
 loop-less : tie.Need-loop-smaller invariant-loop decreases-loop
 loop-less c =
@@ -44,7 +44,7 @@ loop-again c =
     one_more _ _ _ _ _ call.before.loop.invariant (sym call.may-step.ensures ∙ test.if1.true) _ _ step.step.ensures.0
 
 same_length : tie.Need-same-length invariant-loop decreases-loop
-same_length c = written-length c.before.before.loop.invariant.bytes
+same_length c = written_length c.before.before.loop.invariant.bytes
 
 returns : tie.Need-returns invariant-loop decreases-loop
 returns c =

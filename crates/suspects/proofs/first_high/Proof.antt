@@ -6,12 +6,12 @@ use native.Mathlib.Omega.{arith}
 use lib.Pow.{pow-add, pow_pos, pow_mono}
 use borrow.Author.Rules.{rules}
 use Rattle.factor.specs.declared.Factor.{Factor}
-use Rattle.factor.specs.Context.{context_of, lowerOf}
+use Rattle.factor.specs.Context.{context_of, lower_of}
 use Rattle.factor.specs.SetUp.{Sound}
 use Rattle.wide.specs.Value.{value_of}
-use Rattle.search.specs.Search.{ceilDiv}
-use Rattle.search.specs.MultipleLaws.{ceilDiv-ge, ceilDiv-le}
-use Rattle.suspects.specs.Next.{firstHigh}
+use Rattle.search.specs.Search.{ceil_div}
+use Rattle.search.specs.MultipleLaws.{ceil_div_ge, ceil_div_le}
+use Rattle.suspects.specs.Next.{first_high}
 use Rattle.suspects.proofs.first_high.Statement.{statement}
 use Rattle.suspects.proofs.first_high.Tie as tie
 
@@ -20,13 +20,13 @@ module _ (f : Factor) (sound : Sound f) {u q r : ℕ} (power : u ≡ 2 ^ ((conte
   open context_of f use {n, E}
 
   abbrev L : ℕ
-  L = lowerOf f
+  L = lower_of f
 
   abbrev T : ℕ
   T = 2 ^ (E + n)
 
   end : 2 ^ E ≤ L
-  end = sound.lower-end.from
+  end = sound.lower_end.from
 
   some : 0 < L
   some = le_trans (pow_pos E) end
@@ -34,15 +34,15 @@ module _ (f : Factor) (sound : Sound f) {u q r : ℕ} (power : u ≡ 2 ^ ((conte
   parts : q * L + r ≡ T
   parts = ap (λ (z : ℕ). z * L + r) quotient ∙ omega (arith, power, div-add-mod' u L)
 
-  rounded-up : (x : ℕ) → T ≤ x * L → x * L < T + L → x ≡ firstHigh (context_of f) L
-  unfolding firstHigh
+  rounded-up : (x : ℕ) → T ≤ x * L → x * L < T + L → x ≡ first_high (context_of f) L
+  unfolding first_high
   rounded-up x low high =
-      omega (arith, ceilDiv-le T L x some low, lt_of_mul-lt-mul_right L {m = x} {n = suc (ceilDiv T L)} (omega (arith, ceilDiv-ge T L some)))
+      omega (arith, ceil_div_le T L x some low, lt_of_mul-lt-mul_right L {m = x} {n = suc (ceil_div T L)} (omega (arith, ceil_div_ge T L some)))
 
-  exact : r ≡ 0 → q ≡ firstHigh (context_of f) L
+  exact : r ≡ 0 → q ≡ first_high (context_of f) L
   exact none = rounded-up q (omega (arith, parts)) (omega (arith, parts, some))
 
-  inexact : ¬ (r ≡ 0) → q + 1 ≡ firstHigh (context_of f) L
+  inexact : ¬ (r ≡ 0) → q + 1 ≡ first_high (context_of f) L
   inexact left = rounded-up (q + 1) (omega (arith, parts, mod-lt u some)) (omega (arith, parts))
 
   short : q ≤ 2 ^ 32
@@ -62,7 +62,7 @@ divide-requires c κs =
     omega (
       arith,
       power-is c,
-      a.requires.lower-end.from,
+      a.requires.lower_end.from,
       pow_mono {i = E + n} {j = 96} (omega (arith, a.requires.precision)),
       pow_mono {i = 33} {j = E} (omega (arith, a.requires.precision)),
     )

@@ -4,14 +4,14 @@ use Prim.Native.Nat.{ℕ, ◌-◌, ◌^◌}
 use native.Mathlib.Omega.{arith}
 use borrow.Author.Rules.{rules}
 use Rattle.factor.specs.declared.Factor.{Factor}
-use Rattle.factor.specs.Context.{context_of, lowerOf, upperOf}
-use Rattle.suspects.specs.Next.{windowIn}
+use Rattle.factor.specs.Context.{context_of, lower_of, upper_of}
+use Rattle.suspects.specs.Next.{window_in}
 use Rattle.suspects.proofs.windows_of.Statement.{statement}
 use Rattle.suspects.proofs.windows_of.Tie as tie
 
 -- half the distance of two midpoints, by the digits that are dropped
-half : (f : Factor) {d : ℕ} (e : ℕ) → d ≡ e → windowIn (context_of f) (lowerOf f) (upperOf f) (2 ^ d) ≡ windowIn (context_of f) (lowerOf f) (upperOf f) (2 ^ e)
-half f _ e = ap (λ (k : ℕ). windowIn (context_of f) (lowerOf f) (upperOf f) (2 ^ k)) e
+half : (f : Factor) {d : ℕ} (e : ℕ) → d ≡ e → window_in (context_of f) (lower_of f) (upper_of f) (2 ^ d) ≡ window_in (context_of f) (lower_of f) (upper_of f) (2 ^ e)
+half f _ e = ap (λ (k : ℕ). window_in (context_of f) (lower_of f) (upper_of f) (2 ^ k)) e
 
 returns : tie.Need-returns
 returns c =

@@ -6,19 +6,19 @@ use Rattle.marks.specs.AnswerLaws.{pass, stop, end, refuses, accepts}
 use Rattle.factor.specs.SetUp.{intact}
 use Rattle.calls.specs.Engine.{fresh}
 use Rattle.sweep.specs.Engine.{range, engine}
-use Rattle.sweep.specs.EngineLaws.{sound-of}
+use Rattle.sweep.proofs.EngineLaws.{sound_of}
 use Rattle.sweep.proofs.new_state.Statement.{statement}
 use Rattle.sweep.proofs.new_state.Tie as tie
 
 returns : tie.Need-returns
-returns c = let a = c.before.before.args in refuses (stop (ap not (sym c.before.is-intact.ensures) ∙ c.if1.true)) (fresh engine (range a.f a.first a.last))
+returns c = let a = c.before.before.args in refuses (stop (ap not (sym c.before.is_intact.ensures) ∙ c.if1.true)) (fresh engine (range a.f a.first a.last))
 
 -- 31 lets the factor through
 let_through : (c : tie.Else1) → not (intact c.before.before.args.f) ≡ false
-let_through c = ap not (sym c.before.is-intact.ensures) ∙ c.if1.false
+let_through c = ap not (sym c.before.is_intact.ensures) ∙ c.if1.false
 
 range-out-requires : tie.Need-range-out-requires
-range-out-requires c κs = let f = c.before.before.before.args.f in (sound-of f (let_through c.before)).precision
+range-out-requires c κs = let f = c.before.before.before.args.f in (sound_of f (let_through c.before)).precision
 
 returns-2 : tie.Need-returns-2
 returns-2 c =

@@ -5,27 +5,27 @@ use borrow.Author.Rules.{rules}
 use borrow.Author.Tests.{eq-eqb, ne_eqb, le-leb, lt-leb}
 use Rattle.marks.specs.AnswerLaws.{pass, stop, end}
 use Rattle.factor.specs.SetUp.{intact}
-use Rattle.sweep.specs.Engine.{stateOut}
-use Rattle.sweep.specs.EngineLaws.{sound-of}
+use Rattle.sweep.specs.Engine.{state_out}
+use Rattle.sweep.proofs.EngineLaws.{sound_of}
 use Rattle.sweep.specs.Answers.{view_of}
 use Rattle.sweep.proofs.refusal_of.Statement.{statement}
 use Rattle.sweep.proofs.refusal_of.Tie as tie
 
 returns : tie.Need-returns
-returns c = stop (ap not (sym c.before.is-intact.ensures) ∙ c.if1.true)
+returns c = stop (ap not (sym c.before.is_intact.ensures) ∙ c.if1.true)
 
 -- 31 lets the factor through
 let_through : (c : tie.Else1) → not (intact c.before.before.before.args.s.factor) ≡ false
-let_through c = ap not (sym c.before.is-intact.ensures) ∙ c.if1.false
+let_through c = ap not (sym c.before.is_intact.ensures) ∙ c.if1.false
 
 state-out-requires : tie.Need-state-out-requires
-state-out-requires c κs = let f = c.before.before.before.args.s.factor in (sound-of f (let_through c)).precision
+state-out-requires c κs = let f = c.before.before.before.args.s.factor in (sound_of f (let_through c)).precision
 
 returns-2 : tie.Need-returns-2
 returns-2 c = pass (let_through c.before.before) (stop (sym c.before.state-out.ensures ∙ c.if2.true))
 
 -- 32 lets the state through
-in-state : (c : tie.Else2) → stateOut (view_of c.before.before.before.before.before.args.s) ≡ false
+in-state : (c : tie.Else2) → state_out (view_of c.before.before.before.before.before.args.s) ≡ false
 in-state c = sym c.before.state-out.ensures ∙ c.if2.false
 
 returns-3 : tie.Need-returns-3

@@ -2,7 +2,7 @@
 use mathlib.Core.Path.{◌≡◌, ap, ◌∙◌}
 use borrow.Author.Rules.{rules}
 use borrow.Author.Tests.{lt-ltb, le-ltb}
-use Rattle.suspects.specs.Next.{nextIn}
+use Rattle.suspects.specs.Next.{next_in}
 use Rattle.sweep.specs.Steps.{cut_at}
 use Rattle.sweep.proofs.sought_before.Statement.{statement}
 use Rattle.sweep.proofs.sought_before.Tie as tie
@@ -10,7 +10,7 @@ use Rattle.sweep.proofs.sought_before.Tie as tie
 returns : tie.Need-returns
 returns c =
     let a = c.before.before.before.args in
-    let found : c.cut.result ≡ cut_at a.end (nextIn a.w a.at) = c.cut.ensures ∙ ap (cut_at a.end) c.before.next.ensures in
+    let found : c.cut.result ≡ cut_at a.end (next_in a.w a.at) = c.cut.ensures ∙ ap (cut_at a.end) c.before.next.ensures in
     rw (lt-ltb a.at a.end c.before.before.if1.true) found
 
 returns-2 : tie.Need-returns-2

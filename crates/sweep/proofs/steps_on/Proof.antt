@@ -3,8 +3,8 @@ use Prim.Native.Nat.{◌+◌, ◌*◌, ◌^◌, ◌<◌}
 use native.Mathlib.Omega.{arith}
 use borrow.Author.Rules.{rules}
 use lib.ListN.{length, length-set}
-use Rattle.sweep.specs.EngineLaws.{sound-of}
-use Rattle.sweep.specs.LoopLaws.{Working, stepsLeft, part-start, part-done, part-steps, Stepped, part-stepped, one_word, two-words}
+use Rattle.sweep.proofs.EngineLaws.{sound_of}
+use Rattle.sweep.proofs.LoopLaws.{Working, steps_left, part_start, part_done, part_steps, Stepped, part_stepped, one_word, two_words}
 use Rattle.sweep.proofs.steps_on.Statement.{statement}
 use Rattle.sweep.proofs.steps_on.Tie as tie
 
@@ -12,16 +12,16 @@ abbrev invariant-loop : tie.invariant-loop
 invariant-loop s cap room paired lead tail₀ h w₀ tail w = Working s cap room paired lead w₀ tail₀ w tail
 
 abbrev decreases-loop : tie.decreases-loop
-decreases-loop s cap room paired lead tail₀ h w₀ tail w = stepsLeft s w
+decreases-loop s cap room paired lead tail₀ h w₀ tail w = steps_left s w
 
 windows-of-requires : tie.Need-windows-of-requires invariant-loop decreases-loop
-windows-of-requires c κs = let start = c.before.before in sound-of start.args.s.factor start.requires.sound.0
+windows-of-requires c κs = let start = c.before.before in sound_of start.args.s.factor start.requires.sound.0
 
 loop-holds : tie.Need-loop-init invariant-loop decreases-loop
-loop-holds c = let start = c.before.before.before.before in part-start start.args.lead start.requires c.resumed.ensures
+loop-holds c = let start = c.before.before.before.before in part_start start.args.lead start.requires c.resumed.ensures
 
 step-requires : tie.Need-step-requires invariant-loop decreases-loop
-step-requires c κs = part-steps c.before.loop.invariant c.loop-test.true c.before.before.before.windows-of.ensures
+step-requires c κs = part_steps c.before.loop.invariant c.loop-test.true c.before.before.before.windows-of.ensures
 
 -- what the step leads to
 module _ (c : tie.After-step invariant-loop decreases-loop) where
@@ -29,7 +29,7 @@ module _ (c : tie.After-step invariant-loop decreases-loop) where
   head = c.before.before
 
   stepped : Stepped head.loop.inv c.before.loop-test.true c.step.result
-  stepped = part-stepped head.loop.inv c.before.loop-test.true c.step.ensures
+  stepped = part_stepped head.loop.inv c.before.loop-test.true c.step.ensures
 
 -- a list in memory is short
 memory : (c : tie.After-slice-known invariant-loop decreases-loop) → length c.before.args.tail.now * 4 < 2 ^ 64
@@ -56,7 +56,7 @@ module _ (c : tie.Then1 invariant-loop decreases-loop) where
 
 module _ (c : tie.Then2 invariant-loop decreases-loop) where
   two : 2 * (turn c.before).loop.w.place + 1 < length (turn c.before).loop.tail
-  two = (two-words (turn c.before).loop.inv (made c.before).before.loop-test.taken (stepped (made c.before)) (moved c.before) c.if2.true).0
+  two = (two_words (turn c.before).loop.inv (made c.before).before.loop-test.taken (stepped (made c.before)) (moved c.before) c.if2.true).0
 
 mul-tail : tie.Need-overflow-mul-tail invariant-loop decreases-loop
 mul-tail c = omega (arith, two c, short c.before)
@@ -88,7 +88,7 @@ loop-less c = (stepped (made c.before.before)).less
 loop-again : tie.Need-loop-preserved invariant-loop decreases-loop
 loop-again c =
     let m = c.before.before in
-    (two-words (turn m).loop.invariant (made m).before.loop-test.true (stepped (made m)) (moved m) c.before.if2.true).1
+    (two_words (turn m).loop.invariant (made m).before.loop-test.true (stepped (made m)) (moved m) c.before.if2.true).1
 
 -- ---- one word
 
@@ -125,7 +125,7 @@ same_length : tie.Need-same-length invariant-loop decreases-loop
 same_length c = let long = c.before.loop.invariant.long in search rules
 
 returns : tie.Need-returns invariant-loop decreases-loop
-returns c = let all = rw c.before.before.resumed.ensures at (c.before.loop.invariant.off c.loop-test.false) in (part-done all.0, all.1)
+returns c = let all = rw c.before.before.resumed.ensures at (c.before.loop.invariant.off c.loop-test.false) in (part_done all.0, all.1)
 
 pub steps-on-spec : {M : Type 1} → statement M
 steps-on-spec =

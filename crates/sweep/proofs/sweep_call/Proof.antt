@@ -6,17 +6,17 @@ use lib.ListN.{length}
 use borrow.Author.Rules.{rules}
 use Rattle.marks.specs.Answers.{none, First}
 use Rattle.calls.specs.Call.{conditions}
-use Rattle.calls.specs.RefusalLaws.{call-refused}
-use Rattle.calls.specs.TailLaws.{moved, lent_length, tail-free, tail-taken, tail-moved}
+use Rattle.calls.proofs.RefusalLaws.{call_refused}
+use Rattle.calls.proofs.TailLaws.{moved, lent_length, tail_free, tail_taken, tail_moved}
 use Rattle.sweep.specs.declared.SweepAnswer.{SweepAnswer}
 use Rattle.sweep.specs.Engine.{engine}
-use Rattle.sweep.specs.EngineLaws.{lawful}
-use Rattle.sweep.specs.Answers.{view_of, call_of, termsBy, replyOf}
+use Rattle.sweep.proofs.EngineLaws.{lawful}
+use Rattle.sweep.specs.Answers.{view_of, call_of, terms_by, reply_of}
 use Rattle.sweep.proofs.sweep_call.Statement.{statement}
 use Rattle.sweep.proofs.sweep_call.Tie as tie
 
 -- nothing refuses the call
-taken : (c : tie.After-enum-told) → let a = c.before.before.before.before.args in First (conditions engine (view_of a.state) (termsBy a.cap (length a.list.now) a.free)) none
+taken : (c : tie.After-enum-told) → let a = c.before.before.before.before.args in First (conditions engine (view_of a.state) (terms_by a.cap (length a.list.now) a.free)) none
 taken c = rw c.enum_told.given.1 at c.before.before.refusal-of.ensures
 
 -- a list in memory has fewer than 2 ^ 64 places
@@ -25,7 +25,7 @@ short c = search rules
 
 -- a place is free
 free : (c : tie.After-enum-told) → let a = c.before.before.before.before.args in a.free < length a.list.now
-free c = let a = c.before.before.before.before.args in omega (arith, tail-free lawful (view_of a.state) (call_of a.cap a.list.now a.free) (taken c).is)
+free c = let a = c.before.before.before.before.args in omega (arith, tail_free lawful (view_of a.state) (call_of a.cap a.list.now a.free) (taken c).is)
 
 mul-sweep-on : tie.Need-overflow-mul-sweep-on
 mul-sweep-on c = let place = free c in search rules
@@ -39,7 +39,7 @@ part-sweep-on-start c = let place = free c in search rules
 sweep-on-requires : tie.Need-sweep-on-requires
 sweep-on-requires c κs =
     let a = c.before.before.before.before.before.args in
-    tail-taken lawful (view_of a.state) (call_of a.cap a.list.now a.free) (taken c.before).is
+    tail_taken lawful (view_of a.state) (call_of a.cap a.list.now a.free) (taken c.before).is
 
 add-moved : tie.Need-overflow-add-moved
 add-moved c =
@@ -53,15 +53,15 @@ returns c =
     let told = c.before in
     let a = told.before.before.before.before.before.args in
     let number = told.before.verdict.given in
-    ap (λ (r : SweepAnswer). replyOf r a.list.now) c.refused.ensures
-    ∙ call-refused engine (view_of a.state) (call_of a.cap a.list.now a.free) number.0.0 (rw number.1 at told.before.before.before.refusal-of.ensures).is
+    ap (λ (r : SweepAnswer). reply_of r a.list.now) c.refused.ensures
+    ∙ call_refused engine (view_of a.state) (call_of a.cap a.list.now a.free) number.0.0 (rw number.1 at told.before.before.before.refusal-of.ensures).is
 
 returns-2 : tie.Need-returns-2
 returns-2 c =
     let on = c.before.before.before in
     let told = on.before.before in
     let a = told.before.before.before.before.args in
-    ap (moved a.list.now a.free) on.sweep-on.ensures.0 ∙ tail-moved lawful (view_of a.state) (call_of a.cap a.list.now a.free) (taken told).is
+    ap (moved a.list.now a.free) on.sweep-on.ensures.0 ∙ tail_moved lawful (view_of a.state) (call_of a.cap a.list.now a.free) (taken told).is
 
 pub sweep-call-spec : {M : Type 1} → statement M
 sweep-call-spec =

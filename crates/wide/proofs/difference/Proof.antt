@@ -5,21 +5,21 @@ use native.Mathlib.Omega.{arith}
 use borrow.Author.Rules.{rules}
 use Rattle.wide.specs.declared.Wide.{Wide}
 use Rattle.wide.specs.Value.{value_of}
-use Rattle.wide.specs.DifferenceLaws.{high-part-le, high-part-lt, difference-by-parts, difference-by-borrow}
+use Rattle.wide.specs.DifferenceLaws.{high_part_le, high_part_lt, difference_by_parts, difference_by_borrow}
 use Rattle.wide.proofs.difference.Statement.{statement}
 use Rattle.wide.proofs.difference.Tie as tie
 
 -- the high words, where one is borrowed
 less : (u v : Wide) → value_of v ≤ value_of u → u.lo < v.lo → v.hi < u.hi
-less u v order low = high-part-lt (2 ^ 64) u.hi u.lo v.hi v.lo order low
+less u v order low = high_part_lt (2 ^ 64) u.hi u.lo v.hi v.lo order low
 
 returns : tie.Need-returns
 returns c =
     let start = c.before.before.before.before.before.before.before in
     let u = start.args.u in
     let v = start.args.v in
-    difference-by-parts (2 ^ 64) u.hi u.lo v.hi v.lo
-    (high-part-le (2 ^ 64) u.hi u.lo v.hi v.lo start.requires c.before.struct-known5.given.1.0.fits)
+    difference_by_parts (2 ^ 64) u.hi u.lo v.hi v.lo
+    (high_part_le (2 ^ 64) u.hi u.lo v.hi v.lo start.requires c.before.struct-known5.given.1.0.fits)
     c.before.before.before.before.if1.true
 
 returns-2 : tie.Need-returns-2
@@ -28,7 +28,7 @@ returns-2 c =
     let u = start.args.u in
     let v = start.args.v in
     let low = c.before.before.before.before.if1.false in
-    difference-by-borrow (2 ^ 64) u.hi u.lo v.hi v.lo (less u v start.requires low) low c.before.struct-known9.given.1.0.fits
+    difference_by_borrow (2 ^ 64) u.hi u.lo v.hi v.lo (less u v start.requires low) low c.before.struct-known9.given.1.0.fits
 
 sub-t6 : tie.Need-overflow-sub-t6
 sub-t6 c =

@@ -4,7 +4,7 @@ use Prim.Native.Nat.{ℕ, ◌+◌}
 use native.Mathlib.Nat.{zero-add}
 use native.Mathlib.Omega.{arith}
 use borrow.Author.Rules.{rules}
-use Rattle.wide.specs.DigitLaws.{size-by-parts}
+use Rattle.wide.specs.DigitLaws.{size_by_parts}
 use Rattle.wide.proofs.digits.Statement.{statement}
 use Rattle.wide.proofs.digits.Tie as tie
 
@@ -15,7 +15,7 @@ returns c =
 returns-2 : tie.Need-returns-2
 returns-2 c =
     let u = c.before.before.before.args.u in
-    (ap (λ (n : ℕ). 64 + n) c.word-digits2.ensures.0 ∙ sym (size-by-parts 64 u.hi u.lo (omega arith) (omega arith)), omega arith)
+    (ap (λ (n : ℕ). 64 + n) c.word-digits2.ensures.0 ∙ sym (size_by_parts 64 u.hi u.lo (omega arith) (omega arith)), omega arith)
 
 pub digits-spec : {M : Type 1} → statement M
 digits-spec = tie.close (tie.spec (λ c κs. search rules) returns (λ c κs. search rules) (λ c. search rules) returns-2)

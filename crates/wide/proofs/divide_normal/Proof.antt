@@ -6,7 +6,7 @@ use native.Mathlib.Omega.{arith}
 use borrow.Author.Rules.{rules}
 use Rattle.wide.specs.declared.Wide.{Wide}
 use Rattle.wide.specs.Value.{value_of}
-use Rattle.wide.specs.DivisionLaws.{quotient-lt, divided-next}
+use Rattle.wide.specs.DivisionLaws.{quotient_lt, divided_next}
 use Rattle.wide.proofs.Base.{B}
 use Rattle.wide.proofs.divide_normal.Statement.{statement}
 use Rattle.wide.proofs.divide_normal.Tie as tie
@@ -36,11 +36,11 @@ module _ (c : tie.After-quotient-digit2) where
       let u = start.args.u in
       let pos : 0 < start.args.d = omega arith in
       rw (by_digits u) at
-      (divided-next B start.args.d (u.hi * B + u.lo / B) (u.lo % B) first c.before.before.quotient-digit.result.remainder second c.quotient-digit2.result.remainder
+      (divided_next B start.args.d (u.hi * B + u.lo / B) (u.lo % B) first c.before.before.quotient-digit.result.remainder second c.quotient-digit2.result.remainder
       pos c.before.before.quotient-digit.ensures.0 c.before.before.quotient-digit.ensures.1 c.quotient-digit2.ensures.0 c.quotient-digit2.ensures.1)
 
   quotient_fits : first * B + second < 2 ^ 64
-  quotient_fits = rw divided.0 (quotient-lt (2 ^ 64) start.args.u.hi start.args.u.lo start.args.d start.pre.1 (omega arith))
+  quotient_fits = rw divided.0 (quotient_lt (2 ^ 64) start.args.u.hi start.args.u.lo start.args.d start.pre.1 (omega arith))
 
 mul-t5 : tie.Need-overflow-mul-t5
 mul-t5 c = record { fits = lt_of_le_of_lt (le-add_right _ (second c.before)) (quotient_fits c.before) }

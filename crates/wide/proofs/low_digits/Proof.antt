@@ -3,19 +3,19 @@ use native.Mathlib.Nat.{le_of_lt, zero-add}
 use native.Mathlib.Omega.{arith}
 use borrow.Author.Rules.{rules}
 use lib.Pow.{pow_pos}
-use Rattle.wide.specs.ShiftLaws.{lowest-within, lowest-past}
+use Rattle.wide.specs.ShiftLaws.{lowest_within, lowest_past}
 use Rattle.wide.proofs.low_digits.Statement.{statement}
 use Rattle.wide.proofs.low_digits.Tie as tie
 
 returns : tie.Need-returns
 returns c =
     let args = c.before.before.before.args in
-    rw (c.before.power.ensures, zero-add) (lowest-within 64 args.k args.u.hi args.u.lo (le_of_lt c.before.before.if1.true))
+    rw (c.before.power.ensures, zero-add) (lowest_within 64 args.k args.u.hi args.u.lo (le_of_lt c.before.before.if1.true))
 
 returns-2 : tie.Need-returns-2
 returns-2 c =
     let args = c.before.before.before.args in
-    rw c.before.power2.ensures (lowest-past 64 args.k args.u.hi args.u.lo c.before.before.if1.false (omega arith))
+    rw c.before.power2.ensures (lowest_past 64 args.k args.u.hi args.u.lo c.before.before.if1.false (omega arith))
 
 rem-t5 : tie.Need-nonzero-rem-t5
 rem-t5 c = rw c.before.power.ensures (pow_pos c.before.before.before.args.k)

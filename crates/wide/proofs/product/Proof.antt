@@ -2,7 +2,7 @@
 use mathlib.Core.Path.{refl, sym, ◌∙◌}
 use Prim.Native.Nat.{ℕ, ◌+◌, ◌*◌, ◌/◌, ◌%◌, ◌≤◌}
 use native.Mathlib.Omega.{arith}
-use Rattle.wide.specs.ProductLaws.{product-by-digits, columns, product-room}
+use Rattle.wide.specs.ProductLaws.{product_by_digits, columns, product_room}
 use Rattle.wide.proofs.Base.{B}
 use borrow.Author.Rules.{rules}
 use Rattle.wide.proofs.product.Statement.{statement}
@@ -20,17 +20,17 @@ parts c =
     let a = c.args.a in
     let b = c.args.b in
     record {
-      lowest = product-room B (a % B) (b % B) (omega arith) (omega arith);
-      first = product-room B (a / B) (b % B) (omega arith) (omega arith);
-      second = product-room B (a % B) (b / B) (omega arith) (omega arith);
-      highest = product-room B (a / B) (b / B) (omega arith) (omega arith);
+      lowest = product_room B (a % B) (b % B) (omega arith) (omega arith);
+      first = product_room B (a / B) (b % B) (omega arith) (omega arith);
+      second = product_room B (a % B) (b / B) (omega arith) (omega arith);
+      highest = product_room B (a / B) (b / B) (omega arith) (omega arith);
     }
 
 returns : tie.Need-returns
 returns c =
     let a = c.args.a in
     let b = c.args.b in
-    columns B (a / B * (b / B)) (a / B * (b % B)) (a % B * (b / B)) (a % B * (b % B)) _ _ refl refl ∙ sym (product-by-digits B a b)
+    columns B (a / B * (b / B)) (a / B * (b % B)) (a % B * (b / B)) (a % B * (b % B)) _ _ refl refl ∙ sym (product_by_digits B a b)
 
 pub product-spec : {M : Type 1} → statement M
 product-spec =

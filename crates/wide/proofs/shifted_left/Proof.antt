@@ -3,7 +3,7 @@ use mathlib.Core.Path.{◌≡◌, ap₂}
 use Prim.Native.Nat.{ℕ, ◌+◌, ◌-◌, ◌*◌, ◌/◌, ◌%◌, ◌^◌, ◌≤◌, ◌<◌}
 use native.Mathlib.Nat.{add-zero, mod-eq_of_lt, le_of_lt, lt_of_le_of_lt, le-add_right}
 use borrow.Author.Rules.{rules}
-use Rattle.wide.specs.ShiftLaws.{top_digits, left-within, left-within-lt, left-past, left-past-lt}
+use Rattle.wide.specs.ShiftLaws.{top_digits, left_within, left_within_lt, left_past, left_past_lt}
 use Rattle.wide.proofs.shifted_left.Statement.{statement}
 use Rattle.wide.proofs.shifted_left.Tie as tie
 
@@ -11,7 +11,7 @@ module _ (h l k : ℕ) (room : h * 2 ^ 64 + l < 2 ^ (128 - k)) where
   -- k within the low word
   module _ (within : k < 64) where
     high_lt : h * 2 ^ k + l / 2 ^ (64 - k) < 2 ^ 64
-    high_lt = left-within-lt 64 k h l (le_of_lt within) room
+    high_lt = left_within_lt 64 k h l (le_of_lt within) room
 
     -- the high word as the code makes it: its own shift loses nothing, and the digits that cross come by two shifts
     high_is : h * 2 ^ k % 2 ^ 64 + l / 2 / 2 ^ (63 - k) ≡ h * 2 ^ k + l / 2 ^ (64 - k)
@@ -21,11 +21,11 @@ module _ (h l k : ℕ) (room : h * 2 ^ 64 + l < 2 ^ (128 - k)) where
     high_fits = rw high_is high_lt
 
     value-within : (h * 2 ^ k % 2 ^ 64 + l / 2 / 2 ^ (63 - k)) * 2 ^ 64 + l * 2 ^ k % 2 ^ 64 ≡ (h * 2 ^ 64 + l) * 2 ^ k
-    value-within = rw high_is (left-within 64 k h l (le_of_lt within))
+    value-within = rw high_is (left_within 64 k h l (le_of_lt within))
 
   -- k past it
   value-past : 64 ≤ k → k < 128 → l * 2 ^ (k - 64) % 2 ^ 64 * 2 ^ 64 + 0 ≡ (h * 2 ^ 64 + l) * 2 ^ k
-  value-past past most = rw (mod-eq_of_lt (left-past-lt 64 k h l past (le_of_lt most) room), add-zero) (left-past 64 k h l past room)
+  value-past past most = rw (mod-eq_of_lt (left_past_lt 64 k h l past (le_of_lt most) room), add-zero) (left_past 64 k h l past room)
 
 returns : tie.Need-returns
 returns c =

@@ -4,21 +4,21 @@ use Prim.Native.Nat.{ℕ, ◌+◌, ◌-◌, ◌*◌, ◌/◌, ◌%◌, ◌^◌, 
 use native.Mathlib.Nat.{zero-add, le_of_lt}
 use native.Mathlib.Omega.{arith}
 use borrow.Author.Rules.{rules}
-use Rattle.wide.specs.ShiftLaws.{low-at-top, right-within, right-within-lt, right-past}
+use Rattle.wide.specs.ShiftLaws.{low_at_top, right_within, right_within_lt, right_past}
 use Rattle.wide.proofs.shifted_right.Statement.{statement}
 use Rattle.wide.proofs.shifted_right.Tie as tie
 
 module _ (h l k : ℕ) (word : l < 2 ^ 64) where
   -- k within the low word: the digits that cross to it come by two shifts
   low_fits : k < 64 → h * 2 % 2 ^ 64 * 2 ^ (63 - k) % 2 ^ 64 + l / 2 ^ k < 2 ^ 64
-  low_fits within = rw (low-at-top 64 k h within) (right-within-lt 64 k h l (le_of_lt within) word)
+  low_fits within = rw (low_at_top 64 k h within) (right_within_lt 64 k h l (le_of_lt within) word)
 
   value-within : k < 64 → h / 2 ^ k * 2 ^ 64 + (h * 2 % 2 ^ 64 * 2 ^ (63 - k) % 2 ^ 64 + l / 2 ^ k) ≡ (h * 2 ^ 64 + l) / 2 ^ k
-  value-within within = rw (low-at-top 64 k h within) (right-within 64 k h l (le_of_lt within))
+  value-within within = rw (low_at_top 64 k h within) (right_within 64 k h l (le_of_lt within))
 
   -- k past it
   value-past : 64 ≤ k → 0 * 2 ^ 64 + h / 2 ^ (k - 64) ≡ (h * 2 ^ 64 + l) / 2 ^ k
-  value-past past = rw zero-add (right-past 64 k h l past word)
+  value-past past = rw zero-add (right_past 64 k h l past word)
 
 returns : tie.Need-returns
 returns c =

@@ -15,8 +15,8 @@ less_one : (m : ℕ) → neg_ℤ (pos m) -ℤ pos 1 ≡ negsuc m
 less_one zero = refl
 less_one (suc m) = ap negsuc (omega arith)
 
-down_is : (c : tie.After-with-sign) → to_z w64 (of_z w64 c.with-sign.result) -ℤ pos 1 ≡ negsuc (18446744073709551615 - c.before.before.args.v)
-down_is c = let e : to_z w64 (of_z w64 c.with-sign.result) ≡ c.with-sign.result = search rules in rw (e, c.with-sign.ensures) (less_one _)
+down_is : (c : tie.After-with-sign) → to_z w64 (of_z w64 c.with_sign_lem.result) -ℤ pos 1 ≡ negsuc (18446744073709551615 - c.before.before.args.v)
+down_is c = let e : to_z w64 (of_z w64 c.with_sign_lem.result) ≡ c.with_sign_lem.result = search rules in rw (e, c.with_sign_lem.ensures) (less_one _)
 
 sub-result : tie.Need-overflow-sub-result
 sub-result c = rw (down_is c) (record { sfits = omega arith })

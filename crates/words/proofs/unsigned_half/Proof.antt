@@ -8,7 +8,7 @@ use mir.Syntax.{w32}
 use mir.Val.{Fits}
 use mir.Facts.{to_z-of_z, sfits_widen, Fits-nat_abs}
 use borrow.Author.Rules.{rules}
-use Rattle.words.proofs.Laws.{word_below, word-above}
+use Rattle.words.proofs.Laws.{word_below, word_above}
 use Rattle.words.proofs.unsigned_half.Statement.{statement}
 use Rattle.words.proofs.unsigned_half.Tie as tie
 
@@ -31,7 +31,7 @@ returns : tie.Need-returns
 returns c = omega (arith, word_below 32 c.before.before.args.z (below c), size c.before, (fits c.before).fits)
 
 returns-2 : tie.Need-returns-2
-returns-2 c = size c.before ∙ sym (word-above 32 c.before.before.args.z (rw (to_z-of_z c.before.before.ranges.z) at c.if1.false))
+returns-2 c = size c.before ∙ sym (word_above 32 c.before.before.args.z (rw (to_z-of_z c.before.before.ranges.z) at c.if1.false))
 
 pub unsigned-half-spec : {M : Type 1} → statement M
 unsigned-half-spec = tie.close (tie.spec cast-magnitude (λ c κs. search rules) sub-result returns returns-2)

@@ -8,7 +8,7 @@ use mir.Syntax.{w64}
 use mir.Val.{Fits}
 use mir.Facts.{to_z-of_z, Fits-nat_abs}
 use borrow.Author.Rules.{rules}
-use Rattle.words.proofs.Laws.{size_below, word_below, word-above}
+use Rattle.words.proofs.Laws.{size_below, word_below, word_above}
 use Rattle.words.proofs.unsigned_word.Statement.{statement}
 use Rattle.words.proofs.unsigned_word.Tie as tie
 
@@ -28,7 +28,7 @@ returns : tie.Need-returns
 returns c = omega (arith, word_below 64 c.before.before.args.z (below c), size c.before, size_below c.before.before.args.z (below c), (fits c.before).fits)
 
 returns-2 : tie.Need-returns-2
-returns-2 c = size c.before ∙ sym (word-above 64 c.before.before.args.z (rw (to_z-of_z c.before.before.ranges.z) at c.if1.false))
+returns-2 c = size c.before ∙ sym (word_above 64 c.before.before.args.z (rw (to_z-of_z c.before.before.ranges.z) at c.if1.false))
 
 pub unsigned-word-spec : {M : Type 1} → statement M
 unsigned-word-spec = tie.close (tie.spec (λ c κs. search rules) (λ c. search rules) add-result returns returns-2)

@@ -1,0 +1,26 @@
+-- The laws, in the order in which they build on each other.
+pub mod RowLaws
+pub mod TrialLaws
+pub mod WordLaws
+pub mod ListLaws
+pub mod RefusalLaws
+pub mod SearchLaws
+pub mod HalfLaws
+pub mod RunLaws
+pub mod CallLaws
+pub mod SameLaws
+pub mod SumLaws
+pub mod FinishLaws
+pub mod Demand3
+pub mod Made
+pub mod LoopLaws
+pub mod TailLaws
+pub mod TrailLaws
+pub mod KitLaws
+pub mod KitFormed
+pub mod KitRows
+pub mod KitDemand
+pub mod KitLoop
+pub mod KitSearched
+pub mod Toy
+pub mod KitToy

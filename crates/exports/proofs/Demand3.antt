@@ -1,0 +1,206 @@
+-- Demand 3 reaches callers who keep a sweep's state as words: calls on one list of words make the replies that demand 3 speaks of. Assumes nothing.
+use Rattle.std.specs.Prelude.{◌≡◌, refl, Bool, true, false, cond, List, [], ◌∷◌, ◌++◌, ℕ, ◌≤◌, ◌<◌, length, drop, ltb}
+use Rattle.std.proofs.Math.Path.{sym, ap}
+use Rattle.std.proofs.Common.{◌∙◌, subst, ltb-false, lt-ltb, le-ltb}
+use native.Mathlib.Omega.{arith}
+use Rattle.std.proofs.lemmas.List.Edits.{sets}
+use Rattle.std.proofs.Math.Seq.{sets-eq}
+use Rattle.std.proofs.lemmas.Bool.{not-false}
+use Rattle.marks.specs.Answers.{Refusal, number, none, judged, Outcome, refused, accepted, unless, answer, and_then}
+use Rattle.marks.specs.AnswerLaws.{pass, stop, end, refuses, accepts, only_accepted}
+use Rattle.factor.specs.declared.Factor.{Factor}
+use Rattle.factor.specs.declared.Description.{Description}
+use Rattle.factor.specs.Precision.{range_out}
+use Rattle.factor.specs.SetUp.{set_up, intact}
+use Rattle.calls.specs.State.{Range, State, Call, terms_of}
+use Rattle.calls.specs.Engine.{fresh}
+use Rattle.calls.specs.Call.{new_state, Result, Reply, Run, conditions, replied, run_of, sweep_call}
+use Rattle.calls.proofs.RefusalLaws.{over_kept}
+use Rattle.sweep.specs.declared.SweepAnswer.{SweepAnswer}
+use Rattle.sweep.specs.Engine.{range, engine}
+use Rattle.sweep.specs.Answers.{call_of, reply_of, code_of}
+use Rattle.sweep.proofs.Demand3.{set_up_begins, Made, asked, reply_in, asked_in, last_in, Demand3, demand_3}
+use Rattle.exports.specs.Words.{factor_length, factor_from, factor_words, state_length, state_of, state_from, state_words}
+use Rattle.exports.specs.Answers.{unfit, taken, Answer, leaves, new_sweep_answer, new_sweep_to, SweepWords, refused_with, reply_words, reply_to, sweep_to}
+use Rattle.exports.proofs.Stored as stored
+use Rattle.exports.proofs.Stored.{Asked, call_in, calls_in}
+use Rattle.exports.proofs.WordLaws.{Writable, set_up_writable, read_writable, not_damaged, factor_back, state_not_damaged, state_back}
+
+-- ---- one call
+-- on the words of a state, whatever stands behind them, it is the engine's call on that state
+module _ (s : State (Range Factor)) (W : Writable s.over.factor) (rest : List ℕ) (cap : ℕ) (list : List ℕ) (free : ℕ) (counts : List ℕ) where
+  abbrev ws : List ℕ
+  ws = state_words s ++ rest
+
+  abbrev reply : Reply (Range Factor)
+  reply = sweep_call engine s (call_of cap list free)
+
+  state_taken : 3 ≤ length counts → taken ws state_length (length counts) 3 ≡ accepted (factor_from ws)
+  unfolding taken state_words
+  state_taken room = sym (accepts (pass (le-ltb (length ws) 14 (omega arith)) (pass (le-ltb (length counts) 3 room) (pass (state_not_damaged s W rest) end))) (factor_from ws))
+
+  pub call_to : 3 ≤ length counts → sweep_to ws cap list free counts ≡ reply_words reply
+  unfolding sweep_to state_from
+  call_to room =
+      ap (λ (o : Outcome Factor). reply_to list o (λ f. sweep_call engine (state_of f ws) (call_of cap list free))) (state_taken room)
+      ∙ ap (λ (t : State (Range Factor)). reply_words (sweep_call engine t (call_of cap list free))) (state_back s W rest)
+
+-- the words that it leaves are those of the state handed back, which is over the same factor
+pub words_left : (s : State (Range Factor)) (c : Call) (rest : List ℕ) → let r = sweep_call engine s c in sets (state_words s ++ rest) 0 (reply_words r).state ≡ state_words r.state ++ rest
+unfolding sweep_call state_words
+words_left s c rest = go (judged (conditions engine s (terms_of c))) (run_of engine s c)
+  where
+    go : (v : Refusal) (x : Run) → let r = replied engine s c v x in sets (state_words s ++ rest) 0 (reply_words r).state ≡ state_words r.state ++ rest
+    go (number n) x = refl
+    go none x = refl
+
+pub factor_kept : (s : State (Range Factor)) (c : Call) → (sweep_call engine s c).state.over.factor ≡ s.over.factor
+factor_kept s c = ap (λ (r : Range Factor). r.factor) (over_kept engine s c)
+
+-- a call without room for its counts is none: it is answered with 255 and leaves all as it was
+pub no_room_to : (state : List ℕ) (cap : ℕ) (list : List ℕ) (free : ℕ) (counts : List ℕ) → length counts < 3 → sweep_to state cap list free counts ≡ refused_with 255 list
+unfolding sweep_to taken
+no_room_to state cap list free counts h = go (ltb (length state) state_length) refl
+  where
+    go : (b : Bool) → ltb (length state) state_length ≡ b → reply_to list (taken state state_length (length counts) 3) (λ f. sweep_call engine (state_of f state) (call_of cap list free)) ≡ refused_with 255 list
+    go true e = ap (λ (o : Outcome Factor). reply_to list o (λ f. sweep_call engine (state_of f state) (call_of cap list free))) (sym (refuses (stop e) (factor_from state)))
+    go false e = ap (λ (o : Outcome Factor). reply_to list o (λ f. sweep_call engine (state_of f state) (call_of cap list free))) (sym (refuses (pass e (stop (lt-ltb (length counts) 3 h))) (factor_from state)))
+
+-- ---- calls one after another
+
+-- a call on words, as it is asked
+abbrev sweep_asked : (state : List ℕ) → Asked → SweepWords
+sweep_asked state a = sweep_to state a.cap a.list a.free a.counts
+
+-- what is answered on one list of words, and what is left of it
+abbrev pub answers_to : (state : List ℕ) → List Asked → List SweepWords
+answers_to = stored.answers_to sweep_asked 0
+
+abbrev pub left_to : (state : List ℕ) → List Asked → List ℕ
+left_to = stored.left_to sweep_asked 0
+
+-- the replies of calls that were made, as words
+abbrev pub answers_in : List Made → List SweepWords
+answers_in = stored.answers_in reply_in reply_words
+
+-- a call that was made, as code gives its reply
+abbrev code_answer : Outcome Result → State (Range Factor) → SweepAnswer
+code_answer (accepted r) s = SweepAnswer.Accepted (record { state = code_of s; trials = r.trials; rounds = r.rounds; place = r.place })
+code_answer (refused n) s = SweepAnswer.Refused (record { state = code_of s; number = n })
+
+abbrev make : Call → Reply (Range Factor) → Made
+make c r = record { asked = c; answer = code_answer r.answer r.state; left = r.list }
+
+says : (c : Call) (r : Reply (Range Factor)) → reply_in (make c r) ≡ r
+says c r = go r.answer r.state r.list
+  where
+    go : (o : Outcome Result) (s : State (Range Factor)) (list : List ℕ) → reply_of (code_answer o s) list ≡ record { answer = o; state = s; list = list }
+    go (accepted r) s list = refl
+    go (refused n) s list = refl
+
+-- the engine's calls on a state
+abbrev made_from : State (Range Factor) → List Asked → List Made
+made_from = stored.made_from (sweep_call engine) make
+
+-- words of a state, with the rest behind them
+abbrev Holds : (rest : List ℕ) → State (Range Factor) → List ℕ → Type 0
+Holds rest s ws = Writable s.over.factor × (ws ≡ state_words s ++ rest)
+
+module _ (rest : List ℕ) where
+  one : (s : State (Range Factor)) (ws : List ℕ) → Holds rest s ws → (a : Asked) → sweep_asked ws a ≡ reply_words (sweep_call engine s (call_in a))
+  one s ws h a = ap (λ (ws : List ℕ). sweep_asked ws a) h.1 ∙ call_to s h.0 rest a.cap a.list a.free a.counts a.room
+
+  next : (s : State (Range Factor)) (ws : List ℕ) → Holds rest s ws → (c : Call) → let r = sweep_call engine s c in Holds rest r.state (sets ws 0 (reply_words r).state)
+  next s ws h c = (subst Writable (sym (factor_kept s c)) h.0, ap (λ (ws : List ℕ). sets ws 0 (reply_words (sweep_call engine s c)).state) h.1 ∙ words_left s c rest)
+
+  -- On the words of a state, calls are answered with the replies of the engine's calls on that state,
+  pub answers_are : (s : State (Range Factor)) → Writable s.over.factor → (asks : List Asked) → answers_to (state_words s ++ rest) asks ≡ answers_in (made_from s asks)
+  answers_are s W = stored.answers_are asked reply_in (sweep_call engine) make (λ c r. refl) says sweep_asked 0 reply_words (Holds rest) one next s (state_words s ++ rest) (W, refl)
+
+  -- and leave the words of the state that the last of them hands back.
+  pub left_are : (s : State (Range Factor)) → Writable s.over.factor → (asks : List Asked) → left_to (state_words s ++ rest) asks ≡ state_words (last_in s (made_from s asks)) ++ rest
+  left_are s W asks = (stored.left_holds asked reply_in (sweep_call engine) make (λ c r. refl) says sweep_asked 0 reply_words (Holds rest) one next s (state_words s ++ rest) (W, refl) asks).1
+
+-- ---- a new sweep
+
+-- the numbers of conditions, none of them 0
+abbrev pub Numbered : List (ℕ × Bool) → Type 0
+Numbered [] = Unit {0}
+Numbered (t ∷ l) = (0 < t.0) × Numbered l
+
+-- what is told as 0 was accepted, where a refusal is told by its number
+pub accepted_at : {A : Type 0} (tell : Outcome A → ℕ) → ((n : ℕ) → tell (refused n) ≡ n) → (l : List (ℕ × Bool)) → Numbered l → (a : A) → tell (answer l a) ≡ 0 → answer l a ≡ accepted a
+unfolding answer judged
+accepted_at tell same [] p a zero = refl
+accepted_at tell same (t ∷ l) p a zero = go t.1 zero (accepted_at tell same l p.1 a)
+  where
+    go : (b : Bool) → tell (unless (cond b (number t.0) (judged l)) a) ≡ 0 → (tell (answer l a) ≡ 0 → answer l a ≡ accepted a) → unless (cond b (number t.0) (judged l)) a ≡ accepted a
+    go true z ih = absurd (omega (arith, p.0, sym (same t.0) ∙ z))
+    go false z ih = ih z
+
+-- over the words of every factor that set-up accepted, whatever stands behind them, and every range that 17 lets through, it is answered with 0
+pub begins_to : (d : Description) (f : Factor) → set_up d ≡ accepted f → (rest : List ℕ) (first last : ℕ) (out : List ℕ) → range_out f.precision.bits first last ≡ false → state_length ≤ length out
+    → (new_sweep_to (factor_words f ++ rest) first last out).number ≡ 0
+unfolding new_sweep_to taken factor_words
+begins_to d f e rest first last out inside room =
+    let W = set_up_writable d f e in
+    let ws = factor_words f ++ rest in
+    ap (λ (o : Outcome Factor). (new_sweep_answer (and_then o (λ f. new_state engine (range f first last)))).number)
+    (sym (accepts (pass (le-ltb (length ws) 10 (omega arith)) (pass (le-ltb (length out) 14 room) (pass (not_damaged f W rest) end))) (factor_from ws)))
+    ∙ ap (λ (g : Factor). (new_sweep_answer (new_state engine (range g first last))).number) (factor_back f W rest)
+    ∙ ap (λ (o : Outcome (State (Range Factor))). (new_sweep_answer o).number) (set_up_begins d f first last e inside)
+
+-- where it is answered with 0, the words were taken and the engine accepted the state
+module _ (factor : List ℕ) (first last : ℕ) (out : List ℕ) (zero : (new_sweep_to factor first last out).number ≡ 0) where
+  abbrev f : Factor
+  f = factor_from factor
+
+  abbrev s : State (Range Factor)
+  s = fresh engine (range f first last)
+
+  -- what is answered, where the words are taken or not
+  abbrev told : Outcome Factor → Answer
+  told o = new_sweep_answer (and_then o (λ f. new_state engine (range f first last)))
+
+  was_taken : taken factor factor_length (length out) state_length ≡ accepted f
+  unfolding new_sweep_to
+  was_taken = accepted_at (λ o. (told o).number) (λ n. refl) (unfit factor factor_length (length out) state_length) (omega arith, (omega arith, (omega arith, tt))) f zero
+
+  was_begun : new_state engine (range f first last) ≡ accepted s
+  unfolding new_sweep_to
+  was_begun = accepted_at (λ o. (new_sweep_answer o).number) (λ n. refl) (engine.new_faults (range f first last)) (omega arith, (omega arith, tt)) s (ap (λ (o : Outcome Factor). (told o).number) (sym was_taken) ∙ zero)
+
+  writable : Writable f
+  writable = read_writable factor (not-false (intact f) (only_accepted (engine.new_faults (range f first last)) s s was_begun).0.0)
+
+  state_words_lem : leaves (new_sweep_to factor first last out) out ≡ state_words s ++ drop state_length out
+  unfolding new_sweep_to
+  state_words_lem =
+      let none = (only_accepted (unfit factor factor_length (length out) state_length) f f was_taken).0 in
+      ap (λ (o : Outcome Factor). leaves (told o) out) was_taken
+      ∙ ap (λ (o : Outcome (State (Range Factor))). leaves (new_sweep_answer o) out) was_begun
+      ∙ sets-eq (state_words s) out 0 (ltb-false (length out) state_length none.1.0)
+
+-- ---- demand 3
+
+-- The calls asked on the words that a new sweep left: they are answered as these calls are, the words left in the end are those of the last one's state, and of these calls demand 3 holds.
+pub record Demand3To (factor : List ℕ) (first last : ℕ) (out : List ℕ) (asks : List Asked) : Type 0 where
+  pub made : List Made
+  pub calls : asked_in made ≡ calls_in asks
+  pub answers : answers_to (leaves (new_sweep_to factor first last out) out) asks ≡ answers_in made
+  pub left : left_to (leaves (new_sweep_to factor first last out) out) asks ≡ state_words (last_in (fresh engine (range (factor_from factor) first last)) made) ++ drop state_length out
+  pub demand : Demand3 (fresh engine (range (factor_from factor) first last)) made
+
+pub demand_3_to : (factor : List ℕ) (first last : ℕ) (out : List ℕ) → (new_sweep_to factor first last out).number ≡ 0 → (asks : List Asked) → Demand3To factor first last out asks
+demand_3_to factor first last out zero asks =
+    let s = fresh engine (range (factor_from factor) first last) in
+    let rest = drop state_length out in
+    record {
+      made = made_from s asks;
+      calls = stored.asked_are asked reply_in (sweep_call engine) make (λ c r. refl) says s asks;
+      answers = ap (λ (ws : List ℕ). answers_to ws asks) (state_words_lem factor first last out zero) ∙ answers_are rest s (writable factor first last out zero) asks;
+      left = ap (λ (ws : List ℕ). left_to ws asks) (state_words_lem factor first last out zero) ∙ left_are rest s (writable factor first last out zero) asks;
+      demand =
+          demand_3 (factor_from factor) first last (code_of s) (sym (was_begun factor first last out zero)) (made_from s asks)
+          (stored.kept asked reply_in (sweep_call engine) make (λ c r. refl) says s asks);
+    }

@@ -1,0 +1,52 @@
+-- What is known of a kit's words that were taken or not, and of the words that are left. Assumes nothing.
+use Rattle.std.specs.Prelude.{◌≡◌, List, [], ◌∷◌, ◌++◌, ℕ, ◌+◌, ◌≤◌, ◌<◌, length, take}
+use Rattle.std.proofs.Math.Path.{sym}
+use Rattle.std.proofs.Common.{ap, ap₂, ◌∙◌, arith, length-take-le, ltb-false}
+use Rattle.std.proofs.lemmas.List.Edits.{sets}
+use Rattle.marks.specs.declared.Judgement.{Judgement}
+use Rattle.marks.specs.Answers.{refusal_of, First, refused, accepted}
+use Rattle.marks.specs.AnswerLaws.{none_refuses, judged_passed, judged_refused}
+use Rattle.calls.specs.Kit.{place_size}
+use Rattle.calls.proofs.KitLaws.{place_of, significand_of_lem}
+use Rattle.calls.proofs.ListLaws.{sets_append}
+use Rattle.kit.specs.declared.KitState.{KitState}
+use Rattle.kit.specs.Answers.{view_of}
+use Rattle.exports.specs.Words.{flag_word}
+use Rattle.exports.specs.Answers.{SweepWords}
+use Rattle.exports.proofs.AnswerLaws.{Enough}
+use Rattle.exports.specs.Kits.{kit_from, behind_kit, kit_unfit, kit_taken}
+
+-- ---- words that were taken, or not
+module _ (ws : List ℕ) (due room needed : ℕ) {v : Judgement} (is : First (kit_unfit ws due room needed) (refusal_of v)) where
+  pub kit_refused : {n : ℕ} → v ≡ Judgement.Refused n → kit_taken ws due room needed ≡ refused n
+  unfolding kit_taken
+  kit_refused e = sym (judged_refused is e (kit_from ws))
+
+  pub kit_passed : v ≡ Judgement.Passed → kit_taken ws due room needed ≡ accepted (kit_from ws)
+  unfolding kit_taken
+  kit_passed e = none_refuses (kit_unfit ws due room needed) (kit_from ws) (judged_passed is e)
+
+  pub kit_enough : v ≡ Judgement.Passed → Enough ws due room needed
+  kit_enough e = let none = judged_passed is e in record { long = ltb-false (length ws) due none.0; roomy = ltb-false room needed none.1.0 }
+
+-- ---- words that are left
+-- those behind a kit's are the state's place, next significand and finished mark
+pub behind_is : (s : KitState) → s.next < place_size → behind_kit (view_of s) ≡ s.place ∷ s.next ∷ flag_word s.finished ∷ []
+behind_is s h = λ i. place_of s.place s.next h i ∷ significand_of_lem s.place s.next h i ∷ flag_word s.finished ∷ []
+
+-- a kit's words were copied, and those behind it written then
+pub kit_words : (out ws : List ℕ) {copied left words behind : List ℕ} → copied ≡ sets out 0 (take 961 ws) → behind ≡ words → left ≡ sets copied 961 words → 961 ≤ length ws → left ≡ sets out 0 (take 961 ws ++ behind)
+kit_words out ws {copied} {left} {words} {behind} c e w h =
+    let n : 961 ≡ 0 + length (take 961 ws) = omega (arith, length-take-le 961 ws h) in
+    w
+    ∙ ap₂ (λ (l b : List ℕ). sets l 961 b) c (sym e)
+    ∙ ap (λ (k : ℕ). sets (sets out 0 (take 961 ws)) k behind) n
+    ∙ sym (sets_append (take 961 ws) behind out 0)
+
+-- what is returned and left, of an answer known to be b
+pub gives_kit : (a b : SweepWords) (state counts : List ℕ) → a ≡ b
+    → (b.number ≡ a.number) × ((sets state 961 b.state ≡ sets state 961 a.state) × ((b.list ≡ a.list) × (sets counts 0 b.counts ≡ sets counts 0 a.counts)))
+gives_kit a b state counts e = (
+  ap (λ (x : SweepWords). x.number) (sym e),
+  (ap (λ (x : SweepWords). sets state 961 x.state) (sym e), (ap (λ (x : SweepWords). x.list) (sym e), ap (λ (x : SweepWords). sets counts 0 x.counts) (sym e))),
+)
