@@ -1,46 +1,26 @@
--- Laws of one call, on every state: it is the one read off the row of suspects; what it does to the list; its searches and rounds; where it goes; how many it tries at most and at least. Assumes nothing.
-use Rattle.std.specs.Prelude.{◌≡◌, Bool, true, ℕ, suc, ◌+◌, ◌-◌, ◌*◌, ◌/◌, ◌≤◌, ◌<◌, min, length, drop}
+-- Laws of one call, on every state: it is the one read off the row of suspects; what it does to the list; its searches and rounds; how many it tries at most and at least. Assumes nothing.
+use Rattle.std.specs.Prelude.{◌≡◌, Bool, ℕ, ◌+◌, ◌≤◌, min, length, drop}
 use Rattle.std.proofs.Math.Path.{refl, ap}
-use Rattle.std.proofs.Common.{sym, ◌∙◌, subst, arith, zero-mul, mul-div_cancel, le_trans, mul-le-mul_left}
-use mathlib.Core.List.{List, map, Memᴰ}
+use Rattle.std.proofs.Common.{sym, ◌∙◌, arith, le_trans, mul-le-mul_left}
 use Rattle.marks.specs.Answers.{Refusal, number, none, judged, Outcome, refused, accepted}
 use Rattle.search.specs.declared.Place.{Place}
 use Rattle.search.specs.declared.Place.TheVariants.{At, Nowhere}
 use Rattle.calls.specs.State.{State, Call, terms_of, Listing, entries, room_in}
-use Rattle.calls.specs.Engine.{Section, start_in, stops_at, once, passed, Engine, handed, Laws, AtSuspect, Standing, Lawful}
-use Rattle.calls.specs.Call.{conditions, Result, Reply, Run, run_of, replied, sweep_call}
+use Rattle.calls.specs.Engine.{stops_at, once, passed, Engine, handed, Laws, Lawful}
+use Rattle.calls.specs.Call.{conditions, Reply, Run, run_of, replied, sweep_call}
 use Rattle.calls.specs.Plain.{tries}
 use Rattle.calls.specs.ByRow.{head_of, searches_of, row_run, row_ahead, row_call}
-use Rattle.calls.specs.Whole.{IfAccepted, ListKept, made_by, stop_of, SearchesRight, RoundsRight, Capped, Ample}
-use Rattle.calls.proofs.Made.{Wrote}
-use Rattle.calls.proofs.RowLaws.{row_ascends, row_exactly}
-use Rattle.calls.proofs.SearchLaws.{suspects_tiled, searches_are}
-use Rattle.calls.proofs.TrailLaws.{stop_in, SearchIn, trail_made, trail_only, trail_at, found_by, trail_are}
+use Rattle.calls.specs.Whole.{IfAccepted, ListKept, stop_of, SearchesRight, RoundsRight, Capped, Ample}
+use Rattle.calls.proofs.SearchLaws.{searches_are}
 use Rattle.calls.proofs.RunLaws.{run_is, left_is, rounds_few}
 use Rattle.calls.proofs.RefusalLaws.{Ready, ready}
 use Rattle.calls.proofs.TrialLaws.{tries_within, tries_capped, tries_ample, words_fit}
-use Rattle.calls.proofs.ListLaws.{entries_length, entries_fit, read_back, tail_kept}
+use Rattle.calls.proofs.ListLaws.{entries_fit, tail_kept}
 
 -- What follows from what holds of an accepted call's answer holds of it too.
 pub if_accepted : {A : Type 0} {P Q : A → Type 0} → ((a : A) → P a → Q a) → (o : Outcome A) → IfAccepted P o → IfAccepted Q o
 if_accepted f (refused n) p = tt
 if_accepted f (accepted a) p = f a p
-
--- A call goes on: from a state that is not refused to one of what is swept, no earlier.
-pub record Onward {U : Type 0} (e : Engine U) (s t : State U) : Type 0 where
-  pub stands : Standing e s
-  pub there : e.has s.over t.next ≡ true
-  pub from : s.next ≤ t.next
-
--- Where its searches are made: each section that is searched, with the significand that the search starts from.
-abbrev pub made_at : {U : Type 0} → (U → ℕ → Bool) → Engine U → State U → Result → List (Section × ℕ)
-made_at suspect e s r = trail_at (e.sections s.over) s.next r.trials (row_ahead suspect e s)
-
--- Its searches are those made there: at least one in each section that has a significand left from its state's on and begins no later than where it stops, and none in any other; t is the state that it hands back.
-pub record MadeJust {U : Type 0} (suspect : U → ℕ → Bool) (e : Engine U) (s t : State U) (r : Result) : Type 0 where
-  pub are : made_by suspect e s r ≡ map found_by (made_at suspect e s r)
-  pub all : (x : Section) → Memᴰ x (e.sections s.over) → start_in x s.next < x.end → x.from ≤ t.next → Memᴰ (x, start_in x s.next) (made_at suspect e s r)
-  pub only : (w : Section × ℕ) → Memᴰ w (made_at suspect e s r) → SearchIn (e.sections s.over) s.next t.next w
 
 -- The state that is handed back tells where a call stopped.
 pub stop_is : {U : Type 0} (e : Engine U) (s : State U) (p : Place) → stop_of (handed e s p) ≡ p
@@ -93,20 +73,6 @@ module _ {U : Type 0} {suspect : U → ℕ → Bool} {e : Engine U} {B : U → �
       reply (λ r. ListKept c r.answer r.list) (λ n. refl)
       (λ r. tail_kept c (entries l by_row.words) (omega (arith, r.takes.places, r.lists.some, entries_fit r.lists (length c.list) c.free by_row.words w)))
 
-  -- Its words are those of the entries that it wrote.
-  pub call_wrote : Wrote l.places c (sweep_call e s c)
-  call_wrote =
-      let w = words_fit (e.mark s.over) c.cap room (row_ahead suspect e s) in
-      let written : List ℕ = entries l by_row.words in
-      reply (λ r. Wrote l.places c r) (λ n. sym (zero-mul l.places))
-      (λ r.
-      let size = entries_length l r.lists.long by_row.words in
-      let count : (c.free + length written - c.free) / l.places ≡ length by_row.words =
-      ap (λ (n : ℕ). n / l.places) (omega arith ∙ size) ∙ mul-div_cancel (length by_row.words) r.lists.some in
-      ap length (read_back c.list written c.free (omega (arith, r.takes.places, r.lists.some, entries_fit r.lists (length c.list) c.free by_row.words w)))
-      ∙ size
-      ∙ ap (λ (n : ℕ). n * l.places) (sym count))
-
   -- no more are tried than are left
   within : trials ≤ length (row_ahead suspect e s)
   within = tries_within (e.mark s.over) c.cap room (row_ahead suspect e s)
@@ -117,40 +83,8 @@ module _ {U : Type 0} {suspect : U → ℕ → Bool} {e : Engine U} {B : U → �
       reply (λ r. IfAccepted (SearchesRight suspect e s r.state) r.answer) (λ n. tt)
       (λ r.
       let laws = laws_of r in
-      searches_are (suspect s.over) (e.sections s.over) (e.first s.over) (e.last s.over) laws.chain (suspects_tiled laws) trials s.next r.from (omega (arith, r.upto)) within
+      searches_are (suspect s.over) (e.sections s.over) (e.first s.over) (e.last s.over) laws.chain laws.tiled trials s.next r.from (omega (arith, r.upto)) within
       ∙ ap (searches_of (suspect s.over) (e.sections s.over) s.next trials) (sym (stop_is e s stop)))
-
-  -- It goes on from where its state stands, to a significand.
-  pub onward : IfAccepted (λ (a : Result). Onward e s (sweep_call e s c).state) (sweep_call e s c).answer
-  onward =
-      reply (λ r. IfAccepted (λ (a : Result). Onward e s r.state) r.answer) (λ n. tt)
-      (λ r. go (laws_of r) r stop (left_is (laws_of r) s.next trials))
-    where
-      go : Laws (suspect s.over) e s.over (B s.over) → Ready e s (terms_of c) → (p : Place) → AtSuspect (suspect s.over) s.next (e.last s.over) p → Onward e s (handed e s p)
-      go laws r (At X) q = record { stands = r.stands; there = laws.had X (omega (arith, r.from, q.0)) q.1 q.2; from = q.0 }
-      go laws r Nowhere q = record { stands = r.stands; there = laws.ends; from = r.upto }
-
-  -- Its searches are made in just the sections on its way.
-  pub made_just : IfAccepted (MadeJust suspect e s (sweep_call e s c).state) (sweep_call e s c).answer
-  made_just =
-      reply (λ r. IfAccepted (MadeJust suspect e s r.state) r.answer) (λ n. tt)
-      (λ r.
-      let laws = laws_of r in
-      let last : ℕ = e.last s.over in
-      let up = row_ascends (suspect s.over) s.next (suc last) in
-      let next : stop_in last stop ≡ (handed e s stop).next = next_is stop in
-      record {
-        are = trail_are (e.sections s.over) s.next trials (row_ahead suspect e s);
-        all = λ x m h k. trail_made (e.first s.over) last (e.sections s.over) laws.chain x m trials s.next (row_ahead suspect e s) up h (omega arith);
-        only = λ w m.
-            subst (λ (z : ℕ). SearchIn (e.sections s.over) s.next z w) next
-            (trail_only (e.first s.over) last (e.sections s.over) laws.chain w trials s.next (row_ahead suspect e s) up
-            (λ X n. let i = (row_exactly (suspect s.over) s.next (suc last) X).0 n in suspects_tiled laws X (omega (arith, r.from, i.0)) (omega (arith, i.1)) i.2) m);
-      })
-    where
-      next_is : (p : Place) → stop_in (e.last s.over) p ≡ (handed e s p).next
-      next_is (At X) = refl
-      next_is Nowhere = refl
 
   -- It tries at most its cap.
   pub capped : IfAccepted (Capped c) (sweep_call e s c).answer

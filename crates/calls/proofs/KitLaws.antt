@@ -1,16 +1,17 @@
 -- The engine of kits is lawful where that of its factors is: so demand 3 holds of kits by the theorem of sweeps. Assumes nothing.
-use Rattle.std.specs.Prelude.{◌≡◌, Bool, true, false, cond, not, ◌&&◌, ◌≢◌, eqb, ltb}
+use Rattle.std.specs.Prelude.{◌≡◌, Bool, true, false, cond, not, ◌&&◌, ◌||◌, ◌≢◌, ◌⊎◌, ◌↔◌, eqb, ltb, take}
 use Rattle.std.proofs.Math.Path.{refl, ap, subst}
 use Rattle.std.proofs.Common.{sym, ◌∙◌, true≢false, inl, inr, add-zero, ltb-false, le-ltb}
 use Rattle.std.proofs.Math.Bool.{and-false}
 use mathlib.Core.List.{List, [], ◌∷◌, ◌++◌, map}
-use Prim.Native.Nat.{ℕ, zero, suc, ◌+◌, ◌-◌, ◌*◌, ◌/◌, ◌%◌, ◌≤◌, ◌<◌}
+use Prim.Native.Nat.{ℕ, zero, suc, ◌+◌, ◌-◌, ◌*◌, ◌/◌, ◌%◌, ◌^◌, ◌≤◌, ◌<◌}
 use native.Mathlib.Omega.{arith}
 use Rattle.std.proofs.Math.Nat.{zero-add}
 use Rattle.std.proofs.Math.Decide.{dec_lt}
 use Rattle.std.proofs.lemmas.Bool.{eqb-false, lt-leb, not-false}
 use Rattle.std.proofs.Math.ListN.{length, drop, length-append, length-drop}
 use Rattle.std.proofs.Math.Seq.{drop-drop}
+use Rattle.marks.specs.declared.Mark.{Mark}
 use Rattle.marks.specs.declared.Mark.TheVariants.{Right}
 use Rattle.marks.specs.Answers.{NoneHolds}
 use Rattle.marks.specs.AnswerLaws.{and_true, or_false}
@@ -20,7 +21,7 @@ use Rattle.search.specs.Finds.{LeastFrom}
 use Rattle.calls.specs.State.{State}
 use Rattle.calls.specs.Engine.{Section, start_in, past, stops_at, once, passed, Engine, handed, ListingLaws, AllOf, Chain, InSome, Finds, Laws, AtSuspect, Standing, Lawful}
 use Rattle.calls.proofs.SearchLaws.{passed_few, passed_in, chain_ends}
-use Rattle.calls.specs.Kit.{Kit, in_kit, any_of, kit_faults, place_size, position, place_in, significand_in, Factors, first_in, last_of, last_in, has_at, suspect_at, mark_at, has_in, suspect_in, mark_in, place_at, section_at, sections_from, entry_list, searched_in, kit_engine}
+use Rattle.calls.specs.Kit.{Kit, in_kit, any_of, kit_faults, place_size, position, place_in, significand_in, Factors, first_in, last_of, last_in, has_at, suspect_at, mark_at, has_in, suspect_in, mark_in, place_at, found_at, section_at, sections_from, entry_list, searched_in, kit_engine}
 
 -- ---- positions
 
@@ -184,7 +185,7 @@ module _ (i : ℕ) where
 -- ---- the engine of kits
 
 -- What the numerics must supply of factors, besides that their engine is lawful: 31 lets those through of which a new sweep over all significands is not refused; these are short; they have two
--- sections at most, and each of their significands lies in one; and M is the most rounds of a search, whatever the factor.
+-- sections at most; and M is the most rounds of a search, whatever the factor.
 pub record FactorLaws {F U : Type 0} (suspect : U → ℕ → Bool) (d : Factors F U) (B : U → ℕ) (M : ℕ) : Type 0 where
   pub lawful : Lawful suspect d.engine B
   pub good : (f : F) → d.faulty f ≡ false → NoneHolds (d.engine.new_faults (d.whole f))
@@ -293,10 +294,11 @@ module _ {F U : Type 0} {suspect : U → ℕ → Bool} {d : Factors F U} {B : U 
         (and_true (e.has (d.whole p.factor) (significand_in z)) (suspect (d.whole p.factor) (significand_in z))
         (subst (λ (l : List F). suspect_at suspect d l (significand_in z) ≡ true) p.at h)).1
 
-    -- a position that a factor has lies in a section
-    placed_some : (z : ℕ) → Placed z → InSome z (sections_from d 0 fs)
-    placed_some z p =
-        let s = (laws_of p.factor p.passes).tiled (significand_in z) p.there in
+    -- it lies in a section
+    suspect_some : (z : ℕ) → suspect_at suspect d (drop (place_in z) fs) (significand_in z) ≡ true → InSome z (sections_from d 0 fs)
+    suspect_some z h =
+        let p = (suspect_placed z h).0 in
+        let s = (laws_of p.factor p.passes).tiled (significand_in z) p.from p.upto (own_suspect z p h) in
         let q : position (0 + place_in z) (significand_in z) ≡ z = omega arith in
         subst (λ (y : ℕ). InSome y (sections_from d 0 fs)) q (sections_some (place_in z) 0 fs p.rest p.factor (significand_in z) p.at s)
 
@@ -494,7 +496,7 @@ module _ {F U : Type 0} {suspect : U → ℕ → Bool} {d : Factors F U} {B : U 
         lists = entry_laws;
         suspected = λ z h k m. failing_suspect fs through z m;
         chain = all_chain fs through some;
-        tiled = λ z h. placed_some fs through z (has_placed fs through z h);
+        tiled = λ z h k s. suspect_some fs through z s;
         finds = sections_find fs through 0 fs refl;
       }
 
@@ -510,7 +512,7 @@ module _ {F U : Type 0} {suspect : U → ℕ → Bool} {d : Factors F U} {B : U 
       let m : ℕ = place_in z - i in
       let sum : i + m ≡ place_in z = omega (arith, q.0) in
       let at : drop m (drop i fs) ≡ p.factor ∷ p.rest = drop-drop m i fs ∙ ap (λ (n : ℕ). drop n fs) sum ∙ p.at in
-      let inside = (laws_of p.factor p.passes).tiled (significand_in z) p.there in
+      let inside = (laws_of p.factor p.passes).tiled (significand_in z) p.from p.upto (own_suspect fs through z p q.2) in
       let to = passed_to fs through m (0 + i) (drop i fs) p.rest p.factor s.next (significand_in z) (all_drop Passed i fs through) at p.upto inside in
       let same : position (0 + i + m) (significand_in z) ≡ z = omega (arith, q.0) in
       let few : suc (passed (sections_from d (0 + i) (drop i fs)) s.next (At z)) ≤ 2 * suc m = subst (λ (y : ℕ). suc (passed (sections_from d (0 + i) (drop i fs)) s.next (At y)) ≤ 2 * suc m) same to in

@@ -16,7 +16,7 @@ use Rattle.search.specs.declared.Place.TheVariants.{At, Nowhere}
 use Rattle.search.specs.declared.Found.{Found}
 use Rattle.calls.specs.State.{listed}
 use Rattle.calls.specs.Engine.{Section, start_in, Engine, AllOf, Chain}
-use Rattle.calls.specs.Call.{within, none_after, sought, or_else, seek, ahead, Run, over, stopped, run}
+use Rattle.calls.specs.Call.{within, none_after, sought, or_else, seek, ahead, Run, over, stopped, tried, run}
 use Rattle.calls.proofs.SearchLaws.{chain_ends}
 use Rattle.calls.proofs.LoopLaws.{run_halts, tried_after, run_tries, run_passes}
 use Rattle.calls.proofs.RunLaws.{ahead_found}
@@ -148,6 +148,14 @@ module _ {F U : Type 0} {suspect : U → ℕ → Bool} {d : Factors F U} {B : U 
         ∙ ap₂ (λ (n : ℕ) (l : List F). seek (sections_from d n l) (position i a)) (zero-add i) at
         ∙ seek_join (map (section_at i) (e.sections (d.whole f))) (sections_from d (suc i) r) (position i a)
         ∙ ap (λ (w : Found). or_else w.place w others) (seek_at i (e.first (d.whole f)) (suc last) a (e.sections (d.whole f)) bounds (laws.short f passes))
+
+    -- Its rounds are no fewer than the factor's.
+    pub own_rounds : own.rounds ≤ (ahead (kit_engine d) k (position i a)).rounds
+    own_rounds = rw ahead_at (go own.place own.rounds)
+      where
+        go : (p : Place) (n : ℕ) → n ≤ (or_else (place_at i p) (record { place = place_at i p; rounds = n }) others).rounds
+        go (At X) n = omega arith
+        go Nowhere n = omega arith
 
     -- A suspect that the factor's search finds is the one that the kit's finds.
     pub kit_found : (X : ℕ) → own.place ≡ At X → ahead (kit_engine d) k (position i a) ≡ record { place = At (position i X); rounds = own.rounds }

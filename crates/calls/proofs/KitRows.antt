@@ -1,14 +1,15 @@
 -- Laws of what a kit's sweep lists: its row of suspects is its factors' rows, joined in kit order, and from a new state to the finish its calls list what the separate sweeps list. Assumes nothing.
 use Rattle.std.proofs.Math.Path.{◌≡◌, refl, sym, ap, ap₂}
-use Rattle.std.proofs.Common.{◌∙◌, subst, true≢false, inl, inr, suc-mul, length-append}
-use Rattle.std.specs.Prelude.{Bool, true, false, cond, ◌≢◌, ◌↔◌, drop}
+use Rattle.std.proofs.Common.{◌∙◌, subst, true≢false, inl, inr}
+use Rattle.std.specs.Prelude.{Bool, true, false, cond, ◌≢◌, ◌⊎◌, ◌↔◌, take, drop}
 use Rattle.std.proofs.Math.Bool.{not-eq-not}
 use mathlib.Core.List.Memᴰ
 use mathlib.Core.List.{List, [], ◌∷◌, ◌++◌, map, append-nil, Memᴰ}
-use Prim.Native.Nat.{ℕ, suc, ◌+◌, ◌-◌, ◌*◌, ◌/◌, ◌%◌, ◌≤◌, ◌<◌}
+use Prim.Native.Nat.{ℕ, zero, suc, ◌+◌, ◌-◌, ◌*◌, ◌/◌, ◌%◌, ◌^◌, ◌≤◌, ◌<◌}
 use native.Mathlib.Omega.{arith}
+use Rattle.std.proofs.Math.Nat.{suc-mul}
 use Rattle.std.proofs.Math.Decide.{dec_lt}
-use Rattle.std.proofs.Math.ListN.{length}
+use Rattle.std.proofs.Math.ListN.{length, length-append, length-map}
 use Rattle.std.proofs.Math.Seq.{take-length, drop-length}
 use Rattle.marks.specs.declared.Mark.{Mark}
 use Rattle.marks.specs.declared.Mark.TheVariants.{Right, Open, Wrong}
@@ -17,9 +18,9 @@ use Rattle.calls.specs.State.{listed, entries}
 use Rattle.calls.specs.Engine.{Engine, AllOf, Laws}
 use Rattle.calls.specs.Plain.{span, row, words_of}
 use Rattle.calls.specs.Whole.{end_of, WordOf, Ascends}
-use Rattle.calls.proofs.RowLaws.{row_empty, row_at, row_next, row_induct, row_split, row_skip, row_ascends}
+use Rattle.calls.proofs.RowLaws.{row_empty, row_at, row_next, row_induct, row_split, row_skip, row_ascends, ascends_few}
 use Rattle.calls.proofs.TrialLaws.{words_append}
-use Rattle.calls.proofs.WordLaws.{words_few, holds, words_before}
+use Rattle.calls.proofs.WordLaws.{holds, words_before}
 use Rattle.calls.proofs.ListLaws.{entries_append}
 use Rattle.calls.proofs.Demand3.{not_suspect}
 use Rattle.calls.specs.Kit.{Kit, in_kit, kit_faults, place_size, position, place_in, significand_in, Factors, first_in, last_of, last_in, mark_at, suspect_at, suspect_in, mark_in, entry_list, kit_engine}
@@ -238,6 +239,26 @@ module _ {F U : Type 0} {suspect : U → ℕ → Bool} {d : Factors F U} {B : U 
         ∙ ap (pairs_at i) (words_of_row (suspect (d.whole f)) (e.mark (d.whole f)) first last law.ordered law.suspected))
         (words_from (suc i) l (drop_next i fs l f q))
 
+    -- ---- how many suspects
+
+    rows_few : (W : ℕ) → ((f : F) → Passed laws f → suc (e.last (d.whole f)) - e.first (d.whole f) ≤ W) → (i : ℕ) (l : List F) → AllOf (Passed laws) l
+        → length (joined_rows suspect d i l) ≤ length l * W
+    unfolding joined_rows
+    rows_few W few i [] t = omega arith
+    rows_few W few i (f ∷ l) t =
+        let first : ℕ = e.first (d.whole f) in
+        let last : ℕ = e.last (d.whole f) in
+        let r : List ℕ = row (suspect (d.whole f)) first (suc last) in
+        omega (
+          arith,
+          length-append (map (position i) r) (joined_rows suspect d (suc i) l),
+          length-map r (position i),
+          ascends_few first (suc last) r (row_ascends (suspect (d.whole f)) first (suc last)),
+          few f t.0,
+          rows_few W few (suc i) l t.1,
+          suc-mul (length l) W,
+        )
+
   -- ---- of a kit that is not refused
 
   module _ (k : Kit F) (good : NoneHolds (kit_faults d.faulty d.alike k)) where
@@ -263,6 +284,11 @@ module _ {F U : Type 0} {suspect : U → ℕ → Bool} {d : Factors F U} {B : U 
         (sym (words_of_row (suspect_in suspect d k) (mark_in d k) ((kit_engine d).first k) ((kit_engine d).last k) law.ordered law.suspected)
         ∙ ap (words_of (mark_in d k)) rows_joined)
         ∙ words_from (in_kit k) (kit_through laws k good) 0 (in_kit k) refl
+
+    -- It has no more suspects than W for each factor, where each has at most W significands.
+    pub suspects_few : (W : ℕ) → ((f : F) → Passed laws f → suc (e.last (d.whole f)) - e.first (d.whole f) ≤ W)
+        → length (row (suspect_in suspect d k) ((kit_engine d).first k) (suc ((kit_engine d).last k))) ≤ length (in_kit k) * W
+    suspects_few W few = rw rows_joined (rows_few (in_kit k) (kit_through laws k good) W few 0 (in_kit k) (kit_through laws k good))
 
     -- ---- clean
 
@@ -298,27 +324,3 @@ module _ {F U : Type 0} {suspect : U → ℕ → Bool} {d : Factors F U} {B : U 
     -- The separate sweeps list nothing exactly if the kit is clean.
     pub nothing_clean : (lists_from d 0 (in_kit k) ≡ []) ↔ CleanKit d k
     nothing_clean = lists_nothing 0 (in_kit k) (kit_through laws k good)
-
-    -- They list at most W entries for each factor, where each has at most W significands.
-    pub lists_few : (W : ℕ) → ((f : F) → Passed laws f → suc (e.last (d.whole f)) - e.first (d.whole f) ≤ W) → length (lists_from d 0 (in_kit k)) ≤ length (in_kit k) * (2 * W)
-    unfolding lists_from span
-    lists_few W few = go 0 (in_kit k) (kit_through laws k good)
-      where
-        pairs : (i : ℕ) (l : List ℕ) → length (pairs_at i l) ≡ 2 * length l
-        pairs i [] = refl
-        pairs i (w ∷ l) = omega (arith, pairs i l)
-
-        go : (i : ℕ) (l : List F) → AllOf (Passed laws) l → length (lists_from d i l) ≤ length l * (2 * W)
-        go i [] t = omega arith
-        go i (f ∷ l) t =
-            let first : ℕ = e.first (d.whole f) in
-            let last : ℕ = e.last (d.whole f) in
-            omega (
-              arith,
-              length-append (pairs_at i (list_of d f)) (lists_from d (suc i) l),
-              pairs i (list_of d f),
-              words_few (e.mark (d.whole f)) (suc last - first) first,
-              few f t.0,
-              go (suc i) l t.1,
-              suc-mul (length l) (2 * W),
-            )

@@ -15,12 +15,9 @@ pub mod Demand3
 pub mod Made
 pub mod LoopLaws
 pub mod TailLaws
-pub mod TrailLaws
 pub mod KitLaws
-pub mod KitFormed
 pub mod KitRows
 pub mod KitDemand
 pub mod KitLoop
-pub mod KitSearched
 pub mod Toy
 pub mod KitToy

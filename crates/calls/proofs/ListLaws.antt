@@ -1,8 +1,12 @@
 -- Laws of entries, and of lists into which words are written from a place on. Assumes nothing.
-use Rattle.std.specs.Prelude.{◌≡◌, refl, List, [], ◌∷◌, ◌++◌, map, ℕ, suc, ◌+◌, ◌-◌, ◌*◌, ◌≤◌, eqb, leb, length, set, take, drop}
-use Rattle.std.proofs.Common.{sym, ap, ap₂, ◌∙◌, append_assoc, append-nil, arith, add-zero, add-suc, zero-mul, suc-mul, le-add_right, div-one, le-div_iff_mul-le, leb-false, length-append, length-drop, take-append-drop, take_at, drop_at, length-take-le}
+use Rattle.std.specs.Prelude.{◌≡◌, refl, ℕ, suc, ◌+◌, ◌-◌, ◌*◌, ◌/◌, ◌≤◌, eqb, leb, length, set, take, drop}
+use Rattle.std.proofs.Math.Path.{sym}
+use Rattle.std.proofs.Common.{ap, ap₂, ◌∙◌, arith, add-zero, add-suc, zero-mul, le-add_right, div-one, le-div_iff_mul-le, leb-false, length-drop, take-append-drop, take_at, drop_at, length-take-le}
+use mathlib.Core.List.{List, [], ◌∷◌, ◌++◌, map, append_assoc, append-nil}
+use Rattle.std.proofs.Math.Nat.{suc-mul, add-mul-div_right}
 use Rattle.std.proofs.lemmas.Bool.{eqb-false, lt-leb}
 use borrow.Rule.Slice.PartMut.{put_mid, mid_of}
+use Rattle.std.proofs.Math.ListN.{length-append}
 use Rattle.std.proofs.lemmas.List.Edits.{sets, sets-eq}
 use Rattle.std.proofs.Math.Seq.{length-sets, slice, drop-length, take-length}
 use Rattle.std.proofs.lemmas.List.{take-set-le, drop-set-add}
@@ -20,17 +24,24 @@ unfolding entries
 entries_append l [] w = refl
 entries_append l (x ∷ v) w = ap (λ (z : List ℕ). l.entry x ++ z) (entries_append l v w) ∙ sym (append_assoc (l.entry x) (entries l v) (entries l w))
 
--- They take as many places each.
-pub entries_length : (l : Listing) → ((w : ℕ) → length (l.entry w) ≡ l.places) → (words : List ℕ) → length (entries l words) ≡ length words * l.places
-unfolding entries
-entries_length l long [] = sym (zero-mul l.places)
-entries_length l long (w ∷ words) = omega (arith, length-append (l.entry w) (entries l words), long w, entries_length l long words, suc-mul (length words) l.places)
-
 module _ {l : Listing} (laws : ListingLaws l) where
+  -- They take as many places each.
+  pub entries_length : (w : List ℕ) → length (entries l w) ≡ length w * l.places
+  unfolding entries
+  entries_length [] = sym (zero-mul l.places)
+  entries_length (x ∷ w) = omega (arith, length-append (l.entry x) (entries l w), laws.long x, entries_length w, suc-mul (length w) l.places)
+
   module _ (size place : ℕ) (w : List ℕ) (h : length w ≤ room_in l size place) where
     -- As many as there is room for fit into the places.
     pub entries_fit : length (entries l w) ≤ size - place
-    entries_fit = rw (entries_length l laws.long w) ((le-div_iff_mul-le {x = length w} laws.some).0 h)
+    entries_fit = rw (entries_length w) ((le-div_iff_mul-le {x = length w} laws.some).0 h)
+
+    -- Each takes its part of the room.
+    pub room_less : room_in l size place - length w ≡ room_in l size (place + length (entries l w))
+    room_less =
+        let k : ℕ = length (entries l w) in
+        let e : size - place ≡ size - (place + k) + length w * l.places = omega (arith, entries_fit, entries_length w) in
+        omega (arith, ap (λ (n : ℕ). n / l.places) e ∙ add-mul-div_right (size - (place + k)) (length w) laws.some)
 
 -- A call that neither 18 nor 19 refuses has a cap of at least 1 and a free place.
 pub word_laws : ListingLaws word_list

@@ -130,6 +130,16 @@ module _ (suspect : ℕ → Bool) where
   pub first_suspect : (a b x : ℕ) (l : List ℕ) → row suspect a b ≡ x ∷ l → suspect x ≡ true
   first_suspect a b x l e = ((row_exactly a b x).0 (rw e (Memᴰ.head refl))).2
 
+  -- Before it there is none.
+  pub first_clear : (a b x : ℕ) (l : List ℕ) → row suspect a b ≡ x ∷ l → (X : ℕ) → a ≤ X → X < x → suspect X ≡ false
+  first_clear a b x l e X h k =
+      let z = begins a b 0 x l e in
+      (not-eq-not {b = false}).0 (λ s. go (Memᴰ.cases_cons (rw e at ((row_exactly a b X).1 (h, omega (arith, z.below), s)))) z.rest)
+    where
+      go : (X ≡ x) ⊎ Memᴰ X l → l ≡ row suspect (suc x) b → ⊥
+      go (inl q) r = omega arith
+      go (inr m) r = let y = (row_exactly (suc x) b X).0 (rw (← r) m) in omega arith
+
 -- What ascends from a up to b has at most as many as lie there.
 pub ascends_few : (a b : ℕ) (l : List ℕ) → Ascends a b l → length l ≤ b - a
 ascends_few a b [] r = omega arith

@@ -1,12 +1,13 @@
 -- Laws: what a call does by searches is what the row of suspects says, and its rounds are few. Assumes nothing.
-use Rattle.std.specs.Prelude.{◌≡◌, Bool, drop}
+use Rattle.std.specs.Prelude.{◌≡◌, Bool, true, drop}
 use Rattle.std.proofs.Math.Path.{refl}
 use Rattle.std.proofs.Common.{sym, ap, ◌∙◌, arith, mul-le-mul_left}
-use mathlib.Core.List.{List, [], ◌∷◌}
-use Prim.Native.Nat.{ℕ, zero, suc, ◌+◌, ◌-◌, ◌*◌, ◌≤◌}
+use mathlib.Core.List.{List, [], ◌∷◌, ◌++◌}
+use Prim.Native.Nat.{ℕ, zero, suc, ◌+◌, ◌-◌, ◌*◌, ◌≤◌, ◌<◌}
 use Rattle.std.proofs.Math.Nat.{add-zero}
 use Rattle.std.proofs.Math.ListN.{length}
-use Rattle.search.specs.declared.Place.TheVariants.{At}
+use Rattle.search.specs.declared.Place.{Place}
+use Rattle.search.specs.declared.Place.TheVariants.{At, Nowhere}
 use Rattle.search.specs.declared.Found.{Found}
 use Rattle.calls.specs.Engine.{stops_at, once, passed, Engine, Laws, AtSuspect}
 use Rattle.calls.specs.State.{listed}
@@ -15,7 +16,7 @@ use Rattle.calls.specs.Plain.{row, not_right, tries, words_of}
 use Rattle.calls.specs.ByRow.{head_of, legs, trail, rounds_in, row_run}
 use Rattle.calls.proofs.TrialLaws.{listed_length, no_cap, no_place}
 use Rattle.calls.proofs.RowLaws.{begins, first_suspect}
-use Rattle.calls.proofs.SearchLaws.{suspects_tiled, rows_whole, seek_is, searches_few, rounds_append, trail_few}
+use Rattle.calls.proofs.SearchLaws.{row_in, rows_whole, seek_is, searches_few, rounds_append, trail_few}
 
 module _ {U : Type 0} {suspect : ℕ → Bool} {e : Engine U} {u : U} {B : ℕ} (laws : Laws suspect e u B) where
   abbrev first : ℕ
@@ -38,7 +39,7 @@ module _ {U : Type 0} {suspect : ℕ → Bool} {e : Engine U} {u : U} {B : ℕ} 
   pub ahead_is : (a : ℕ) → first ≤ a → a ≤ suc last → ahead e u a ≡ to a (row_from a)
   ahead_is a h k =
       seek_is suspect B (e.sections u) first (suc last) a laws.chain laws.finds
-      ∙ ap (to a) (rows_whole suspect (e.sections u) first last laws.chain (suspects_tiled laws) a h k)
+      ∙ ap (to a) (rows_whole suspect (e.sections u) first last laws.chain laws.tiled a h k)
 
   -- A suspect that is found lies from a on, up to the last.
   pub ahead_found : (a : ℕ) → first ≤ a → a ≤ suc last → (X : ℕ) → (ahead e u a).place ≡ At X → (a ≤ X) × (X ≤ last)
@@ -98,5 +99,5 @@ module _ {U : Type 0} {suspect : ℕ → Bool} {e : Engine U} {u : U} {B : ℕ} 
       omega (
         arith,
         trail_few suspect B (e.sections u) a k (row_from a) laws.finds,
-        mul-le-mul_left B (searches_few suspect (e.sections u) first last laws.chain (suspects_tiled laws) k a h i fits),
+        mul-le-mul_left B (searches_few suspect (e.sections u) first last laws.chain laws.tiled k a h i fits),
       )

@@ -1,5 +1,5 @@
 -- Laws of sections: the row of suspects is made of theirs, the searches in them lead to its first, and how many searches a call makes. Assumes nothing.
-use Rattle.std.specs.Prelude.{◌≡◌, Bool, cond, ◌&&◌, ltb, drop}
+use Rattle.std.specs.Prelude.{◌≡◌, Bool, cond, ◌&&◌, ◌⊎◌, ltb, drop}
 use Rattle.std.proofs.Math.Path.{refl, sym, ap}
 use Rattle.std.proofs.Common.{◌∙◌, subst, inl, inr, zero-add, mul-add, mul-suc}
 use Rattle.std.proofs.Math.Bool.{true, false, not, not-eq-not}
@@ -14,15 +14,11 @@ use Rattle.search.specs.declared.Place.{Place}
 use Rattle.search.specs.declared.Place.TheVariants.{At, Nowhere}
 use Rattle.search.specs.declared.Found.{Found}
 use Rattle.search.specs.Finds.{LeastFrom}
-use Rattle.calls.specs.Engine.{Section, start_in, past, stops_at, once, passed, Engine, AllOf, Chain, InSome, Finds, Laws}
-use Rattle.calls.specs.Call.{within, or_else, seek}
+use Rattle.calls.specs.Engine.{Section, start_in, past, stops_at, once, passed, AllOf, Chain, InSome, Finds}
+use Rattle.calls.specs.Call.{within, none_after, sought, or_else, seek}
 use Rattle.calls.specs.Plain.{keep, row}
 use Rattle.calls.specs.ByRow.{head_of, legs, trail, rounds_in, closing, closings, searches_of}
 use Rattle.calls.proofs.RowLaws.{row_empty, row_at, row_none, row_skip, row_split, row_clear, first_suspect, begins}
-
--- Every suspect lies in a section.
-pub suspects_tiled : {U : Type 0} {suspect : ℕ → Bool} {e : Engine U} {u : U} {B : ℕ} → Laws suspect e u B → (X : ℕ) → e.first u ≤ X → X ≤ e.last u → suspect X ≡ true → InSome X (e.sections u)
-suspects_tiled laws X h k t = laws.tiled X (laws.had X h k t)
 
 -- ---- places and ends
 
@@ -58,7 +54,7 @@ chain_ends [] a b c = c
 chain_ends (s ∷ l) a b c = omega (arith, c.0, c.1, chain_ends l s.end b c.2)
 
 -- What lies in one of them lies between their beginning and their end.
-pub in_some : (l : List Section) (a b X : ℕ) → Chain a b l → InSome X l → (a ≤ X) × (X < b)
+in_some : (l : List Section) (a b X : ℕ) → Chain a b l → InSome X l → (a ≤ X) × (X < b)
 in_some [] a b X c i = absurd i
 in_some (s ∷ l) a b X c (inl i) = (omega (arith, c.0, i.0), omega (arith, i.1, chain_ends l s.end b c.2))
 in_some (s ∷ l) a b X c (inr i) = let z = in_some l s.end b X c.2 i in (omega (arith, c.0, c.1), z.1)
@@ -173,6 +169,10 @@ module _ (suspect : ℕ → Bool) where
   -- A section of which nothing is left.
   closing_past : (a end : ℕ) → end ≤ a → closing suspect a end ≡ false
   closing_past a end h = rw (le-ltb a end h)
+
+  -- One of which the last significand is left, and is no suspect.
+  closing_clear : (a end : ℕ) → a < end → suspect (end - 1) ≡ false → closing suspect a end ≡ true
+  closing_clear a end h s = λ i. lt-ltb a end h i && not (s i)
 
   -- A suspect of it is tried: whether its last significand is left does not change.
   closing_past_one : (a x end : ℕ) → a ≤ x → x < end → suspect x ≡ true → closing suspect a end ≡ closing suspect (suc x) end

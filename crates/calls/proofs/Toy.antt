@@ -10,7 +10,7 @@ use Rattle.search.specs.declared.Place.TheVariants.{At, Nowhere}
 use Rattle.search.specs.declared.Found.{Found}
 use Rattle.search.specs.Finds.{LeastFrom}
 use Rattle.calls.specs.State.{Range, State, in_range, out_of_range, Call, Listing, word_list}
-use Rattle.calls.specs.Engine.{Half, low, high, halves, Engine, fresh, ListingLaws, Lawful}
+use Rattle.calls.specs.Engine.{Half, low, high, halves, Engine, fresh, handed, ListingLaws, Lawful}
 use Rattle.calls.specs.Call.{new_state, seek, run, sweep_call}
 use Rattle.calls.specs.Plain.{row, tries, words_of, Fed, begun, plain_call, Seen, state_of, plains}
 use Rattle.calls.specs.ByRow.{closings, searches_of}
@@ -113,7 +113,7 @@ toy_lawful {l} lists =
             lists = lists;
             suspected = λ X h k q. suspected X (suspect_in r X) q;
             chain = halves_chain 100 r.first r.last o (toy_find r.factor);
-            tiled = λ X h. let i = (between r X).0 h in halves_tiled 100 r.first r.last o (toy_find r.factor) X i.0 i.1;
+            tiled = λ X h k t. halves_tiled 100 r.first r.last o (toy_find r.factor) X h k;
             finds = halves_finds 100 r.first r.last o (toy_find r.factor) (suspect_in r) 4 (λ a end h k i. least r.factor end a) (λ a h k i. least r.factor (suc r.last) a) few;
           };
       spans = λ s h p q. let i = (between s.over s.next).0 h.there in halves_span 100 s.over.first s.over.last (omega arith) (toy_find s.over.factor) (suspect_in s.over) s.next p i.0 q;

@@ -1,6 +1,6 @@
 -- Laws: the words of the suspects tried are those of all significands before the first one not tried that are not right; they ascend, and none is missing. Assumes nothing.
-use Rattle.std.specs.Prelude.{◌≡◌, refl, Bool, true, false, ◌⊎◌, length, take, drop}
-use Rattle.std.proofs.Common.{inl, inr, arith, length-append}
+use Rattle.std.specs.Prelude.{◌≡◌, refl, Bool, true, false, ◌⊎◌, take, drop}
+use Rattle.std.proofs.Common.{inl, inr, arith}
 use mathlib.Core.List.Memᴰ
 use mathlib.Core.List.{List, [], ◌∷◌, ◌++◌, Memᴰ}
 use Prim.Native.Nat.{ℕ, zero, suc, ◌+◌, ◌-◌, ◌*◌, ◌≤◌, ◌<◌}
@@ -11,7 +11,6 @@ use Rattle.marks.specs.declared.Mark.TheVariants.{Right, Open, Wrong}
 use Rattle.calls.specs.State.{listed}
 use Rattle.calls.specs.Plain.{span_of, span, row, words_of}
 use Rattle.calls.specs.Whole.{end_of, WordOf, Listed, Ascends, Holds}
-use Rattle.calls.proofs.TrialLaws.{listed_few}
 use Rattle.calls.proofs.RowLaws.{span_empty, span_cons, ascends_from, row_induct}
 
 -- ---- the words ascend, so that none stands twice
@@ -20,12 +19,6 @@ ascends_one : (m : Mark) (a b : ℕ) (w : List ℕ) → a < b → Ascends (2 * s
 ascends_one Right a b w h r = ascends_from (2 * suc a) (2 * b) (2 * a) w (omega arith) r
 ascends_one Open a b w h r = (omega arith, omega arith, ascends_from (2 * suc a) (2 * b) (suc (2 * a + 1)) w (omega arith) r)
 ascends_one Wrong a b w h r = (omega arith, omega arith, ascends_from (2 * suc a) (2 * b) (suc (2 * a)) w (omega arith) r)
-
--- Significands have at most one word each.
-pub words_few : (mark : ℕ → Mark) (n a : ℕ) → length (words_of mark (span_of a n)) ≤ n
-unfolding span_of words_of
-words_few mark zero a = omega arith
-words_few mark (suc n) a = omega (arith, length-append (listed (mark a) a) (words_of mark (span_of (suc a) n)), listed_few (mark a) a, words_few mark n (suc a))
 
 ascends_all : (mark : ℕ → Mark) (n a b : ℕ) → a + n ≤ b → Ascends (2 * a) (2 * b) (words_of mark (span_of a n))
 unfolding span_of words_of

@@ -88,7 +88,7 @@ handed e s Nowhere = record { over = s.over; next = e.last s.over; finished = tr
 
 -- ---- what is asked of lists
 
--- What is asked of how lists are kept. Which calls are refused is the listing's own, for the plain sweep too.
+-- What is asked of how lists are kept. Which calls are refused is the listing's own: demand 3 is about those that are not.
 pub record ListingLaws (l : Listing) : Type 0 where
   -- an entry takes a place
   pub some : 0 < l.places
@@ -138,9 +138,9 @@ pub record Laws {U : Type 0} (suspect : ℕ → Bool) (e : Engine U) (u : U) (B 
   pub lists : ListingLaws (e.listing u)
   -- "every X that is not right is a suspect"
   pub suspected : (X : ℕ) → e.first u ≤ X → X ≤ e.last u → e.mark u X ≢ Right → suspect X ≡ true
-  -- the sections follow one another, every significand lies in one, and each is searched as it must be
+  -- the sections follow one another, every suspect lies in one, and each is searched as it must be
   pub chain : Chain (e.first u) (suc (e.last u)) (e.sections u)
-  pub tiled : (X : ℕ) → e.has u X ≡ true → InSome X (e.sections u)
+  pub tiled : (X : ℕ) → e.first u ≤ X → X ≤ e.last u → suspect X ≡ true → InSome X (e.sections u)
   pub finds : AllOf (Finds suspect B) (e.sections u)
 
 -- A place is a suspect from a to the last, or none.

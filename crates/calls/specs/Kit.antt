@@ -132,8 +132,8 @@ entry_list =
 
 -- ---- the engine of kits
 
--- "the number of those factors" that a call searched in: from the one that it began in to the one that it ended in. These are just the factors in which a search is made (`call_searched`, `call_made`, `call_only` of KitSearched):
--- in the first since its next significand is one of that factor's, in each later one from its first significand on.
+-- "the number of those factors" that a call searched in: from the one that it began in to the one that it ended in. In each of them a search is made: in the first since its next significand is one of that factor's,
+-- in each later one from its first significand on.
 abbrev pub searched_in : {F : Type 0} → (before after : State (Kit F)) → ℕ
 searched_in s t = suc (place_in t.next) - place_in s.next
 

@@ -1,7 +1,7 @@
 -- Demand 3 reaches callers who keep a sweep's state as words: calls on one list of words make the replies that demand 3 speaks of. Assumes nothing.
 use Rattle.std.specs.Prelude.{◌≡◌, refl, Bool, true, false, cond, List, [], ◌∷◌, ◌++◌, ℕ, ◌≤◌, ◌<◌, length, drop, ltb}
 use Rattle.std.proofs.Math.Path.{sym, ap}
-use Rattle.std.proofs.Common.{◌∙◌, subst, ltb-false, lt-ltb, le-ltb}
+use Rattle.std.proofs.Common.{ap₂, ◌∙◌, subst, ltb-false, lt-ltb, le-ltb}
 use native.Mathlib.Omega.{arith}
 use Rattle.std.proofs.lemmas.List.Edits.{sets}
 use Rattle.std.proofs.Math.Seq.{sets-eq}
@@ -19,11 +19,9 @@ use Rattle.calls.proofs.RefusalLaws.{over_kept}
 use Rattle.sweep.specs.declared.SweepAnswer.{SweepAnswer}
 use Rattle.sweep.specs.Engine.{range, engine}
 use Rattle.sweep.specs.Answers.{call_of, reply_of, code_of}
-use Rattle.sweep.proofs.Demand3.{set_up_begins, Made, asked, reply_in, asked_in, last_in, Demand3, demand_3}
+use Rattle.sweep.proofs.Demand3.{set_up_begins, Made, reply_in, Kept, asked_in, last_in, Demand3, demand_3}
 use Rattle.exports.specs.Words.{factor_length, factor_from, factor_words, state_length, state_of, state_from, state_words}
 use Rattle.exports.specs.Answers.{unfit, taken, Answer, leaves, new_sweep_answer, new_sweep_to, SweepWords, refused_with, reply_words, reply_to, sweep_to}
-use Rattle.exports.proofs.Stored as stored
-use Rattle.exports.proofs.Stored.{Asked, call_in, calls_in}
 use Rattle.exports.proofs.WordLaws.{Writable, set_up_writable, read_writable, not_damaged, factor_back, state_not_damaged, state_back}
 
 -- ---- one call
@@ -68,58 +66,89 @@ no_room_to state cap list free counts h = go (ltb (length state) state_length) r
 
 -- ---- calls one after another
 
--- a call on words, as it is asked
-abbrev sweep_asked : (state : List ℕ) → Asked → SweepWords
-sweep_asked state a = sweep_to state a.cap a.list a.free a.counts
+-- what a caller asks of a call: cap, list, first free place, and a list that has room for the counts
+pub record Asked : Type 0 where
+  pub cap : ℕ
+  pub list : List ℕ
+  pub free : ℕ
+  pub counts : List ℕ
+  pub room : 3 ≤ length counts
 
--- what is answered on one list of words, and what is left of it
+abbrev pub call_in : Asked → Call
+call_in a = call_of a.cap a.list a.free
+
+abbrev pub calls_in : List Asked → List Call
+calls_in [] = []
+calls_in (a ∷ asked) = call_in a ∷ calls_in asked
+
+-- what is answered on one list of words, each call given the words that the one before left
 abbrev pub answers_to : (state : List ℕ) → List Asked → List SweepWords
-answers_to = stored.answers_to sweep_asked 0
-
-abbrev pub left_to : (state : List ℕ) → List Asked → List ℕ
-left_to = stored.left_to sweep_asked 0
+answers_to state [] = []
+answers_to state (a ∷ asked) =
+    let r = sweep_to state a.cap a.list a.free a.counts in
+    r ∷ answers_to (sets state 0 r.state) asked
 
 -- the replies of calls that were made, as words
 abbrev pub answers_in : List Made → List SweepWords
-answers_in = stored.answers_in reply_in reply_words
+answers_in [] = []
+answers_in (m ∷ made) = reply_words (reply_in m) ∷ answers_in made
 
--- a call that was made, as code gives its reply
+-- ---- the calls that were made
+
+-- a reply as code gives it
 abbrev code_answer : Outcome Result → State (Range Factor) → SweepAnswer
 code_answer (accepted r) s = SweepAnswer.Accepted (record { state = code_of s; trials = r.trials; rounds = r.rounds; place = r.place })
 code_answer (refused n) s = SweepAnswer.Refused (record { state = code_of s; number = n })
 
-abbrev make : Call → Reply (Range Factor) → Made
-make c r = record { asked = c; answer = code_answer r.answer r.state; left = r.list }
-
-says : (c : Call) (r : Reply (Range Factor)) → reply_in (make c r) ≡ r
-says c r = go r.answer r.state r.list
-  where
-    go : (o : Outcome Result) (s : State (Range Factor)) (list : List ℕ) → reply_of (code_answer o s) list ≡ record { answer = o; state = s; list = list }
-    go (accepted r) s list = refl
-    go (refused n) s list = refl
+code_says : (o : Outcome Result) (s : State (Range Factor)) (list : List ℕ) → reply_of (code_answer o s) list ≡ record { answer = o; state = s; list = list }
+code_says (accepted r) s list = refl
+code_says (refused n) s list = refl
 
 -- the engine's calls on a state
 abbrev made_from : State (Range Factor) → List Asked → List Made
-made_from = stored.made_from (sweep_call engine) make
+made_from s [] = []
+made_from s (a ∷ asked) =
+    let r = sweep_call engine s (call_in a) in
+    record { asked = call_in a; answer = code_answer r.answer r.state; left = r.list } ∷ made_from r.state asked
 
--- words of a state, with the rest behind them
-abbrev Holds : (rest : List ℕ) → State (Range Factor) → List ℕ → Type 0
-Holds rest s ws = Writable s.over.factor × (ws ≡ state_words s ++ rest)
+says : (s : State (Range Factor)) (a : Asked) → let r = sweep_call engine s (call_in a) in reply_of (code_answer r.answer r.state) r.list ≡ r
+says s a = let r = sweep_call engine s (call_in a) in code_says r.answer r.state r.list
 
-module _ (rest : List ℕ) where
-  one : (s : State (Range Factor)) (ws : List ℕ) → Holds rest s ws → (a : Asked) → sweep_asked ws a ≡ reply_words (sweep_call engine s (call_in a))
-  one s ws h a = ap (λ (ws : List ℕ). sweep_asked ws a) h.1 ∙ call_to s h.0 rest a.cap a.list a.free a.counts a.room
+kept : (s : State (Range Factor)) (asked : List Asked) → Kept s (made_from s asked)
+kept s [] = tt
+kept s (a ∷ asked) =
+    let r = sweep_call engine s (call_in a) in
+    (says s a, subst (λ (x : Reply (Range Factor)). Kept x.state (made_from r.state asked)) (sym (says s a)) (kept r.state asked))
 
-  next : (s : State (Range Factor)) (ws : List ℕ) → Holds rest s ws → (c : Call) → let r = sweep_call engine s c in Holds rest r.state (sets ws 0 (reply_words r).state)
-  next s ws h c = (subst Writable (sym (factor_kept s c)) h.0, ap (λ (ws : List ℕ). sets ws 0 (reply_words (sweep_call engine s c)).state) h.1 ∙ words_left s c rest)
+asked_are : (s : State (Range Factor)) (asked : List Asked) → asked_in (made_from s asked) ≡ calls_in asked
+asked_are s [] = refl
+asked_are s (a ∷ asked) = ap (λ (l : List Call). call_in a ∷ l) (asked_are (sweep_call engine s (call_in a)).state asked)
 
-  -- On the words of a state, calls are answered with the replies of the engine's calls on that state,
-  pub answers_are : (s : State (Range Factor)) → Writable s.over.factor → (asks : List Asked) → answers_to (state_words s ++ rest) asks ≡ answers_in (made_from s asks)
-  answers_are s W = stored.answers_are asked reply_in (sweep_call engine) make (λ c r. refl) says sweep_asked 0 reply_words (Holds rest) one next s (state_words s ++ rest) (W, refl)
+-- on the words of a state, calls are answered with the replies of the engine's calls on that state
+pub answers_are : (s : State (Range Factor)) → Writable s.over.factor → (rest : List ℕ) (asked : List Asked) → answers_to (state_words s ++ rest) asked ≡ answers_in (made_from s asked)
+answers_are s W rest [] = refl
+answers_are s W rest (a ∷ asked) =
+    let r = sweep_call engine s (call_in a) in
+    let next = subst Writable (sym (factor_kept s (call_in a))) W in
+    ap (λ (x : SweepWords). x ∷ answers_to (sets (state_words s ++ rest) 0 x.state) asked) (call_to s W rest a.cap a.list a.free a.counts a.room)
+    ∙ ap₂ (λ (x : SweepWords) (l : List SweepWords). x ∷ l) (ap reply_words (sym (says s a)))
+    (ap (λ (ws : List ℕ). answers_to ws asked) (words_left s (call_in a) rest) ∙ answers_are r.state next rest asked)
 
-  -- and leave the words of the state that the last of them hands back.
-  pub left_are : (s : State (Range Factor)) → Writable s.over.factor → (asks : List Asked) → left_to (state_words s ++ rest) asks ≡ state_words (last_in s (made_from s asks)) ++ rest
-  left_are s W asks = (stored.left_holds asked reply_in (sweep_call engine) make (λ c r. refl) says sweep_asked 0 reply_words (Holds rest) one next s (state_words s ++ rest) (W, refl) asks).1
+-- the words that calls leave, one after another
+abbrev pub left_to : (state : List ℕ) → List Asked → List ℕ
+left_to state [] = state
+left_to state (a ∷ asked) = left_to (sets state 0 (sweep_to state a.cap a.list a.free a.counts).state) asked
+
+-- are those of the state that the last of them hands back
+pub left_are : (s : State (Range Factor)) → Writable s.over.factor → (rest : List ℕ) (asked : List Asked) → left_to (state_words s ++ rest) asked ≡ state_words (last_in s (made_from s asked)) ++ rest
+left_are s W rest [] = refl
+left_are s W rest (a ∷ asked) =
+    let r = sweep_call engine s (call_in a) in
+    let next = subst Writable (sym (factor_kept s (call_in a))) W in
+    ap (λ (x : SweepWords). left_to (sets (state_words s ++ rest) 0 x.state) asked) (call_to s W rest a.cap a.list a.free a.counts a.room)
+    ∙ ap (λ (ws : List ℕ). left_to ws asked) (words_left s (call_in a) rest)
+    ∙ left_are r.state next rest asked
+    ∙ ap (λ (x : Reply (Range Factor)). state_words (last_in x.state (made_from r.state asked)) ++ rest) (sym (says s a))
 
 -- ---- a new sweep
 
@@ -184,23 +213,20 @@ module _ (factor : List ℕ) (first last : ℕ) (out : List ℕ) (zero : (new_sw
 -- ---- demand 3
 
 -- The calls asked on the words that a new sweep left: they are answered as these calls are, the words left in the end are those of the last one's state, and of these calls demand 3 holds.
-pub record Demand3To (factor : List ℕ) (first last : ℕ) (out : List ℕ) (asks : List Asked) : Type 0 where
+pub record Demand3To (factor : List ℕ) (first last : ℕ) (out : List ℕ) (asked : List Asked) : Type 0 where
   pub made : List Made
-  pub calls : asked_in made ≡ calls_in asks
-  pub answers : answers_to (leaves (new_sweep_to factor first last out) out) asks ≡ answers_in made
-  pub left : left_to (leaves (new_sweep_to factor first last out) out) asks ≡ state_words (last_in (fresh engine (range (factor_from factor) first last)) made) ++ drop state_length out
+  pub calls : asked_in made ≡ calls_in asked
+  pub answers : answers_to (leaves (new_sweep_to factor first last out) out) asked ≡ answers_in made
+  pub left : left_to (leaves (new_sweep_to factor first last out) out) asked ≡ state_words (last_in (fresh engine (range (factor_from factor) first last)) made) ++ drop state_length out
   pub demand : Demand3 (fresh engine (range (factor_from factor) first last)) made
 
-pub demand_3_to : (factor : List ℕ) (first last : ℕ) (out : List ℕ) → (new_sweep_to factor first last out).number ≡ 0 → (asks : List Asked) → Demand3To factor first last out asks
-demand_3_to factor first last out zero asks =
+pub demand_3_to : (factor : List ℕ) (first last : ℕ) (out : List ℕ) → (new_sweep_to factor first last out).number ≡ 0 → (asked : List Asked) → Demand3To factor first last out asked
+demand_3_to factor first last out zero asked =
     let s = fresh engine (range (factor_from factor) first last) in
-    let rest = drop state_length out in
     record {
-      made = made_from s asks;
-      calls = stored.asked_are asked reply_in (sweep_call engine) make (λ c r. refl) says s asks;
-      answers = ap (λ (ws : List ℕ). answers_to ws asks) (state_words_lem factor first last out zero) ∙ answers_are rest s (writable factor first last out zero) asks;
-      left = ap (λ (ws : List ℕ). left_to ws asks) (state_words_lem factor first last out zero) ∙ left_are rest s (writable factor first last out zero) asks;
-      demand =
-          demand_3 (factor_from factor) first last (code_of s) (sym (was_begun factor first last out zero)) (made_from s asks)
-          (stored.kept asked reply_in (sweep_call engine) make (λ c r. refl) says s asks);
+      made = made_from s asked;
+      calls = asked_are s asked;
+      answers = ap (λ (ws : List ℕ). answers_to ws asked) (state_words_lem factor first last out zero) ∙ answers_are s (writable factor first last out zero) (drop state_length out) asked;
+      left = ap (λ (ws : List ℕ). left_to ws asked) (state_words_lem factor first last out zero) ∙ left_are s (writable factor first last out zero) (drop state_length out) asked;
+      demand = demand_3 (factor_from factor) first last (code_of s) (sym (was_begun factor first last out zero)) (made_from s asked) (kept s asked);
     }

@@ -1,9 +1,9 @@
 -- Demand 3 of kits reaches callers who keep a kit sweep's state as words: calls on one list of words make the replies that it speaks of. Assumes nothing.
-use Rattle.std.specs.Prelude.{◌≡◌, Bool, true, false, cond, not, ◌||◌, ◌≢◌, ◌↔◌}
+use Rattle.std.specs.Prelude.{◌≡◌, Bool, true, false, cond, not, ◌||◌, ◌↔◌}
 use Rattle.std.proofs.Math.Path.{refl, sym, ap, ap₂}
 use Rattle.std.proofs.Common.{◌∙◌, subst, get_or-take, take_at, drop_at, get_or-append-add}
 use mathlib.Core.List.{List, [], ◌∷◌, ◌++◌, append_assoc}
-use Prim.Native.Nat.{ℕ, zero, suc, ◌+◌, ◌-◌, ◌*◌, ◌/◌, ◌^◌, ◌≤◌, ◌<◌}
+use Prim.Native.Nat.{ℕ, zero, suc, ◌+◌, ◌-◌, ◌*◌, ◌≤◌, ◌<◌}
 use native.Mathlib.Omega.{arith}
 use Rattle.std.proofs.Math.Nat.{sub-zero, suc-sub-suc, zero-sub}
 use Rattle.std.proofs.Math.ListN.{length, take, drop, length-append}
@@ -15,32 +15,28 @@ use Rattle.marks.specs.Answers.{Refusal, number, none, judged, NoneHolds, Outcom
 use Rattle.marks.specs.AnswerLaws.{pass, stop, end, refuses, accepts, none_refuses, only_accepted, or_false}
 use Rattle.factor.specs.declared.Description.{Description}
 use Rattle.factor.specs.declared.Factor.{Factor}
-use Rattle.factor.specs.SetUp.{set_up, described}
+use Rattle.factor.specs.SetUp.{set_up}
 use Rattle.factor.proofs.SetUpLaws.{accepted_intact}
 use Rattle.calls.specs.State.{State, Call, terms_of}
 use Rattle.calls.specs.Engine.{AllOf, fresh}
 use Rattle.calls.specs.Call.{new_state, Result, Reply, Run, conditions, replied, run_of, sweep_call}
 use Rattle.calls.proofs.RefusalLaws.{over_kept}
 use Rattle.calls.specs.Kit.{Kit, in_kit, any_of, two_alike, place_in, significand_in, position, first_in}
-use Rattle.calls.proofs.Made.{entries_by}
-use Rattle.calls.proofs.KitFormed.{Apart}
 use Rattle.calls.proofs.KitLaws.{position_is}
 use Rattle.calls.proofs.KitRows.{CleanKit}
 use Rattle.sweep.specs.Answers.{call_of}
 use Rattle.kit.specs.declared.KitState.{KitState}
 use Rattle.kit.specs.declared.NewKitSweep.{NewKitSweep}
+use Rattle.kit.specs.declared.KitReply.{KitReply}
 use Rattle.kit.specs.declared.KitAnswer.{KitAnswer}
 use Rattle.kit.specs.Engine.{faulty, alike, factors, kits}
 use Rattle.kit.specs.Answers.{reply_of, view_of, Told, clean, not_clean, unfinished, told, verdict_of}
-use Rattle.kit.specs.AlikeLaws.{apart_described}
-use Rattle.kit.specs.Demand3.{Made, asked, reply_in, asked_in, last_in, entries_in, KitDemand3, kit_demand_3}
+use Rattle.kit.specs.Demand3.{Made, reply_in, Kept, asked_in, last_in, entries_in, KitDemand3, kit_demand_3}
 use Rattle.exports.specs.Words.{word, flag_word, flag_from, factor_length, factor_from, factor_words, damaged}
 use Rattle.exports.specs.Answers.{Answer, leaves, SweepWords, refused_with}
 use Rattle.exports.proofs.WordLaws.{Writable, set_up_writable, flag_back, not_damaged, factor_back}
-use Rattle.exports.proofs.Stored as stored
-use Rattle.exports.proofs.Stored.{Asked, call_in, calls_in}
-use Rattle.exports.proofs.Demand3.{accepted_at}
-use Rattle.exports.specs.Kits.{kit_length, factors_from, any_damaged, kit_from, kit_state_length, kit_state_of, behind_kit, kit_unfit, kit_taken, form_answer, form_to, new_kit_answer, new_kit_to, kit_sweep_answer, kit_reply_words, kit_reply_to, kit_sweep_to, told_number, clean_answer, clean_to}
+use Rattle.exports.proofs.Demand3.{Asked, call_in, calls_in, accepted_at}
+use Rattle.exports.specs.Kits.{kit_length, factors_from, any_damaged, kit_from, kit_state_length, kit_state_of, behind_kit, kit_unfit, kit_taken, form_answer, form_to, new_kit_answer, new_kit_to, kit_reply_words, kit_reply_to, kit_sweep_to, told_number, clean_answer, clean_to}
 
 -- ---- what stands behind a kit's words does not matter to it
 
@@ -212,26 +208,26 @@ no_room_kit state cap list free counts h = go (ltb (length state) kit_state_leng
 
 -- ---- calls one after another
 
--- a call on words, as it is asked
-abbrev kit_asked : (state : List ℕ) → Asked → SweepWords
-kit_asked state a = kit_sweep_to state a.cap a.list a.free a.counts
-
--- what is answered on one list of words, and what is left of it
+-- what is answered on one list of words, each call given the words that the one before left
 abbrev pub kit_answers_to : (state : List ℕ) → List Asked → List SweepWords
-kit_answers_to = stored.answers_to kit_asked kit_length
+kit_answers_to state [] = []
+kit_answers_to state (a ∷ asked) =
+    let r = kit_sweep_to state a.cap a.list a.free a.counts in
+    r ∷ kit_answers_to (sets state kit_length r.state) asked
 
+-- the words that calls leave, one after another
 abbrev pub kit_left_to : (state : List ℕ) → List Asked → List ℕ
-kit_left_to = stored.left_to kit_asked kit_length
-
--- how many entries were written there, as a caller counts them: "an entry takes two words"
-abbrev pub kit_entries_to : (state : List ℕ) → List Asked → ℕ
-kit_entries_to state asks = stored.entries_to 2 asks (kit_answers_to state asks)
+kit_left_to state [] = state
+kit_left_to state (a ∷ asked) = kit_left_to (sets state kit_length (kit_sweep_to state a.cap a.list a.free a.counts).state) asked
 
 -- the replies of calls that were made, as words
 abbrev pub kit_answers_in : List Made → List SweepWords
-kit_answers_in = stored.answers_in reply_in kit_reply_words
+kit_answers_in [] = []
+kit_answers_in (m ∷ made) = kit_reply_words (reply_in m) ∷ kit_answers_in made
 
--- a call that was made, as code gives its reply
+-- ---- the calls that were made
+
+-- a reply as code gives it
 abbrev code_of : State (Kit Factor) → KitState
 code_of s = record { kit = record { factors = s.over.factors; count = s.over.count }; place = place_in s.next; next = significand_in s.next; finished = s.finished }
 
@@ -239,53 +235,66 @@ abbrev code_answer : Outcome Result → KitAnswer
 code_answer (accepted r) = KitAnswer.Accepted (record { trials = r.trials; rounds = r.rounds; place = r.place })
 code_answer (refused n) = KitAnswer.Refused n
 
-abbrev make : Call → Reply (Kit Factor) → Made
-make c r = record { asked = c; reply = record { state = code_of r.state; answer = code_answer r.answer }; left = r.list }
+abbrev code_reply : Reply (Kit Factor) → KitReply
+code_reply r = record { state = code_of r.state; answer = code_answer r.answer }
 
-says : (c : Call) (r : Reply (Kit Factor)) → reply_in (make c r) ≡ r
-says c r = go r.answer r.state r.list
-  where
-    view_back : (s : State (Kit Factor)) → view_of (code_of s) ≡ s
-    view_back s = λ i. record { over = s.over; next = position_is s.next i; finished = s.finished }
+view_back : (s : State (Kit Factor)) → view_of (code_of s) ≡ s
+view_back s = λ i. record { over = s.over; next = position_is s.next i; finished = s.finished }
 
-    go : (o : Outcome Result) (s : State (Kit Factor)) (list : List ℕ) → reply_of (record { state = code_of s; answer = code_answer o }) list ≡ record { answer = o; state = s; list = list }
-    go (accepted r) s list = λ i. record { answer = accepted r; state = view_back s i; list = list }
-    go (refused n) s list = λ i. record { answer = refused n; state = view_back s i; list = list }
+code_says : (o : Outcome Result) (s : State (Kit Factor)) (list : List ℕ) → reply_of (record { state = code_of s; answer = code_answer o }) list ≡ record { answer = o; state = s; list = list }
+code_says (accepted r) s list = λ i. record { answer = accepted r; state = view_back s i; list = list }
+code_says (refused n) s list = λ i. record { answer = refused n; state = view_back s i; list = list }
 
 -- the engine's calls on a state
 abbrev made_from : State (Kit Factor) → List Asked → List Made
-made_from = stored.made_from (sweep_call kits) make
+made_from s [] = []
+made_from s (a ∷ asked) =
+    let r = sweep_call kits s (call_in a) in
+    record { asked = call_in a; reply = code_reply r; left = r.list } ∷ made_from r.state asked
 
--- their entries, as a caller counts them
-entries_counted : (s : State (Kit Factor)) (asks : List Asked) → stored.entries_to 2 asks (kit_answers_in (made_from s asks)) ≡ entries_in (made_from s asks)
-entries_counted = stored.entries_are asked reply_in (sweep_call kits) make (λ c r. refl) says kit_reply_words 2 (λ a r. each a r.answer r.state r.list)
-  where
-    each : (a : Asked) (o : Outcome Result) (s : State (Kit Factor)) (list : List ℕ) → stored.entries_of 2 a (kit_sweep_answer o s list) ≡ entries_by 2 (call_in a) o
-    each a (accepted r) s list = refl
-    each a (refused n) s list = go (eqb n 0)
-      where
-        go : (b : Bool) → cond b ((0 - a.free) / 2) 0 ≡ 0
-        go true = ap (λ (n : ℕ). n / 2) (zero-sub a.free)
-        go false = refl
+says : (s : State (Kit Factor)) (a : Asked) → let r = sweep_call kits s (call_in a) in reply_of (code_reply r) r.list ≡ r
+says s a = let r = sweep_call kits s (call_in a) in code_says r.answer r.state r.list
 
--- words of a state over a kit's, with the rest behind them
-abbrev Holds : (kit rest : List ℕ) → State (Kit Factor) → List ℕ → Type 0
-Holds kit rest s ws = (s.over ≡ kit_from kit) × (ws ≡ kit ++ behind_kit s ++ rest)
+kept : (s : State (Kit Factor)) (asked : List Asked) → Kept s (made_from s asked)
+kept s [] = tt
+kept s (a ∷ asked) =
+    let r = sweep_call kits s (call_in a) in
+    (says s a, subst (λ (x : Reply (Kit Factor)). Kept x.state (made_from r.state asked)) (sym (says s a)) (kept r.state asked))
+
+asked_are : (s : State (Kit Factor)) (asked : List Asked) → asked_in (made_from s asked) ≡ calls_in asked
+asked_are s [] = refl
+asked_are s (a ∷ asked) = ap (λ (l : List Call). call_in a ∷ l) (asked_are (sweep_call kits s (call_in a)).state asked)
 
 module _ (kit : List ℕ) (K : FitKit kit) (rest : List ℕ) where
-  one : (s : State (Kit Factor)) (ws : List ℕ) → Holds kit rest s ws → (a : Asked) → kit_asked ws a ≡ kit_reply_words (sweep_call kits s (call_in a))
-  one s ws h a = ap (λ (ws : List ℕ). kit_asked ws a) h.1 ∙ kit_call_to kit K s h.0 rest a.cap a.list a.free a.counts a.room
-
-  next : (s : State (Kit Factor)) (ws : List ℕ) → Holds kit rest s ws → (c : Call) → let r = sweep_call kits s c in Holds kit rest r.state (sets ws kit_length (kit_reply_words r).state)
-  next s ws h c = (over_kept kits s c ∙ h.0, ap (λ (ws : List ℕ). sets ws kit_length (kit_reply_words (sweep_call kits s c)).state) h.1 ∙ kit_words_left kit K s h.0 rest c)
+  -- every call hands back a state over the same kit
+  still_over : (s : State (Kit Factor)) (c : Call) → s.over ≡ kit_from kit → (sweep_call kits s c).state.over ≡ kit_from kit
+  still_over s c e = over_kept kits s c ∙ e
 
   -- On the words of a state, calls are answered with the replies of the engine's calls on that state,
-  pub kit_answers_are : (s : State (Kit Factor)) → s.over ≡ kit_from kit → (asks : List Asked) → kit_answers_to (kit ++ behind_kit s ++ rest) asks ≡ kit_answers_in (made_from s asks)
-  kit_answers_are s e = stored.answers_are asked reply_in (sweep_call kits) make (λ c r. refl) says kit_asked kit_length kit_reply_words (Holds kit rest) one next s (kit ++ behind_kit s ++ rest) (e, refl)
+  pub kit_answers_are : (s : State (Kit Factor)) → s.over ≡ kit_from kit → (asked : List Asked) → kit_answers_to (kit ++ behind_kit s ++ rest) asked ≡ kit_answers_in (made_from s asked)
+  kit_answers_are s e [] = refl
+  kit_answers_are s e (a ∷ asked) =
+      let r = sweep_call kits s (call_in a) in
+      ap (λ (x : SweepWords). x ∷ kit_answers_to (sets (kit ++ behind_kit s ++ rest) kit_length x.state) asked) (kit_call_to kit K s e rest a.cap a.list a.free a.counts a.room)
+      ∙ ap₂ (λ (x : SweepWords) (l : List SweepWords). x ∷ l) (ap kit_reply_words (sym (says s a)))
+      (ap (λ (ws : List ℕ). kit_answers_to ws asked) (kit_words_left kit K s e rest (call_in a)) ∙ kit_answers_are r.state (still_over s (call_in a) e) asked)
 
-  -- and leave the words of the state that the last of them hands back, over the same kit.
-  pub kit_left_are : (s : State (Kit Factor)) → s.over ≡ kit_from kit → (asks : List Asked) → Holds kit rest (last_in s (made_from s asks)) (kit_left_to (kit ++ behind_kit s ++ rest) asks)
-  kit_left_are s e = stored.left_holds asked reply_in (sweep_call kits) make (λ c r. refl) says kit_asked kit_length kit_reply_words (Holds kit rest) one next s (kit ++ behind_kit s ++ rest) (e, refl)
+  -- and leave the words of the state that the last of them hands back.
+  pub kit_left_are : (s : State (Kit Factor)) → s.over ≡ kit_from kit → (asked : List Asked) → kit_left_to (kit ++ behind_kit s ++ rest) asked ≡ kit ++ behind_kit (last_in s (made_from s asked)) ++ rest
+  kit_left_are s e [] = refl
+  kit_left_are s e (a ∷ asked) =
+      let r = sweep_call kits s (call_in a) in
+      ap (λ (x : SweepWords). kit_left_to (sets (kit ++ behind_kit s ++ rest) kit_length x.state) asked) (kit_call_to kit K s e rest a.cap a.list a.free a.counts a.room)
+      ∙ ap (λ (ws : List ℕ). kit_left_to ws asked) (kit_words_left kit K s e rest (call_in a))
+      ∙ kit_left_are r.state (still_over s (call_in a) e) asked
+      ∙ ap (λ (x : Reply (Kit Factor)). kit ++ behind_kit (last_in x.state (made_from r.state asked)) ++ rest) (sym (says s a))
+
+  -- The last of them, too, is over the same kit.
+  last_over : (s : State (Kit Factor)) → s.over ≡ kit_from kit → (asked : List Asked) → (last_in s (made_from s asked)).over ≡ kit_from kit
+  last_over s e [] = e
+  last_over s e (a ∷ asked) =
+      let r = sweep_call kits s (call_in a) in
+      ap (λ (x : Reply (Kit Factor)). (last_in x.state (made_from r.state asked)).over) (says s a) ∙ last_over r.state (still_over s (call_in a) e) asked
 
 -- ---- a new sweep
 
@@ -351,11 +360,11 @@ module _ (kit out : List ℕ) (zero : (new_kit_to kit out).number ≡ 0) where
   code_new =
       record {
         state = record { kit = record { factors = k.factors; count = k.count }; place = 0; next = first_in factors (in_kit k); finished = false };
-        judgement = Judgement.Passed;
+        verdict = Judgement.Passed;
       }
 
-  demand_of : (asks : List Asked) → KitDemand3 s (made_from s asks)
-  demand_of asks = kit_demand_3 code_new.state.kit code_new (sym was_begun) refl (made_from s asks) (stored.kept asked reply_in (sweep_call kits) make (λ c r. refl) says s asks)
+  demand_of : (asked : List Asked) → KitDemand3 s (made_from s asked)
+  demand_of asked = kit_demand_3 code_new.state.kit code_new (sym was_begun) refl (made_from s asked) (kept s asked)
 
 -- ---- whether the kit is clean
 
@@ -404,38 +413,30 @@ clean_to_lem kit K s e rest n =
 
 -- ---- demand 3
 
--- the words that a new kit sweep leaves, and the state that they hold
-abbrev pub begun_words : (kit out : List ℕ) → List ℕ
-begun_words kit out = leaves (new_kit_to kit out) out
-
-abbrev pub begun_on : (kit : List ℕ) → State (Kit Factor)
-begun_on kit = fresh kits (kit_from kit)
-
 -- The calls asked on the words that a new kit sweep left: they are answered as these calls are, the words left in the end are those of the last one's state and are read as it, and of these calls demand 3 of kits holds.
--- With the number of their entries, as a caller counts them, 1 is told of those words at the finish exactly if the kit is clean, and 2 exactly if it is not; before the finish, 3.
-pub record KitDemand3To (kit out : List ℕ) (asks : List Asked) : Type 0 where
+-- With the number of their entries, 1 is told of those words at the finish exactly if the kit is clean, and 2 exactly if it is not; before the finish, 3.
+pub record KitDemand3To (kit out : List ℕ) (asked : List Asked) : Type 0 where
   pub made : List Made
-  pub calls : asked_in made ≡ calls_in asks
-  pub answers : kit_answers_to (begun_words kit out) asks ≡ kit_answers_in made
-  pub left : kit_left_to (begun_words kit out) asks ≡ take kit_length kit ++ behind_kit (last_in (begun_on kit) made) ++ drop kit_state_length out
-  pub back : let ws = kit_left_to (begun_words kit out) asks in kit_state_of (kit_from ws) ws ≡ last_in (begun_on kit) made
-  pub demand : KitDemand3 (begun_on kit) made
-  pub few : (last_in (begun_on kit) made).finished ≡ true → kit_entries_to (begun_words kit out) asks < 2 ^ 64
-  pub told_clean : (last_in (begun_on kit) made).finished ≡ true
-      → (clean_to (kit_left_to (begun_words kit out) asks) (kit_entries_to (begun_words kit out) asks) ≡ 1) ↔ CleanKit factors (kit_from kit)
-  pub told_not_clean : (last_in (begun_on kit) made).finished ≡ true
-      → (clean_to (kit_left_to (begun_words kit out) asks) (kit_entries_to (begun_words kit out) asks) ≡ 2) ↔ ¬ CleanKit factors (kit_from kit)
-  pub told_unfinished : (last_in (begun_on kit) made).finished ≡ false → (n : ℕ) → clean_to (kit_left_to (begun_words kit out) asks) n ≡ 3
+  pub calls : asked_in made ≡ calls_in asked
+  pub answers : kit_answers_to (leaves (new_kit_to kit out) out) asked ≡ kit_answers_in made
+  pub left : kit_left_to (leaves (new_kit_to kit out) out) asked ≡ take kit_length kit ++ behind_kit (last_in (fresh kits (kit_from kit)) made) ++ drop kit_state_length out
+  pub back : let ws = kit_left_to (leaves (new_kit_to kit out) out) asked in kit_state_of (kit_from ws) ws ≡ last_in (fresh kits (kit_from kit)) made
+  pub demand : KitDemand3 (fresh kits (kit_from kit)) made
+  pub told_clean : (last_in (fresh kits (kit_from kit)) made).finished ≡ true
+      → (clean_to (kit_left_to (leaves (new_kit_to kit out) out) asked) (entries_in made) ≡ 1) ↔ CleanKit factors (kit_from kit)
+  pub told_not_clean : (last_in (fresh kits (kit_from kit)) made).finished ≡ true
+      → (clean_to (kit_left_to (leaves (new_kit_to kit out) out) asked) (entries_in made) ≡ 2) ↔ ¬ CleanKit factors (kit_from kit)
+  pub told_unfinished : (last_in (fresh kits (kit_from kit)) made).finished ≡ false → (n : ℕ) → clean_to (kit_left_to (leaves (new_kit_to kit out) out) asked) n ≡ 3
 
-module _ (kit out : List ℕ) (zero : (new_kit_to kit out).number ≡ 0) (asks : List Asked) where
+module _ (kit out : List ℕ) (zero : (new_kit_to kit out).number ≡ 0) (asked : List Asked) where
   abbrev begun : State (Kit Factor)
-  begun = begun_on kit
+  begun = fresh kits (kit_from kit)
 
   abbrev last : State (Kit Factor)
-  last = last_in begun (made_from begun asks)
+  last = last_in begun (made_from begun asked)
 
   abbrev words : List ℕ
-  words = kit_left_to (begun_words kit out) asks
+  words = kit_left_to (leaves (new_kit_to kit out) out) asked
 
   abbrev rest : List ℕ
   rest = drop kit_state_length out
@@ -446,14 +447,11 @@ module _ (kit out : List ℕ) (zero : (new_kit_to kit out).number ≡ 0) (asks :
   over : begun.over ≡ kit_from (take kit_length kit)
   over = head_kit kit out zero
 
-  holds : Holds (take kit_length kit) rest last (kit_left_to (take kit_length kit ++ behind_kit begun ++ rest) asks)
-  holds = kit_left_are (take kit_length kit) K rest begun over asks
-
   words_are : words ≡ take kit_length kit ++ behind_kit last ++ rest
-  words_are = ap (λ (ws : List ℕ). kit_left_to ws asks) (new_words kit out zero) ∙ holds.1
+  words_are = ap (λ (ws : List ℕ). kit_left_to ws asked) (new_words kit out zero) ∙ kit_left_are (take kit_length kit) K rest begun over asked
 
   over_last : last.over ≡ kit_from (take kit_length kit)
-  over_last = holds.0
+  over_last = last_over (take kit_length kit) K rest begun over asked
 
   told_to : (n : ℕ) → clean_to words n ≡ (clean_answer (verdict_of last n)).number
   told_to n = ap (λ (ws : List ℕ). clean_to ws n) words_are ∙ clean_to_lem (take kit_length kit) K last over_last rest n
@@ -461,29 +459,25 @@ module _ (kit out : List ℕ) (zero : (new_kit_to kit out).number ≡ 0) (asks :
   says_to : (n : ℕ) (u : Told) → (clean_to words n ≡ told_number u) ↔ (verdict_of last n ≡ accepted u)
   says_to n u = let is = told_is last n u in ((λ e. is.0 (sym (told_to n) ∙ e)), (λ e. told_to n ∙ is.1 e))
 
-  answers_are : kit_answers_to (begun_words kit out) asks ≡ kit_answers_in (made_from begun asks)
-  answers_are = ap (λ (ws : List ℕ). kit_answers_to ws asks) (new_words kit out zero) ∙ kit_answers_are (take kit_length kit) K rest begun over asks
-
-  entries_are : kit_entries_to (begun_words kit out) asks ≡ entries_in (made_from begun asks)
-  entries_are = ap (stored.entries_to 2 asks) answers_are ∙ entries_counted begun asks
-
-  told_of : (u : Told) → (clean_to words (kit_entries_to (begun_words kit out) asks) ≡ told_number u) ↔ (verdict_of last (entries_in (made_from begun asks)) ≡ accepted u)
-  told_of u = rw entries_are (says_to (entries_in (made_from begun asks)) u)
-
-  pub kit_demand_3_to : KitDemand3To kit out asks
+  pub kit_demand_3_to : KitDemand3To kit out asked
   kit_demand_3_to =
-      let made = made_from begun asks in
-      let demand = demand_of kit out zero asks in
+      let made = made_from begun asked in
+      let demand = demand_of kit out zero asked in
       record {
         made = made;
-        calls = stored.asked_are asked reply_in (sweep_call kits) make (λ c r. refl) says begun asks;
-        answers = answers_are;
+        calls = asked_are begun asked;
+        answers = ap (λ (ws : List ℕ). kit_answers_to ws asked) (new_words kit out zero) ∙ kit_answers_are (take kit_length kit) K rest begun over asked;
         left = words_are;
         back = ap (λ (ws : List ℕ). kit_state_of (kit_from ws) ws) words_are ∙ kit_state_back (take kit_length kit) K.long last over_last rest;
         demand = demand;
-        few = λ h. omega (arith, entries_are, demand.few h);
-        told_clean = λ h. let to = told_of clean in let is = demand.told_clean h in ((λ e. is.0 (to.0 e)), (λ c. to.1 (is.1 c)));
-        told_not_clean = λ h. let to = told_of not_clean in let is = demand.told_not_clean h in ((λ e. is.0 (to.0 e)), (λ c. to.1 (is.1 c)));
+        told_clean = λ h.
+            let to = says_to (entries_in made) clean in
+            let is = demand.told_clean h in
+            ((λ e. is.0 (to.0 e)), (λ c. to.1 (is.1 c)));
+        told_not_clean = λ h.
+            let to = says_to (entries_in made) not_clean in
+            let is = demand.told_not_clean h in
+            ((λ e. is.0 (to.0 e)), (λ c. to.1 (is.1 c)));
         told_unfinished = λ h n. (says_to n unfinished).1 (demand.told_unfinished h n);
       }
 
@@ -540,8 +534,8 @@ none_faulty (f ∷ fs) a = ap₂ ◌||◌ (ap not (accepted_intact a.0.descripti
 pub kit_factors : (fs : List Factor) → AllOf SetUp fs → length fs ≤ 96 → (past : List ℕ) → in_kit (kit_from (kit_words fs past)) ≡ fs
 kit_factors fs a few past = factors_back past 96 fs a few
 
--- 1 to 96 factors that set-up accepted, no two described alike, written one after another, with any words past them up to 961 words or more
-module _ (fs : List Factor) (a : AllOf SetUp fs) (some : 0 < length fs) (few : length fs ≤ 96) (apart : Apart (λ f g. described f ≢ described g) fs) (past : List ℕ) (long : kit_length ≤ length (kit_words fs past)) where
+-- 1 to 96 factors that set-up accepted, no two alike, written one after another, with any words past them up to 961 words or more
+module _ (fs : List Factor) (a : AllOf SetUp fs) (some : 0 < length fs) (few : length fs ≤ 96) (apart : two_alike alike fs ≡ false) (past : List ℕ) (long : kit_length ≤ length (kit_words fs past)) where
   counted : eqb (length fs) 0 || ltb 96 (length fs) ≡ false
   counted = ap₂ ◌||◌ (ne_eqb (length fs) 0 (λ e. omega (arith, some, e))) (le-ltb 96 (length fs) few)
 
@@ -555,7 +549,7 @@ module _ (fs : List Factor) (a : AllOf SetUp fs) (some : 0 < length fs) (few : l
   no_fault =
       let same = kit_factors fs a few past in (
         ap (λ (l : List Factor). eqb (length l) 0 || ltb 96 (length fs)) same ∙ counted,
-        (ap (any_of faulty) same ∙ none_faulty fs a, (ap (two_alike alike) same ∙ (apart_described fs).1 apart, tt)),
+        (ap (any_of faulty) same ∙ none_faulty fs a, (ap (two_alike alike) same ∙ apart, tt)),
       )
 
   -- They are formed,

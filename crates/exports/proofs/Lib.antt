@@ -4,7 +4,6 @@ pub mod KitWordLaws
 pub mod AnswerLaws
 pub mod KitAnswerLaws
 pub mod WordLaws
-pub mod Stored
 pub mod Demand3
 pub mod KitDemand3
 pub mod Examples

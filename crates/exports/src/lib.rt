@@ -6,7 +6,7 @@ ghost use Rattle.reading.specs.Reading.{outcome_of as readingSays};
 ghost use Rattle.sweep.specs.Answers.{view_of};
 ghost use Rattle.marks.specs.Answers.{refusal_of, First};
 ghost use Rattle.kit.specs.Answers.{kit_of, view_of as kitView};
-ghost use Rattle.exports.specs.Kits.{kit_length, kit_state_length, any_damaged, kit_from, kit_state_of, behind_kit, kit_unfit, form_to, new_kit_to, kit_sweep_to, clean_to};
+ghost use Rattle.exports.specs.Kits.{any_damaged, kit_from, kit_state_of, behind_kit, kit_unfit, form_to, new_kit_to, kit_sweep_to, clean_to};
 ghost use Rattle.exports.specs.Words.{flag_word, flag_from, factor_from, factor_words, damaged, state_of, state_words};
 ghost use Rattle.exports.specs.Answers.{taken, taken_of, leaves, set_up_to, direction_number, product_words, quotient_words, reading_words, multiply_to, reading_answer, read_to, tally_words, tally_to, divide_to, divide_reading_to, new_sweep_to, sweep_to};
 
@@ -425,7 +425,7 @@ pub extern "C" fn gusnalip_sweep(
 
 // A kit from its words: the number, and every place, be it counted or not.
 fn kit_from(words: &[u64]) -> Kit
-    requires { kit_length ≤ length words.now }
+    requires { 961 ≤ length words.now }
     ensures { kit_of result ≡ kit_from words.now }
 {
     let first = factor_from(&words[1..]);
@@ -443,7 +443,7 @@ fn kit_from(words: &[u64]) -> Kit
 
 // Whether the words of one of so many factors of a kit are damaged.
 fn any_damaged(words: &[u64], count: usize) -> bool
-    requires { (kit_length ≤ length words.now) × (count ≤ 96) }
+    requires { (961 ≤ length words.now) × (count ≤ 96) }
     ensures { result ≡ any_damaged count (drop 1 words.now) }
 {
     let mut i = 0;
@@ -458,7 +458,7 @@ fn any_damaged(words: &[u64], count: usize) -> bool
 
 // Whether a kit in a caller's words, of which so many are due, is taken, for an answer that needs so much room: 255 where either is too short, 42 by the number, 31 where words of a factor that is counted are damaged.
 fn take_kit(words: &[u64], due: usize, room: usize, needed: usize) -> Judgement
-    requires { kit_length ≤ due }
+    requires { 961 ≤ due }
     ensures { First (kit_unfit words.now due room needed) (refusal_of result) }
 {
     if words.len() < due {
@@ -479,7 +479,7 @@ fn take_kit(words: &[u64], due: usize, room: usize, needed: usize) -> Judgement
 
 // A kit sweep's state over a kit, from the words behind the kit's.
 fn kit_state_of(kit: Kit, words: &[u64]) -> KitState
-    requires { kit_state_length ≤ length words.now }
+    requires { 964 ≤ length words.now }
     ensures { kitView result ≡ kit_state_of (kit_of kit) words.now }
 {
     KitState {
@@ -492,8 +492,8 @@ fn kit_state_of(kit: Kit, words: &[u64]) -> KitState
 
 // The words of a kit as they were given.
 fn copy_kit(kit: &[u64], out: &mut [u64])
-    requires { (kit_length ≤ length kit.now) × (kit_length ≤ length out.old) }
-    ensures { out.new ≡ sets out.old 0 (take kit_length kit.now) }
+    requires { (961 ≤ length kit.now) × (961 ≤ length out.old) }
+    ensures { out.new ≡ sets out.old 0 (take 961 kit.now) }
 {
     let mut i = 0;
     while i < KIT_WORDS {
@@ -504,8 +504,8 @@ fn copy_kit(kit: &[u64], out: &mut [u64])
 
 // The words behind a kit's: place, next significand and finished mark.
 fn put_behind(place: usize, next: u64, finished: bool, out: &mut [u64])
-    requires { kit_state_length ≤ length out.old }
-    ensures { out.new ≡ sets out.old kit_length (place ∷ next ∷ flag_word finished ∷ []) }
+    requires { 964 ≤ length out.old }
+    ensures { out.new ≡ sets out.old 961 (place ∷ next ∷ flag_word finished ∷ []) }
 {
     out[961] = place as u64;
     out[962] = next;
@@ -536,8 +536,8 @@ pub extern "C" fn gusnalip_new_kit_sweep(kit: &[u64], out: &mut [u64]) -> u32
         Judgement::Refused(k) => k,
         Judgement::Passed => {
             let begun = kit::new_state(kit_from(kit));
-            let judgement = begun.judgement;
-            match judgement {
+            let verdict = begun.verdict;
+            match verdict {
                 Judgement::Refused(k) => k,
                 Judgement::Passed => {
                     let s = begun.state;
@@ -560,7 +560,7 @@ pub extern "C" fn gusnalip_kit_sweep(
     counts: &mut [u64],
 ) -> u32
     ensures value { result ≡ (kit_sweep_to state.old cap list.old free counts.old).number }
-    ensures state_after { state.new ≡ sets state.old kit_length (kit_sweep_to state.old cap list.old free counts.old).state }
+    ensures state_after { state.new ≡ sets state.old 961 (kit_sweep_to state.old cap list.old free counts.old).state }
     ensures list_after { list.new ≡ (kit_sweep_to state.old cap list.old free counts.old).list }
     ensures counts_after { counts.new ≡ sets counts.old 0 (kit_sweep_to state.old cap list.old free counts.old).counts }
 {

@@ -48,10 +48,10 @@ Beside k s (Judgement.Passed) = Unit {0}
 Beside k s (Judgement.Refused n) = s ≡ record { kit = k; place = 0; next = 0; finished = false }
 
 abbrev pub BesideRefusal : Kit → NewKitSweep → Type 0
-BesideRefusal k r = Beside k r.state r.judgement
+BesideRefusal k r = Beside k r.state r.verdict
 
 abbrev pub new_of : NewKitSweep → Outcome (State (calls.Kit Factor))
-new_of r = new_by r.state r.judgement
+new_of r = new_by r.state r.verdict
 
 -- what an accepted call returns as numbers
 abbrev pub result_of : KitCounts → Result

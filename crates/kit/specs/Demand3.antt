@@ -1,19 +1,18 @@
 -- Demand 3 of kits of factors: of every list of calls that were made from a new state, each of them keeping the contract of `kit_call` at the state that the one before handed back.
 -- `WholeKit` (in `calls`) has what request W6 demands of the calls that are asked; here it is said of those that were made, in the papers' words. What stands in quotes is W6's. Assumes nothing.
-use Rattle.std.specs.Prelude.{◌≡◌, refl, Bool, false, cond, ◌↔◌, eqb, ltb, length, drop}
-use Rattle.std.proofs.Common.{sym, ◌∙◌, arith, eqb-true, ltb-false, pow_pos, length-take}
+use Rattle.std.specs.Prelude.{◌≡◌, refl, Bool, false, cond, ◌↔◌, eqb, length, drop}
+use Rattle.std.proofs.Common.{sym, ◌∙◌, arith, eqb-true, pow_pos}
 use Rattle.std.proofs.Math.Path.{ap, subst}
 use Rattle.std.proofs.Math.Bool.{true}
 use mathlib.Core.List.{List, [], ◌∷◌, ◌++◌, Memᴰ}
-use Prim.Native.Nat.{ℕ, suc, ◌+◌, ◌-◌, ◌*◌, ◌^◌, ◌≤◌, ◌<◌}
+use Prim.Native.Nat.{ℕ, suc, ◌+◌, ◌-◌, ◌*◌, ◌/◌, ◌≤◌, ◌<◌}
 use Rattle.std.proofs.lemmas.Bool.{eqb-false}
 use Rattle.marks.specs.declared.Judgement.{Judgement}
-use Rattle.marks.specs.Answers.{NoneHolds, Outcome, refused, accepted, answer}
-use Rattle.marks.specs.AnswerLaws.{only_accepted, none_refuses, or_false}
+use Rattle.marks.specs.Answers.{NoneHolds, Outcome, refused, accepted}
+use Rattle.marks.specs.AnswerLaws.{only_accepted, none_refuses}
 use Rattle.rounding.specs.Round.{HasBits}
 use Rattle.factor.specs.declared.Factor.{Factor}
 use Rattle.factor.specs.Context.{context_of, lower_of, upper_of}
-use Rattle.factor.specs.Precision.{most_precision}
 use Rattle.factor.specs.SetUp.{Sound}
 use Rattle.product.specs.Product.{product_by}
 use Rattle.product.specs.Marks.{mark_by, SaysBy}
@@ -26,36 +25,32 @@ use Rattle.calls.specs.ByRow.{row_call}
 use Rattle.calls.specs.Whole.{sweeps, state_after, IfAccepted, words_in, Ascends, fed_by}
 use Rattle.calls.proofs.RowLaws.{row_ascends, row_exactly}
 use Rattle.calls.proofs.RefusalLaws.{between, refused_same, over_kept}
-use Rattle.calls.proofs.ListLaws.{entries_are}
-use Rattle.calls.proofs.CallLaws.{if_accepted, by_row_lem, call_wrote, rounds_right}
+use Rattle.calls.proofs.ListLaws.{entries_length, entries_are}
+use Rattle.calls.proofs.CallLaws.{if_accepted, by_row_lem, rounds_right}
 use Rattle.calls.proofs.SameLaws.{after_stands}
 use Rattle.calls.proofs.Demand3.{each}
 use Rattle.calls.proofs.Made as calls
 use Rattle.calls.proofs.Made.{replies_by}
 use Rattle.calls.specs.Kit as kit
 use Rattle.calls.specs.Kit.{in_kit, place_size, position, place_in, significand_in, suspect_in, mark_in, has_in, searched_in}
-use Rattle.calls.proofs.KitLaws.{place_of, position_is, all_at, Passed, suspect_placed, own_suspect, kit_through, kit_laws}
-use Rattle.calls.proofs.KitFormed.{state_over, faults_same}
-use Rattle.calls.proofs.KitRows.{pairs_at, list_of, lists_from, CleanKit, same_marks, lists_few}
+use Rattle.calls.proofs.KitLaws.{place_of, position_is, all_at, entry_laws, Passed, suspect_placed, own_suspect, kit_through, kit_laws}
+use Rattle.calls.proofs.KitRows.{pairs_at, list_of, lists_from, CleanKit, same_marks}
 use Rattle.calls.proofs.KitDemand.{WholeKit, whole_kit, separate_lists}
-use Rattle.calls.proofs.KitSearched.{Searched, call_searched}
 use Rattle.sweep.specs.declared.SweepState.{SweepState}
 use Rattle.sweep.specs.declared.NewSweep.{NewSweep}
 use Rattle.sweep.specs.Engine as sweep
 use Rattle.sweep.proofs.EngineLaws.{suspect_is, mark_is}
-use Rattle.sweep.proofs.StepLaws.{last_short}
 use Rattle.sweep.specs.Answers as swept
 use Rattle.sweep.proofs.Demand3 as separate
 use Rattle.kit.specs.declared.Kit.{Kit}
 use Rattle.kit.specs.declared.KitState.{KitState}
 use Rattle.kit.specs.declared.NewKitSweep.{NewKitSweep}
-use Rattle.kit.specs.declared.KitCounts.{KitCounts}
 use Rattle.kit.specs.declared.KitAnswer.{KitAnswer}
 use Rattle.kit.specs.declared.KitReply.{KitReply}
 use Rattle.kit.specs.declared.Verdict.{Verdict}
 use Rattle.kit.specs.Engine.{whole, factors, kits}
-use Rattle.kit.specs.EngineLaws.{passed_sound, whole_good, factor_laws, kits_lawful}
-use Rattle.kit.specs.Answers.{kit_of, view_of, new_of, result_of, answer_of, reply_of, Told, clean, not_clean, unfinished, told, verdict_of, verdict_says}
+use Rattle.kit.specs.EngineLaws.{passed_sound, factor_laws, kits_lawful}
+use Rattle.kit.specs.Answers.{kit_of, view_of, new_of, answer_of, reply_of, Told, clean, not_clean, unfinished, told, verdict_of, verdict_says}
 
 -- ---- the view loses nothing
 
@@ -72,7 +67,7 @@ view_tells s t h k e =
       finished = (e i).finished;
     }
 
--- The factors that a call searched in, by its states: from the place that it began at to the place handed back (`searched_there`).
+-- The factors that a call searched in, by its states: from the place that it began at to the place handed back.
 pub searched_is : (s t : KitState) → s.next < place_size → t.next < place_size → searched_in (view_of s) (view_of t) ≡ suc t.place - s.place
 searched_is s t h k = rw (place_of s.place s.next h, place_of t.place t.next k)
 
@@ -87,27 +82,11 @@ module _ (s : KitState) (c : Call) (r : KitReply) (left : List ℕ) (keeps : rep
         ap (λ (x : ReplyOf (State (kit.Kit Factor))). x.list) keeps ∙ same.1,
       )
 
-  -- An accepted one searched in just the factors from the place of its state to the place handed back.
-  pub searched_there : s.next < place_size → r.state.next < place_size → (n : KitCounts) → r.answer ≡ KitAnswer.Accepted n → (i : ℕ)
-      → Searched factors (in_kit (kit_of s.kit)) i (view_of s).next (view_of r.state).next ↔ ((s.place ≤ i) × (i ≤ r.state.place))
-  searched_there h k n q i =
-      let all = call_searched factor_laws (view_of s) c (reply_of r left) keeps (result_of n) (ap answer_of q) i in
-      let from = place_of s.place s.next h in
-      let to = place_of r.state.place r.state.next k in (
-        (λ x. (omega (arith, (all.0 x).0), omega (arith, (all.0 x).1))),
-        (λ x. all.1 (omega (arith, x.0), omega (arith, x.1))),
-      )
-
   -- Every call hands back the kit as given.
   pub kit_unaltered : r.state.kit ≡ s.kit
   kit_unaltered =
       let same : kit_of r.state.kit ≡ kit_of s.kit = ap (λ (x : ReplyOf (State (kit.Kit Factor))). x.state.over) keeps ∙ over_kept kits (view_of s) c in
       λ i. record { factors = (same i).factors; count = (same i).count }
-
--- What stands past the number of a kit counts for nothing: calls are answered alike (`past_number`, in `calls`), and so is whether the kit is clean.
-pub past_verdict : (k m : kit.Kit Factor) → in_kit k ≡ in_kit m → k.count ≡ m.count → (next : ℕ) (finished : Bool) (n : ℕ) → verdict_of (state_over next finished k) n ≡ verdict_of (state_over next finished m) n
-unfolding verdict_of
-past_verdict k m same number next finished n = ap (λ (l : List (ℕ × Bool)). answer l (told finished n)) (faults_same factors k m same number next finished)
 
 -- ---- where calls begin
 
@@ -123,7 +102,7 @@ pub record Made : Type 0 where
   pub reply : KitReply
   pub left : List ℕ
 
-abbrev pub asked : Made → Call
+abbrev asked : Made → Call
 asked m = m.asked
 
 abbrev pub reply_in : Made → ReplyOf (State (kit.Kit Factor))
@@ -150,9 +129,9 @@ last_in = calls.last_in asked reply_in
 abbrev pub EachIn : (State (kit.Kit Factor) → Call → ReplyOf (State (kit.Kit Factor)) → Type 0) → State (kit.Kit Factor) → List Made → Type 0
 EachIn = calls.EachIn asked reply_in
 
--- how many entries they wrote: "an entry takes two words"
+-- how many entries they wrote: half their words, since "an entry takes two words"
 abbrev pub entries_in : List Made → ℕ
-entries_in = calls.entries_in asked reply_in 2
+entries_in made = length (words_in (seen_in made)) / 2
 
 -- ---- the factors of a kit
 
@@ -183,7 +162,7 @@ listed_by i (f ∷ l) a = pairs_at i (words_in (separate.seen_in a.0.made)) ++ l
 
 -- ---- demand 3
 
--- "its rounds are at most 64 × (its trials + 2 × the number of those factors)", which it searched in, of an accepted call
+-- "trials and rounds added up over the factors it searched in; its rounds are at most 64 × (its trials + 2 × the number of those factors)", of an accepted call
 abbrev pub FewRounds : (before : State (kit.Kit Factor)) → Call → ReplyOf (State (kit.Kit Factor)) → Type 0
 FewRounds s c r = IfAccepted (λ (a : Result). a.rounds ≤ 64 * (a.trials + 2 * searched_in s r.state)) r.answer
 
@@ -211,7 +190,6 @@ pub record KitDemand3 (s : State (kit.Kit Factor)) (made : List Made) : Type 0 w
   pub nothing : (last_in s made).finished ≡ true → (words_in (seen_in made) ≡ []) ↔ CleanKit factors s.over
   -- and that is told by the state and the number of entries: clean exactly if the kit is, and not clean exactly if it is not; of a state that is not finished nothing is told
   pub pairs : length (words_in (seen_in made)) ≡ 2 * entries_in made
-  pub few : (last_in s made).finished ≡ true → entries_in made ≤ 96 * 2 ^ most_precision
   pub told_clean : (last_in s made).finished ≡ true → (verdict_of (last_in s made) (entries_in made) ≡ accepted clean) ↔ CleanKit factors s.over
   pub told_not_clean : (last_in s made).finished ≡ true → (verdict_of (last_in s made) (entries_in made) ≡ accepted not_clean) ↔ ¬ CleanKit factors s.over
   pub told_unfinished : (last_in s made).finished ≡ false → (n : ℕ) → verdict_of (last_in s made) n ≡ accepted unfinished
@@ -281,6 +259,7 @@ module _ (k : kit.Kit Factor) (good : NoneHolds (kits.new_faults k)) where
 
 -- ---- rounds
 
+-- what follows from what an accepted call answers
 -- On every state, also one that no calls lead to.
 pub few_rounds : (s : State (kit.Kit Factor)) (c : Call) → FewRounds s c (sweep_call kits s c)
 few_rounds s c = if_accepted (λ a r. r.few) (sweep_call kits s c).answer (rounds_right kits_lawful s c)
@@ -343,17 +322,10 @@ module _ (k : kit.Kit Factor) (good : NoneHolds (kits.new_faults k)) (made : Lis
   nothing_is h = rw seen_are (demand.clean (done h))
 
   pairs_are : length (words_in (seen_in made)) ≡ 2 * entries_in made
-  pairs_are = omega (arith, calls.kept_entries asked reply_in (sweep_call kits) 2 (call_wrote kits_lawful) s made kept)
-
-  -- no factor has more than 2^24 significands
-  entries_few : t.finished ≡ true → entries_in made ≤ 96 * 2 ^ most_precision
-  entries_few h =
-      let size = length-take k.count k.factors in
-      let most = ltb-false 96 k.count (or_false (eqb (length (in_kit k)) 0) (ltb 96 k.count) good.0).1 in
-      let significands : (f : Factor) → Passed factor_laws f → suc (whole f).last - (whole f).first ≤ 2 ^ most_precision =
-      λ f q. omega (arith, last_short f (whole f).first (whole f).last (whole_good f q)) in
-      let all = lists_few factor_laws k good (2 ^ most_precision) significands in
-      omega (arith, pairs_are, ap length (ap words_in seen_are ∙ demand.joins (done h)), all, size, most)
+  pairs_are =
+      let words = demand.whole.words in
+      let two = ap (λ (l : List (SeenOf (State (kit.Kit Factor)))). length (words_in l)) seen_are ∙ ap length words.are ∙ entries_length entry_laws words.listed in
+      omega (arith, two)
 
   -- no entry is there exactly if the kit is clean
   entries_clean : t.finished ≡ true → (entries_in made ≡ 0) ↔ CleanKit factors k
@@ -390,7 +362,6 @@ module _ (k : kit.Kit Factor) (good : NoneHolds (kits.new_faults k)) (made : Lis
         joins = λ h apart. ap words_in seen_are ∙ demand.joins (done h) ∙ separate_all 0 (in_kit k) apart;
         nothing = nothing_is;
         pairs = pairs_are;
-        few = entries_few;
         told_clean = λ h.
             let is = told_is h clean in
             let none = entries_clean h in
@@ -405,9 +376,9 @@ module _ (k : kit.Kit Factor) (good : NoneHolds (kits.new_faults k)) (made : Lis
       }
 
 -- Demand 3 of kits: `new_state` accepted a kit, and the calls made from the state that it gave kept the contract of `kit_call`.
-pub kit_demand_3 : (k : Kit) (r : NewKitSweep) → new_of r ≡ new_state kits (kit_of k) → r.judgement ≡ Judgement.Passed → (made : List Made) → Kept (view_of r.state) made → KitDemand3 (view_of r.state) made
+pub kit_demand_3 : (k : Kit) (r : NewKitSweep) → new_of r ≡ new_state kits (kit_of k) → r.verdict ≡ Judgement.Passed → (made : List Made) → Kept (view_of r.state) made → KitDemand3 (view_of r.state) made
 kit_demand_3 k r new passed made kept =
-    let begun : new_state kits (kit_of k) ≡ accepted (view_of r.state) = sym new ∙ ap (λ (v : Judgement). new_of (record { state = r.state; judgement = v })) passed in
+    let begun : new_state kits (kit_of k) ≡ accepted (view_of r.state) = sym new ∙ ap (λ (v : Judgement). new_of (record { state = r.state; verdict = v })) passed in
     let good = only_accepted (kits.new_faults (kit_of k)) (fresh kits (kit_of k)) (view_of r.state) begun in
     subst (λ (s : State (kit.Kit Factor)). Kept s made → KitDemand3 s made) good.1 (from_fresh (kit_of k) good.0 made) kept
 

@@ -42,9 +42,9 @@ called s cap list free = sweep_call kits s (call_of cap list free)
 abbrev answered : (trials rounds place : ℕ) → State (Kit Factor) → List ℕ → ReplyOf (State (Kit Factor))
 answered t r p s list = record { answer = accepted (record { trials = t; rounds = r; place = p }); state = s; list = list }
 
--- a call that is refused with a number: the state as given, no counts, the list as it was
-abbrev Declined : (number : ℕ) → State (Kit Factor) → (cap : ℕ) → List ℕ → (free : ℕ) → Type 0
-Declined n s cap list free = called s cap list free ≡ record { answer = refused n; state = s; list = list }
+-- what a refused one answers
+abbrev declined : (number : ℕ) → State (Kit Factor) → List ℕ → ReplyOf (State (Kit Factor))
+declined n s list = record { answer = refused n; state = s; list = list }
 
 -- ---- the kit of three
 
@@ -76,28 +76,70 @@ alone : called (state 1 0 8 false) 100 (7 ∷ 7 ∷ []) 0 ≡ answered 2 0 0 (st
 unfolding called P1 P2 P3
 alone = refl
 
--- ---- refusals
+-- ---- refusals of a kit: its number first, then 31, then 43
 
--- Of a kit: no factor, 97, a damaged one (P1 stands there twice too), P1 twice.
-kit_refused : (begun 0 ≡ refused 42) × (begun 97 ≡ refused 42) × (begun 5 ≡ refused 31) × (begun 4 ≡ refused 43)
+new_42_empty : begun 0 ≡ refused 42
 unfolding begun P1 P2 P3
-kit_refused = (refl, refl, refl, refl)
+new_42_empty = refl
 
--- Of a call's state, whatever else is wrong: the same, then a place with no factor, a next significand outside that factor's, a finished one.
-state_refused : Declined 42 (state 0 0 8 true) 0 [] 0
-    × Declined 42 (state 97 9 8 true) 0 [] 0
-    × Declined 31 (state 5 9 8 true) 0 [] 0
-    × Declined 43 (state 4 9 8 true) 0 [] 0
-    × Declined 32 (state 3 3 8 true) 0 [] 0
-    × Declined 32 (state 3 2 16 true) 0 [] 0
-    × Declined 33 (state 3 2 15 true) 0 [] 0
-unfolding called P1 P2 P3
-state_refused = (refl, refl, refl, refl, refl, refl, refl)
+new_42_above : begun 97 ≡ refused 42
+unfolding begun P1 P2 P3
+new_42_above = refl
 
--- Of a call: cap 0, one free place, a first free place past the end.
-call_refused : Declined 18 (state 3 0 8 false) 0 [] 0 × Declined 44 (state 3 0 8 false) 100 (7 ∷ 7 ∷ 7 ∷ []) 2 × Declined 44 (state 3 0 8 false) 100 (7 ∷ 7 ∷ 7 ∷ []) 4
+-- P1 stands there twice too
+new_31 : begun 5 ≡ refused 31
+unfolding begun P1 P2 P3
+new_31 = refl
+
+new_43 : begun 4 ≡ refused 43
+unfolding begun P1 P2 P3
+new_43 = refl
+
+-- ---- and of a call: it repeats these, then 32, 33, 18 and 44
+
+call_42_empty : called (state 0 0 8 true) 0 [] 0 ≡ declined 42 (state 0 0 8 true) []
 unfolding called P1 P2 P3
-call_refused = (refl, refl, refl)
+call_42_empty = refl
+
+call_42_above : called (state 97 9 8 true) 0 [] 0 ≡ declined 42 (state 97 9 8 true) []
+unfolding called P1 P2 P3
+call_42_above = refl
+
+call_31 : called (state 5 9 8 true) 0 [] 0 ≡ declined 31 (state 5 9 8 true) []
+unfolding called P1 P2 P3
+call_31 = refl
+
+call_43 : called (state 4 9 8 true) 0 [] 0 ≡ declined 43 (state 4 9 8 true) []
+unfolding called P1 P2 P3
+call_43 = refl
+
+-- a place with no factor
+call_32_place : called (state 3 3 8 true) 0 [] 0 ≡ declined 32 (state 3 3 8 true) []
+unfolding called P1 P2 P3
+call_32_place = refl
+
+-- a next significand outside that factor's
+call_32_next : called (state 3 2 16 true) 0 [] 0 ≡ declined 32 (state 3 2 16 true) []
+unfolding called P1 P2 P3
+call_32_next = refl
+
+call_33 : called (state 3 2 15 true) 0 [] 0 ≡ declined 33 (state 3 2 15 true) []
+unfolding called P1 P2 P3
+call_33 = refl
+
+call_18 : called (state 3 0 8 false) 0 [] 0 ≡ declined 18 (state 3 0 8 false) []
+unfolding called P1 P2 P3
+call_18 = refl
+
+-- one free place
+call_44 : called (state 3 0 8 false) 100 (7 ∷ 7 ∷ 7 ∷ []) 2 ≡ declined 44 (state 3 0 8 false) (7 ∷ 7 ∷ 7 ∷ [])
+unfolding called P1 P2 P3
+call_44 = refl
+
+-- a first free place past the end
+call_44_past : called (state 3 0 8 false) 100 (7 ∷ 7 ∷ 7 ∷ []) 4 ≡ declined 44 (state 3 0 8 false) (7 ∷ 7 ∷ 7 ∷ [])
+unfolding called P1 P2 P3
+call_44_past = refl
 
 -- ---- whether a kit is clean
 
@@ -106,10 +148,18 @@ verdict : State (Kit Factor) → (entries : ℕ) → Outcome Told
 unfolding verdict_of answer intact set_up applied_of scale_of tie_rule parts_at rounded nearest Ieee.round Ieee.size Ieee.span Ieee.climb Ieee.to_bits any_of two_alike alike has_in
 verdict s entries = verdict_of s entries
 
--- P1 by itself at its finish, with no entry; the kit of three at its finish, and before it; a place with no factor
-told : (verdict (state 1 0 15 true) 0 ≡ accepted clean)
-    × (verdict (state 3 2 15 true) 2 ≡ accepted not_clean)
-    × (verdict (state 3 2 9 false) 1 ≡ accepted unfinished)
-    × (verdict (state 3 3 8 true) 0 ≡ refused 32)
+is_clean : verdict (state 1 0 15 true) 0 ≡ accepted clean
 unfolding verdict P1 P2 P3
-told = (refl, refl, refl, refl)
+is_clean = refl
+
+is_not_clean : verdict (state 3 2 15 true) 2 ≡ accepted not_clean
+unfolding verdict P1 P2 P3
+is_not_clean = refl
+
+is_unfinished : verdict (state 3 2 9 false) 1 ≡ accepted unfinished
+unfolding verdict P1 P2 P3
+is_unfinished = refl
+
+verdict_32 : verdict (state 3 3 8 true) 0 ≡ refused 32
+unfolding verdict P1 P2 P3
+verdict_32 = refl

@@ -91,15 +91,15 @@ first_is k long good = ap (λ (l : List Factor). position 0 (first_in factors l)
 
 module _ (k : code.Kit) {v : Judgement} (is : First (kits.new_faults (kit_of k)) (refusal_of v)) where
   -- a refused kit has no state, whatever stands beside the refusal
-  pub new_refused : {n : ℕ} (s : KitState) → v ≡ Judgement.Refused n → new_of (record { state = s; judgement = v }) ≡ new_state kits (kit_of k)
-  new_refused s e = ap (λ (v : Judgement). new_of (record { state = s; judgement = v })) e ∙ judged_refused is e (fresh kits (kit_of k))
+  pub new_refused : {n : ℕ} (s : KitState) → v ≡ Judgement.Refused n → new_of (record { state = s; verdict = v }) ≡ new_state kits (kit_of k)
+  new_refused s e = ap (λ (v : Judgement). new_of (record { state = s; verdict = v })) e ∙ judged_refused is e (fresh kits (kit_of k))
 
   -- one that is not has the state at its first significand
   pub new_passed : {X : ℕ} → length k.factors ≡ 96 → v ≡ Judgement.Passed → X ≡ least_of (get_or k.factors 0 no_factor).precision.bits
-      → new_of (record { state = record { kit = k; place = 0; next = X; finished = false }; judgement = v }) ≡ new_state kits (kit_of k)
+      → new_of (record { state = record { kit = k; place = 0; next = X; finished = false }; verdict = v }) ≡ new_state kits (kit_of k)
   new_passed {X} long e least =
       let good = judged_passed is e in
-      ap (λ (v : Judgement). new_of (record { state = record { kit = k; place = 0; next = X; finished = false }; judgement = v })) e
+      ap (λ (v : Judgement). new_of (record { state = record { kit = k; place = 0; next = X; finished = false }; verdict = v })) e
       ∙ ap (λ (z : ℕ). accepted (record { over = kit_of k; next = z; finished = false })) (ap (position 0) least ∙ first_is (kit_of k) long good)
       ∙ sym (none_refuses (kits.new_faults (kit_of k)) (fresh kits (kit_of k)) good)
 

@@ -26,6 +26,10 @@ abbrev pub passed_on : Place → (more : Bool) → Bool
 passed_on (At X) more = false
 passed_on Nowhere more = more
 
+-- what is done so far, gone on with from a on
+abbrev pub resumed_at : Work → ℕ → Work
+resumed_at w a = record { at = a; trials = w.trials; rounds = w.rounds; place = w.place; going = true; word = 0; left = Nowhere }
+
 -- what a call comes to that ended in the factor at a place: at a suspect, or past all, at its last significand
 abbrev pub ended_by : (at last : ℕ) → Work → Place → Halt
 ended_by i last w (At X) = record { at = i; next = X; finished = false; trials = w.trials; rounds = w.rounds; place = 2 * w.place }

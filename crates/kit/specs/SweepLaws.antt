@@ -19,7 +19,7 @@ use Rattle.calls.specs.State.{Range, entries}
 use Rattle.calls.specs.Engine.{AllOf, handed}
 use Rattle.calls.specs.Call.{Reply, Run, over, run, run_of, sweep_call}
 use Rattle.calls.proofs.RefusalLaws.{Ready, ready}
-use Rattle.calls.proofs.ListLaws.{entries_append, entries_length, entries_map, sets_append}
+use Rattle.calls.proofs.ListLaws.{entries_append, entries_map, sets_append}
 use Rattle.calls.proofs.LoopLaws.{run_bounded, words_within, call_done}
 use Rattle.calls.specs.Kit as calls
 use Rattle.calls.specs.Kit.{in_kit, place_size, position, has_in, entry_list}
@@ -30,14 +30,14 @@ use Rattle.sweep.specs.declared.Work.{Work}
 use Rattle.sweep.specs.Engine as sweep
 use Rattle.sweep.specs.Answers as said
 use Rattle.sweep.specs.Answers.{call_of, terms_by}
-use Rattle.sweep.specs.Steps.{begun_at, resumed_at, part_list, part_run, part_written, Parted, Partible}
+use Rattle.sweep.specs.Steps.{begun_at, part_list, part_run, part_written, Parted, Partible}
 use Rattle.sweep.proofs.StepLaws.{last_short}
-use Rattle.sweep.proofs.LoopLaws.{part_long, part_few}
+use Rattle.sweep.proofs.LoopLaws.{entries_size, part_few}
 use Rattle.kit.specs.declared.KitState.{KitState}
 use Rattle.kit.specs.Engine.{whole, factors, kits}
 use Rattle.kit.specs.EngineLaws.{passed_sound, whole_good, factor_laws, kits_lawful}
 use Rattle.kit.specs.Answers.{kit_of, view_of, no_factor}
-use Rattle.kit.specs.Steps.{part_of, passed_on, ended_by, ended_at, end_of, Taken}
+use Rattle.kit.specs.Steps.{part_of, passed_on, resumed_at, ended_by, ended_at, end_of, Taken}
 use Rattle.kit.specs.LoopLaws.{first_at}
 
 -- the call that the loop makes, and the factors that it goes through
@@ -209,6 +209,7 @@ module _ {s : KitState} {cap : ℕ} {tail₀ : List ℕ} {i : ℕ} {part : Sweep
     work_steps =
         record {
           sound = part_good;
+          going = g;
           from = k.from g;
           upto = k.upto g;
           capped = o.capped;
@@ -283,7 +284,7 @@ module _ {s : KitState} {cap : ℕ} {tail₀ : List ℕ} {i : ℕ} {part : Sweep
       went =
           let words : List ℕ = map (word_at i) done.words in
           let bounded = run_bounded sweep.engine (said.view_of part).over (cap - w.trials) (room - w.place) w.at in
-          let place : 2 * w.place + length (entries entry_list words) ≡ 2 * r.place = omega (arith, p.place, ap length pairs, entries_length (part_list true i) (part_long true i) done.words) in
+          let place : 2 * w.place + length (entries entry_list words) ≡ 2 * r.place = omega (arith, p.place, ap length pairs, entries_size true i done.words) in
           record {
             tried = omega (arith, o.tried, ap (λ (x : Run). x.trials) joined, p.trials);
             turned = omega (arith, o.turned, ap (λ (x : Run). x.rounds) joined, p.rounds);

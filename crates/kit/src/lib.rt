@@ -8,7 +8,7 @@ ghost use Rattle.calls.specs.Kit.{in_kit, any_of, two_alike, kit_faults, positio
 ghost use Rattle.sweep.specs.Answers.{call_of, terms_by};
 ghost use Rattle.kit.specs.Engine.{faulty, alike, factors, kits};
 ghost use Rattle.kit.specs.Answers.{kit_of, view_of, new_of, BesideRefusal, reply_of, verdict_says, verdict_of};
-ghost use Rattle.kit.specs.Steps.{part_of, passed_on, ended_at, end_of, Taken};
+ghost use Rattle.kit.specs.Steps.{part_of, passed_on, resumed_at, ended_at, end_of, Taken};
 
 use factor::{Factor, Precision};
 use marks::Judgement;
@@ -103,7 +103,7 @@ pub fn kit_check(k: Kit) -> Judgement
 #[derive(Drop)]
 pub struct NewKitSweep {
     pub state: KitState,
-    pub judgement: Judgement,
+    pub verdict: Judgement,
 }
 
 // What an accepted call counts: its trials and rounds, and the next first free place.
@@ -227,6 +227,22 @@ fn goes_on(left: Place, more: bool) -> bool
     }
 }
 
+// What is done so far, to be gone on with in the next factor, from its first significand on.
+fn resumed(w: Work, part: SweepState) -> Work
+    ensures { result ≡ resumed_at w part.first }
+{
+    let rounds = w.rounds;
+    Work {
+        at: part.first,
+        trials: w.trials,
+        rounds,
+        place: w.place,
+        going: true,
+        word: 0,
+        left: Place::Nowhere,
+    }
+}
+
 // Where an accepted call ends: the factor's place and the next significand, whether the sweep is finished, trials, rounds and words written.
 #[derive(Drop)]
 struct Halt {
@@ -283,7 +299,7 @@ fn sweep_on(s: KitState, cap: u64, tail: &mut [u32]) -> Halt
             i += 1;
             let g = k.factors[i];
             part = part_of(g, 0);
-            w = sweep::resumed(w, part.first);
+            w = resumed(w, part);
         }
     }
     ended(i, part, w)
@@ -322,26 +338,25 @@ pub fn kit_call(state: KitState, cap: u64, list: &mut [u32], free: usize) -> Kit
 pub fn new_state(k: Kit) -> NewKitSweep
     ensures { (new_of result ≡ new_state kits (kit_of k)) × BesideRefusal k result }
 {
-    let judgement = kit_check(k);
+    let verdict = kit_check(k);
     let mut state = KitState {
         kit: k,
         place: 0,
         next: 0,
         finished: false,
     };
-    match judgement {
-        Judgement::Refused(_) => NewKitSweep { state, judgement },
+    match verdict {
+        Judgement::Refused(_) => NewKitSweep { state, verdict },
         Judgement::Passed => {
             let f = k.factors[0];
             let p = f.precision;
             state.next = p.least();
-            NewKitSweep { state, judgement }
+            NewKitSweep { state, verdict }
         }
     }
 }
 
-// Whether a kit is clean, by its state and how many entries its calls wrote since the new one: told of a finished state only. The caller vouches that the state and the number are those of calls from a
-// new state, as no state holds what was listed before.
+// Whether a kit is clean, by its state and how many entries its calls wrote since the new one: told of a finished state only.
 pub fn kit_verdict(state: KitState, entries: u64) -> Verdict
     ensures { verdict_says result ≡ verdict_of (view_of state) entries }
 {

@@ -53,7 +53,7 @@ pub record Made : Type 0 where
   pub answer : SweepAnswer
   pub left : List ℕ
 
-abbrev pub asked : Made → Call
+abbrev asked : Made → Call
 asked m = m.asked
 
 abbrev pub reply_in : Made → Reply (Range Factor)

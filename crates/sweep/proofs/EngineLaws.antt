@@ -90,7 +90,7 @@ lawful =
             lists = word_laws;
             suspected = λ X h k q. not_right f s X (record { least = omega (arith, r.first_bits.least); most = omega (arith, r.last_bits.most) }) q;
             chain = halves_chain (high_from f) u.first u.last r.ordered (find_in f);
-            tiled = λ X h. let i = (calls.between u X).0 h in halves_tiled (high_from f) u.first u.last r.ordered (find_in f) X i.0 i.1;
+            tiled = λ X h k t. halves_tiled (high_from f) u.first u.last r.ordered (find_in f) X h k;
             finds =
                 halves_finds (high_from f) u.first u.last r.ordered (find_in f) (suspect f) (most_rounds f)
                 (λ a end h k i. next.finds_low (context_of f) (fine f s) (two f s) (lower_of f) (upper_of f) s.lower_end s.upper_end s.same a end i)

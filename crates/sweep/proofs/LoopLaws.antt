@@ -1,7 +1,7 @@
 -- Laws for the loop over the steps of a call in one factor, which writes the entries of its words, alone or behind a kit's place: what is done so far and what is left to do are the run. Assumes nothing.
 use Rattle.std.specs.Prelude.{◌≡◌, Bool, true, false, cond, ◌⊎◌, ℕ, suc, ◌+◌, ◌-◌, ◌*◌, ◌^◌, ◌≤◌, ◌<◌, drop, set}
 use Rattle.std.proofs.Math.Path.{refl, sym, ap}
-use Rattle.std.proofs.Common.{ap₂, ◌∙◌, subst, true≢false, inl, inr, arith, one-mul, mul_comm, le_trans, zero-add, add-one, length-append}
+use Rattle.std.proofs.Common.{ap₂, ◌∙◌, subst, true≢false, inl, inr, arith, one-mul, mul-zero, le_trans, zero-add, add-one, length-append}
 use Rattle.std.proofs.lemmas.Bool.{false≢true}
 use Rattle.std.proofs.Math.Logic.{⊎_map}
 use mathlib.Core.List.{List, [], ◌∷◌, append-nil}
@@ -18,13 +18,13 @@ use Rattle.factor.specs.Precision.{most_precision}
 use Rattle.suspects.specs.declared.Windows.{Windows}
 use Rattle.calls.specs.State.{listed, Listing, entries, word_list, Call}
 use Rattle.calls.specs.Engine.{once, stops_at, passed, handed}
-use Rattle.calls.specs.Call.{Run, run, run_of, sweep_call}
+use Rattle.calls.specs.Call.{Run, ahead, run, run_of, sweep_call}
 use Rattle.calls.specs.Plain.{row, tries}
 use Rattle.calls.specs.ByRow.{head_of}
 use Rattle.calls.proofs.RowLaws.{row_ascends, ascends_few}
 use Rattle.calls.proofs.SearchLaws.{once_few, passed_few}
 use Rattle.calls.proofs.TrialLaws.{listed_few, tries_within}
-use Rattle.calls.proofs.ListLaws.{entries_append, entries_length, entries_are, room_is, sets_append}
+use Rattle.calls.proofs.ListLaws.{entries_append, entries_are, room_is, sets_append}
 use Rattle.calls.proofs.RefusalLaws.{ready}
 use Rattle.calls.proofs.RunLaws.{run_is, rounds_few}
 use Rattle.calls.proofs.LoopLaws.{run_halts, run_rounds, tried_after, run_tries, run_bounded, call_done}
@@ -33,13 +33,15 @@ use Rattle.sweep.specs.declared.Work.{Work}
 use Rattle.sweep.specs.Engine.{suspect, windows_of, mark_of, engine}
 use Rattle.sweep.proofs.EngineLaws.{lawful}
 use Rattle.sweep.specs.Answers.{view_of, call_of, terms_by}
-use Rattle.sweep.specs.Steps.{must_stop, begun_at, resumed_at, halted_at, passed_at, with_word, tried_at, step_at, ahead_of, step_of, result_in, Stepping, Taken, part_list, part_run, part_written, Parted, Partible}
+use Rattle.sweep.specs.Steps.{must_stop, begun_at, halted_at, passed_at, with_word, tried_at, step_at, ahead_of, step_of, result_in, Stepping, Taken, part_list, part_run, part_written, Parted, Partible}
 use Rattle.sweep.proofs.StepLaws.{must_stop_lem, may_go, last_short, found_inside}
 
--- Its entries take as many places each.
-pub part_long : (paired : Bool) (lead w : ℕ) → length ((part_list paired lead).entry w) ≡ (part_list paired lead).places
-part_long true lead w = refl
-part_long false lead w = refl
+-- Entries take as many places each.
+pub entries_size : (paired : Bool) (lead : ℕ) (words : List ℕ) → length (entries (part_list paired lead) words) ≡ (part_list paired lead).places * length words
+unfolding entries
+entries_size paired lead [] = sym (mul-zero (part_list paired lead).places)
+entries_size true lead (w ∷ words) = omega (arith, entries_size true lead words)
+entries_size false lead (w ∷ words) = omega (arith, entries_size false lead words)
 
 -- What is left of the range, and the end.
 abbrev pub steps_left : SweepState → Work → ℕ
@@ -72,21 +74,15 @@ module _ (s : SweepState) (cap room : ℕ) (paired : Bool) (lead : ℕ) (w₀ : 
     pub off : w.going ≡ false → Parted all w₀ w × (tail ≡ part_written L w₀ all tail₀)
     pub long : length tail ≡ length tail₀
 
--- It begins with what was done before, and nothing since.
-pub part_start : {s : SweepState} {cap room : ℕ} {paired : Bool} (lead : ℕ) {done w : Work} {tail : List ℕ} → Partible s cap room paired (length tail) done → w ≡ resumed_at done done.at
-    → Working s cap room paired lead w tail w tail
-part_start lead p is =
-    rw is
+-- It begins with nothing done.
+pub part_start : {s : SweepState} {cap room : ℕ} {paired : Bool} (lead : ℕ) {w : Work} {tail : List ℕ} → Partible s cap room paired (length tail) w → Working s cap room paired lead w tail w tail
+part_start lead p =
     record {
-      asked = record { sound = p.sound; from = p.from; upto = p.upto; capped = p.capped; fits = p.fits; wide = p.wide; turns = p.turns };
+      asked = p;
       on = λ g. record { from = p.from; upto = p.upto; capped = p.capped; fits = p.fits; tried = refl; turned = refl; placed = refl; stops = refl; writes = refl };
-      off = λ g. absurd (true≢false g);
+      off = λ g. absurd (true≢false (sym p.going ∙ g));
       long = refl;
     }
-
--- What is done in the end is that and all the rest.
-pub part_done : {all : Run} {done r : Work} → Parted all (resumed_at done done.at) r → Parted all done r
-part_done p = record { trials = p.trials; rounds = p.rounds; place = p.place; left = p.left; going = p.going }
 
 -- A part in one factor takes at most 64 rounds for each of its significands, and three more searches.
 pub part_few : (s : SweepState) → NoneHolds (engine.new_faults (view_of s).over) → (cap room a : ℕ) → s.first ≤ a → a ≤ suc s.last → (run engine (view_of s).over cap room a).rounds ≤ 64 * (2 ^ most_precision + 3)
@@ -204,7 +200,7 @@ module _ {s : SweepState} {cap room : ℕ} {paired : Bool} {lead : ℕ} {w₀ : 
         ∙ run_tries engine (view_of s).over (cap - (w.trials + 1)) (room - w.place - 1) w.at X q
         ∙ ap (λ (m : Mark). tried_after found.rounds m X (run engine (view_of s).over (cap - (w.trials + 1)) (suc (room - w.place - 1) - length (listed m X)) (suc X))) e
         ∙ (λ j. tried_after found.rounds m X (run engine (view_of s).over (cap - sym tried j) (less j) ((sym (add-one X) ∙ sym at) j))) in
-        let size : length (entries lists (listed m X)) ≡ lists.places * length (listed m X) = entries_length lists (part_long paired lead) (listed m X) ∙ mul_comm (length (listed m X)) lists.places in
+        let size : length (entries lists (listed m X)) ≡ lists.places * length (listed m X) = entries_size paired lead (listed m X) in
         let moved : lists.places * w.place + length (entries lists (listed m X)) ≡ lists.places * next.place =
         omega (arith, size, ap (λ (z : ℕ). lists.places * z) place, mul-add lists.places w.place (length (listed m X))) in
         record {
@@ -313,6 +309,7 @@ module _ (s : SweepState) (cap : ℕ) (tail : List ℕ) (taken : Taken s cap (le
       rw e (
       record {
         sound = r.stands.sound;
+        going = refl;
         from = r.from;
         upto = omega (arith, r.upto);
         capped = omega arith;

@@ -53,10 +53,6 @@ must_stop trials cap place size = eqb trials cap || eqb place size
 abbrev pub begun_at : ℕ → Work
 begun_at a = record { at = a; trials = 0; rounds = 0; place = 0; going = true; word = 0; left = Nowhere }
 
--- what is done so far, gone on with from a on
-abbrev pub resumed_at : Work → ℕ → Work
-resumed_at w a = record { at = a; trials = w.trials; rounds = w.rounds; place = w.place; going = true; word = 0; left = Nowhere }
-
 -- the call stops at a suspect, or is over
 abbrev pub halted_at : Work → (rounds : ℕ) → Place → Work
 halted_at w n p = record { at = w.at; trials = w.trials; rounds = n; place = w.place; going = false; word = 0; left = p }
@@ -130,7 +126,7 @@ part_run s cap room w = run engine (view_of s).over (cap - w.trials) (room - w.p
 abbrev pub part_written : Listing → Work → Run → List ℕ → List ℕ
 part_written l w all list = sets list (l.places * w.place) (entries l all.words)
 
--- It is done: r is what was done before, w, and that. Left free: where the steps stood and their last word, which say nothing once they are done.
+-- it is done: r is what was done before, w, and that
 pub record Parted (all : Run) (w r : Work) : Type 0 where
   pub trials : r.trials ≡ w.trials + all.trials
   pub rounds : r.rounds ≡ w.rounds + all.rounds
@@ -141,6 +137,7 @@ pub record Parted (all : Run) (w r : Work) : Type 0 where
 -- the steps may be made: a new state over the factor and the range is not refused, and the counts and the entries fit
 pub record Partible (s : SweepState) (cap room : ℕ) (paired : Bool) (size : ℕ) (w : Work) : Type 0 where
   pub sound : NoneHolds (engine.new_faults (view_of s).over)
+  pub going : w.going ≡ true
   pub from : s.first ≤ w.at
   pub upto : w.at ≤ suc s.last
   pub capped : w.trials ≤ cap

@@ -9,7 +9,7 @@ ghost use Rattle.calls.specs.Call.{new_state, conditions, sweep_call};
 ghost use Rattle.calls.specs.Engine;
 ghost use Rattle.sweep.specs.Engine.{range, state_out, engine};
 ghost use Rattle.sweep.specs.Answers.{view_of, new_of, call_of, terms_by, result_of, reply_of};
-ghost use Rattle.sweep.specs.Steps.{cut_at, sought_before, ahead_in, Searchable, must_stop, begun_at, resumed_at, halted_at, with_word, tried_at, step_of, result_in, Room, Stepping, Taken, part_list, part_run, part_written, Parted, Partible};
+ghost use Rattle.sweep.specs.Steps.{cut_at, sought_before, ahead_in, Searchable, must_stop, begun_at, halted_at, with_word, tried_at, step_of, result_in, Room, Stepping, Taken, part_list, part_run, part_written, Parted, Partible};
 
 use factor::{Factor, Precision};
 use marks::{Judgement, Mark};
@@ -56,7 +56,7 @@ pub enum SweepAnswer {
     Refused(SweepRefusal),
 }
 
-// What a call has done so far, public for `kit` alone: where it goes on, its trials and rounds, and the next free place, counted in entries. Its last step says whether it goes on, which word to list where the place
+// What a call has done so far: where it goes on, its trials and rounds, and the next free place, counted in entries. Its last step says whether it goes on, which word to list where the place
 // has moved, and where it stopped.
 #[derive(Drop)]
 pub struct Work {
@@ -217,7 +217,7 @@ fn must_stop(trials: u64, cap: u64, place: usize, size: usize) -> bool
     place == size
 }
 
-// Nothing is done yet: public for `kit` alone, as is `steps_on`.
+// Nothing is done yet.
 pub fn begun(s: SweepState) -> Work
     ensures { result ≡ begun_at s.next }
 {
@@ -226,22 +226,6 @@ pub fn begun(s: SweepState) -> Work
         trials: 0,
         rounds: 0,
         place: 0,
-        going: true,
-        word: 0,
-        left: Place::Nowhere,
-    }
-}
-
-// What is done so far, to be gone on with from a significand on: public for `kit` alone, as is `begun`. All else is constant, as what a loop carries on costs time.
-pub fn resumed(w: Work, at: u64) -> Work
-    ensures { result ≡ resumed_at w at }
-{
-    let rounds = w.rounds;
-    Work {
-        at,
-        trials: w.trials,
-        rounds,
-        place: w.place,
         going: true,
         word: 0,
         left: Place::Nowhere,
@@ -349,7 +333,7 @@ fn ended(s: SweepState, w: Work) -> Swept
 }
 
 // All steps of a call in one factor, from what is done so far: they go on until a suspect must wait or none is left. A word goes into the next free place of the tail that is lent to them, or,
-// paired, behind a kit's place, into the next two. The room is how many entries fit there. Where the steps stood and the last word mean nothing once they are done, and are left free.
+// paired, behind a kit's place, into the next two. The room is how many entries fit there.
 pub fn steps_on(
     s: SweepState,
     cap: u64,
@@ -364,7 +348,7 @@ pub fn steps_on(
 {
     let f = s.factor;
     let windows = suspects::windows_of(f);
-    let mut w = resumed(done, done.at);
+    let mut w = done;
     while w.going {
         let next = step(s, windows, cap, room, w);
         let place = w.place;

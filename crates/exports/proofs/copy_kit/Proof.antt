@@ -1,6 +1,7 @@
 -- `exports::copy_kit` meets its contract: the words before i are copied. Assumes nothing.
 use Prim.Native.Nat.{◌-◌}
 use native.Mathlib.Omega.{arith}
+use borrow.Author.Rules.{rules}
 use Rattle.exports.proofs.KitWordLaws.{Copying, copy_start, copy_next, copy_end}
 use Rattle.exports.proofs.copy_kit.Statement.{statement}
 use Rattle.exports.proofs.copy_kit.Tie as tie

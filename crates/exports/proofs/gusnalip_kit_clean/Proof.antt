@@ -1,5 +1,5 @@
 -- `exports::gusnalip_kit_clean` meets its contract: what refuses the words or the state, or what is told of the kit. Assumes nothing.
-use mathlib.Core.Path.{◌≡◌, sym, ap, ◌∙◌}
+use mathlib.Core.Path.{◌≡◌, sym, ap, ap₂, ◌∙◌}
 use Prim.Native.Nat.{ℕ, ◌≤◌}
 use native.Mathlib.Omega.{arith}
 use lib.ListN.{length}
@@ -10,7 +10,7 @@ use Rattle.calls.specs.State.{State}
 use Rattle.calls.specs.Kit.{Kit}
 use Rattle.kit.specs.declared.Verdict.{Verdict}
 use Rattle.kit.specs.Answers.{Told, verdict_says, verdict_of}
-use Rattle.exports.specs.Kits.{kit_state_of, clean_answer, clean_to}
+use Rattle.exports.specs.Kits.{kit_from, kit_state_of, clean_answer, clean_to}
 use Rattle.exports.proofs.KitAnswerLaws.{kit_refused, kit_passed, kit_enough}
 use Rattle.exports.proofs.gusnalip_kit_clean.Statement.{statement}
 use Rattle.exports.proofs.gusnalip_kit_clean.Tie as tie

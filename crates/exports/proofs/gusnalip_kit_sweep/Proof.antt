@@ -1,5 +1,5 @@
 -- `exports::gusnalip_kit_sweep` meets its contract: the engine's reply as a number and words. Assumes nothing.
-use mathlib.Core.Path.{◌≡◌, sym, ap, ◌∙◌}
+use mathlib.Core.Path.{◌≡◌, refl, sym, ap, ◌∙◌}
 use mathlib.Core.List.{List}
 use Prim.Native.Nat.{ℕ, ◌^◌, ◌≤◌, ◌<◌}
 use native.Mathlib.Omega.{arith}
@@ -13,9 +13,10 @@ use Rattle.calls.specs.Call.{sweep_call}
 use Rattle.calls.specs.Kit.{Kit}
 use Rattle.sweep.specs.Answers.{call_of}
 use Rattle.kit.specs.declared.KitAnswer.{KitAnswer}
+use Rattle.kit.specs.declared.KitReply.{KitReply}
 use Rattle.kit.specs.declared.KitState.{KitState}
 use Rattle.kit.specs.Engine.{kits}
-use Rattle.kit.specs.Answers.{view_of, answer_of}
+use Rattle.kit.specs.Answers.{view_of, answer_of, reply_of}
 use Rattle.exports.specs.Answers.{SweepWords}
 use Rattle.exports.proofs.AnswerLaws.{Enough}
 use Rattle.exports.specs.Kits.{kit_state_of, kit_sweep_answer, kit_reply_words, kit_reply_to, kit_sweep_to}

@@ -49,8 +49,8 @@ answer c =
     ap (taken (start told)) (kit_passed a.kit.now 961 (length a.out.now) 964 told.before.before.take-kit.ensures told.enum_told.given.1)
     ∙ ap (new_kit_answer a.kit.now) (sym (c.new-state.ensures.0 ∙ ap (new_state kits) from.kit-from.ensures))
 
--- by how the kit is judged
-told_by : (c : tie.After-new-state) (v : Judgement) → c.new-state.result.judgement ≡ v
+-- where it has a verdict
+told_by : (c : tie.After-new-state) (v : Judgement) → c.new-state.result.verdict ≡ v
     → let a = (start c.before.before).args in new_kit_to a.kit.now a.out.now ≡ new_kit_answer a.kit.now (new_by c.new-state.result.state v)
 told_by c v e = answer c ∙ ap (λ (v : Judgement). new_kit_answer (start c.before.before).args.kit.now (new_by c.new-state.result.state v)) e
 
@@ -58,7 +58,7 @@ returns-2 : tie.Need-returns-2
 returns-2 c =
     let verdict = c.before in
     let begun = verdict.before.before in
-    gives (start begun.before.before).args.out.now (refl, refl) (told_by begun (Judgement.Refused verdict.judgement.given.0.0) verdict.judgement.given.1)
+    gives (start begun.before.before).args.out.now (refl, refl) (told_by begun (Judgement.Refused verdict.verdict.given.0.0) verdict.verdict.given.1)
 
 -- a significand is a word
 word : (c : tie.After-s) → c.before.before.before.new-state.result.state.next < 2 ^ 64

@@ -4,7 +4,7 @@ use native.Mathlib.Omega.{arith}
 use borrow.Author.Rules.{rules}
 use lib.ListN.{length, length-set}
 use Rattle.sweep.proofs.EngineLaws.{sound_of}
-use Rattle.sweep.proofs.LoopLaws.{Working, steps_left, part_start, part_done, part_steps, Stepped, part_stepped, one_word, two_words}
+use Rattle.sweep.proofs.LoopLaws.{Working, steps_left, part_start, part_steps, Stepped, part_stepped, one_word, two_words}
 use Rattle.sweep.proofs.steps_on.Statement.{statement}
 use Rattle.sweep.proofs.steps_on.Tie as tie
 
@@ -18,10 +18,10 @@ windows-of-requires : tie.Need-windows-of-requires invariant-loop decreases-loop
 windows-of-requires c κs = let start = c.before.before in sound_of start.args.s.factor start.requires.sound.0
 
 loop-holds : tie.Need-loop-init invariant-loop decreases-loop
-loop-holds c = let start = c.before.before.before.before in part_start start.args.lead start.requires c.resumed.ensures
+loop-holds c = let start = c.before.before.before in part_start start.args.lead start.requires
 
 step-requires : tie.Need-step-requires invariant-loop decreases-loop
-step-requires c κs = part_steps c.before.loop.invariant c.loop-test.true c.before.before.before.windows-of.ensures
+step-requires c κs = part_steps c.before.loop.invariant c.loop-test.true c.before.before.windows-of.ensures
 
 -- what the step leads to
 module _ (c : tie.After-step invariant-loop decreases-loop) where
@@ -50,7 +50,7 @@ module _ (c : tie.Then1 invariant-loop decreases-loop) where
   word_fits = ((stepped made).fits moved).1
 
   short : length turn.loop.tail * 4 < 2 ^ 64
-  short = let long = turn.loop.inv.long in omega (arith, memory turn.before.before.before.before)
+  short = let long = turn.loop.inv.long in omega (arith, memory turn.before.before.before)
 
 -- ---- two words
 
@@ -125,9 +125,9 @@ same_length : tie.Need-same-length invariant-loop decreases-loop
 same_length c = let long = c.before.loop.invariant.long in search rules
 
 returns : tie.Need-returns invariant-loop decreases-loop
-returns c = let all = rw c.before.before.resumed.ensures at (c.before.loop.invariant.off c.loop-test.false) in (part_done all.0, all.1)
+returns c = c.before.loop.invariant.off c.loop-test.false
 
 pub steps-on-spec : {M : Type 1} → statement M
 steps-on-spec =
-    tie.close (tie.spec invariant-loop decreases-loop windows-of-requires (λ c κs. search rules) loop-holds step-requires mul-tail mul-tail-2 slice-write-tail cast-tail mul-tail-3 add-tail mul-tail-4 slice-write-tail-2 cast-tail-2 mul-tail-5
+    tie.close (tie.spec invariant-loop decreases-loop windows-of-requires loop-holds step-requires mul-tail mul-tail-2 slice-write-tail cast-tail mul-tail-3 add-tail mul-tail-4 slice-write-tail-2 cast-tail-2 mul-tail-5
     slice-write-tail-3 loop-less loop-again loop-less-2 loop-again-2 loop-less-3 loop-again-3 same_length returns)
