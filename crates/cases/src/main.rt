@@ -21,6 +21,8 @@
 //   13 E (16)                       whether the kit is clean, its calls having written E entries: 01 clean, 02 not clean, 03 not finished
 //
 // The factor, the state and the kit's state are the exported words, at first all 0. A refusal is two decimal digits, and so is a mark: 01 right, 02 open, 03 wrong. A product, a quotient and a reading's answer end in the direction: 01 below, 02 equal, 03 above; those of significands then in the sign, 00 plus or 01 minus. Any other line is answered with 24.
+
+#![tactic(auto)]
 ghost use Rattle.std.specs.Prelude.{◌<◌, ◌≤◌};
 ghost use Rattle.factor.specs.SetUp.{Sound};
 ghost use Rattle.wide.specs.Value.{half_word};
@@ -69,7 +71,7 @@ fn not_a_line() {
 
 // ---- reading
 // What is read of a line so far: where its next field's blank stands, the last number, and whether all is well.
-#[derive(Drop)]
+#[derive(Clone, Copy)]
 struct Cursor {
     good: bool,
     at: usize,
@@ -77,7 +79,7 @@ struct Cursor {
 }
 
 // What a line says after its kind: up to five numbers, and whether they are all that it says.
-#[derive(Drop)]
+#[derive(Clone, Copy)]
 struct Numbers {
     good: bool,
     a: u64,

@@ -1,4 +1,6 @@
 // The engine for programs in other languages: numbers and lists of words in place of structs and enums. include/gusnalip.h declares the functions.
+
+#![tactic(auto)]
 ghost use Rattle.std.specs.Prelude.{◌≡◌, ◌≤◌, length, take, drop, [], ◌∷◌};
 ghost use Rattle.std.proofs.lemmas.List.Edits.{sets};
 ghost use Rattle.product.specs.declared.Device.{Device};
@@ -48,7 +50,7 @@ const TOO_SHORT: u32 = 255;
 const DAMAGED: u32 = 31;
 
 // What a caller's words of a factor tell: the factor, or why it is not taken.
-#[derive(Drop)]
+#[derive(Clone, Copy)]
 pub enum TakenFactor {
     Accepted(Factor),
     Refused(u32),

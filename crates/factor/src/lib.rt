@@ -1,5 +1,7 @@
 // A factor known only between two ends (document 01, "A factor"): its precision, its high and low part, and every refusal of one.
 
+#![tactic(auto)]
+
 ghost use Rattle.std.specs.Prelude.{◌≡◌, suc, ◌+◌, ◌-◌, ◌<◌, ◌≤◌, ◌^◌, false, ◌||◌, ltb, nat_abs};
 ghost use Rattle.std.specs.Float.Ieee;
 ghost use Rattle.std.specs.Float.{binary32};
@@ -17,7 +19,7 @@ ghost use Rattle.factor.specs.Stored.{LowStorable, Storable, applied_from};
 use rounding::TieRule;
 
 // A factor as an office describes it: sign, precision, scale and both ends, none of them judged yet. The ends describe the size.
-#[derive(Drop)]
+#[derive(Clone, Copy)]
 pub struct Description {
     pub minus: bool,
     pub precision: u32,
@@ -27,13 +29,13 @@ pub struct Description {
 }
 
 // A precision n: how many bits a significand has. What belongs to a precision is named here, once.
-#[derive(Drop)]
+#[derive(Clone, Copy)]
 pub struct Precision {
     pub bits: u32,
 }
 
 // The parts of a factor at one end: the high significand over 2 ^ (n - 1), and the low significand, signed, over 2 ^ places.
-#[derive(Drop)]
+#[derive(Clone, Copy)]
 pub struct Parts {
     pub high: u64,
     pub low: i64,
@@ -41,7 +43,7 @@ pub struct Parts {
 }
 
 // What a handheld applies: high and low part as binary32 numbers, and the scale. A zero low part is plus zero.
-#[derive(Drop)]
+#[derive(Clone, Copy)]
 pub struct Applied {
     pub high: f32,
     pub low: f32,
@@ -49,14 +51,14 @@ pub struct Applied {
 }
 
 // What is stored of a factor's size: the parts, and what a handheld applies.
-#[derive(Drop)]
+#[derive(Clone, Copy)]
 pub struct Stored {
     pub parts: Parts,
     pub applied: Applied,
 }
 
 // A factor: whether it lies below zero (request W5), precision, both ends, the parts, and what a handheld applies. All but the sign are those of the size.
-#[derive(Drop)]
+#[derive(Clone, Copy)]
 pub struct Factor {
     pub minus: bool,
     pub precision: Precision,
@@ -67,21 +69,21 @@ pub struct Factor {
 }
 
 // What set-up stores of a size, or one of the refusals 11 to 16.
-#[derive(Drop)]
+#[derive(Clone, Copy)]
 enum StoredAnswer {
     Accepted(Stored),
     Refused(u32),
 }
 
 // The answer to set-up: the factor, or one of the refusals 11 to 16.
-#[derive(Drop)]
+#[derive(Clone, Copy)]
 pub enum SetUp {
     Accepted(Factor),
     Refused(u32),
 }
 
 // The answer to a precision: the precision, or refusal 11.
-#[derive(Drop)]
+#[derive(Clone, Copy)]
 pub enum PrecisionAnswer {
     Accepted(Precision),
     Refused(u32),

@@ -1,4 +1,6 @@
 // Frames and report (document 01): a line read as a frame, and the lines that are printed, byte for byte.
+
+#![tactic(auto)]
 ghost use Rattle.std.specs.Prelude.{◌≡◌, [], ◌∷◌, ◌++◌, ◌+◌, ◌*◌, ◌<◌, ◌≤◌, length};
 ghost use Rattle.frame.specs.Digits.{digit_byte, digits, digit_value, field_at};
 ghost use Rattle.frame.specs.Frame.{signed_byte, spaced, frame_of, outcome_of};
@@ -27,21 +29,21 @@ const HEXADECIMAL: u64 = 16;
 const DECIMAL: u64 = 10;
 
 // What is read of a field of hexadecimal digits: its value, or that it is no such field.
-#[derive(Drop)]
+#[derive(Clone, Copy)]
 pub enum Field {
     Value(u64),
     Malformed,
 }
 
 // The answer to a line: the factor that it describes, or refusal 24.
-#[derive(Drop)]
+#[derive(Clone, Copy)]
 pub enum FrameAnswer {
     Frame(Description),
     Refused(u32),
 }
 
 // What is reported of a frame: its line's number, and how many significands were tried, found wrong and found open.
-#[derive(Drop)]
+#[derive(Clone, Copy)]
 pub struct Report {
     pub number: u64,
     pub trials: u64,

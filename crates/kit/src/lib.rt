@@ -1,4 +1,6 @@
 // Kits: up to 96 factors, swept one after another in calls of bounded work, with one cap and one list (request W6).
+
+#![tactic(auto)]
 ghost use Rattle.std.specs.Prelude.{◌≡◌, not, ◌-◌, ◌*◌, ◌^◌, ◌≤◌, ◌<◌, ltb, length};
 ghost use Rattle.wide.specs.Value.{word_bits};
 ghost use Rattle.marks.specs.Answers.{refusal_of, First, NoneHolds};
@@ -19,14 +21,14 @@ use sweep::{SweepState, Work};
 const MOST_FACTORS: usize = 96;
 
 // A kit: its factors, filled from the front, and their number. Places past the number hold anything and mean nothing.
-#[derive(Drop)]
+#[derive(Clone, Copy)]
 pub struct Kit {
     pub factors: [Factor; MOST_FACTORS],
     pub count: usize,
 }
 
 // A kit sweep's state: the kit, the place of the factor it stands at, the next significand there, and whether the sweep is finished.
-#[derive(Drop)]
+#[derive(Clone, Copy)]
 pub struct KitState {
     pub kit: Kit,
     pub place: usize,
@@ -100,14 +102,14 @@ pub fn kit_check(k: Kit) -> Judgement
 }
 
 // A new kit sweep: its state, which counts only where the kit is not refused. (An enum holds no array.)
-#[derive(Drop)]
+#[derive(Clone, Copy)]
 pub struct NewKitSweep {
     pub state: KitState,
     pub verdict: Judgement,
 }
 
 // What an accepted call counts: its trials and rounds, and the next first free place.
-#[derive(Drop)]
+#[derive(Clone, Copy)]
 pub struct KitCounts {
     pub trials: u64,
     pub rounds: u64,
@@ -115,21 +117,21 @@ pub struct KitCounts {
 }
 
 // The answer to a kit call: what it counts, or the refusal 42, 31, 43, 32, 33, 18 or 44.
-#[derive(Drop)]
+#[derive(Clone, Copy)]
 pub enum KitAnswer {
     Accepted(KitCounts),
     Refused(u32),
 }
 
 // What a kit call hands back: the state, and the answer beside it.
-#[derive(Drop)]
+#[derive(Clone, Copy)]
 pub struct KitReply {
     pub state: KitState,
     pub answer: KitAnswer,
 }
 
 // What is told of a kit by its state and its entries: clean, not clean, not yet to be told; or the refusal 42, 31, 43 or 32.
-#[derive(Drop)]
+#[derive(Clone, Copy)]
 pub enum Verdict {
     Clean,
     NotClean,
@@ -244,7 +246,7 @@ fn resumed(w: Work, part: SweepState) -> Work
 }
 
 // Where an accepted call ends: the factor's place and the next significand, whether the sweep is finished, trials, rounds and words written.
-#[derive(Drop)]
+#[derive(Clone, Copy)]
 struct Halt {
     at: usize,
     next: u64,

@@ -1,5 +1,7 @@
 // `plotconst`: reads frames on standard input, sweeps each, and prints words and reports (document 01, "Frames and report").
 // All that it computes is `stream::work`'s; here bytes are read and written. No contract can speak of that, so it is kept in sight: the loop of `main`.
+
+#![tactic(auto)]
 use libc::{STDIN_FILENO, STDOUT_FILENO};
 use stream::Next;
 

@@ -1,4 +1,6 @@
 // The product of a factor and a significand on either device, the two-step one of document 01 ("The product") and the one-step one of request W2, the direction of its last rounding (request W4), the factor's sign on it (request W5), and the mark of a value.
+
+#![tactic(auto)]
 ghost use Rattle.std.specs.Prelude.{◌≡◌, ◌+◌, ◌-◌, ◌*◌, ◌<◌, ◌≤◌, ◌^◌};
 ghost use Rattle.marks.specs.Answers.{refusal_of, First, accepted};
 ghost use Rattle.rounding.specs.Unit.{rn};
@@ -23,7 +25,7 @@ use rounding::{Direction, TieRule};
 use wide::Wide;
 
 // The handheld that makes a product.
-#[derive(Drop)]
+#[derive(Clone, Copy)]
 pub enum Device {
     // with the fused step: u1 = RN(Cl * x), then u2 = RN(Ch * x + u1)
     TwoStep,
@@ -32,21 +34,21 @@ pub enum Device {
 }
 
 // A product's size, from 1 to below 4: a significand of n bits, and its binade, 0 for [1, 2) and 1 for [2, 4).
-#[derive(Drop)]
+#[derive(Clone, Copy)]
 pub struct Product {
     pub significand: u64,
     pub binade: u32,
 }
 
 // A product's size as it was rounded: the direction is that of the last rounding (request W4), on the two-step device from Ch * x + u1.
-#[derive(Drop)]
+#[derive(Clone, Copy)]
 pub struct DirectedProduct {
     pub product: Product,
     pub direction: Direction,
 }
 
 // A product as it is answered: with the factor's sign (request W5), and the direction of the number that has it.
-#[derive(Drop)]
+#[derive(Clone, Copy)]
 pub struct SignedProduct {
     pub minus: bool,
     pub product: Product,
@@ -54,7 +56,7 @@ pub struct SignedProduct {
 }
 
 // The answer to a multiplication: the product with its sign and its direction in the case of its mark, or the refusal 31 or 17.
-#[derive(Drop)]
+#[derive(Clone, Copy)]
 pub enum ProductAnswer {
     Right(SignedProduct),
     Open(SignedProduct),

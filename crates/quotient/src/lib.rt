@@ -1,4 +1,6 @@
 // The quotient of a significand by a factor's high part, rounded once (request W1), with the direction of that rounding (request W4) and the factor's sign (request W5): what a tape that is graduated in diameter gives back as a girth.
+
+#![tactic(auto)]
 ghost use Rattle.std.specs.Prelude.{◌≡◌};
 ghost use Rattle.rounding.specs.Round.{HasBits};
 ghost use Rattle.factor.specs.SetUp.{Sound};
@@ -10,21 +12,21 @@ use marks::Judgement;
 use rounding::{Direction, TieRule};
 
 // A quotient's size, from 1/2 to below 2: a significand of n bits, and its binade, -1 for [1/2, 1) and 0 for [1, 2).
-#[derive(Drop)]
+#[derive(Clone, Copy)]
 pub struct Quotient {
     pub significand: u64,
     pub binade: i32,
 }
 
 // A quotient's size as it was rounded: the direction is that from x / Ch (request W4).
-#[derive(Drop)]
+#[derive(Clone, Copy)]
 pub struct DirectedQuotient {
     pub quotient: Quotient,
     pub direction: Direction,
 }
 
 // A quotient as it is answered: with the factor's sign (request W5), and the direction of the number that has it.
-#[derive(Drop)]
+#[derive(Clone, Copy)]
 pub struct SignedQuotient {
     pub minus: bool,
     pub quotient: Quotient,
@@ -32,7 +34,7 @@ pub struct SignedQuotient {
 }
 
 // The answer to a division: the quotient with its sign and its direction, which has no mark, or the refusal 31 or 17.
-#[derive(Drop)]
+#[derive(Clone, Copy)]
 pub enum QuotientAnswer {
     Accepted(SignedQuotient),
     Refused(u32),

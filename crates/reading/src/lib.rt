@@ -1,4 +1,6 @@
 // A binary32 reading times a factor (document 01, "Binary32"), on the two-step device or the one-step device of request W2: the product with its mark, or a refusal; and divided by it (request W1): the quotient, or a refusal. Every answer, a zero too, has the sign that the standard gives the product or quotient of reading and factor (requests W3 and W5), and the direction of its last rounding (request W4).
+
+#![tactic(auto)]
 ghost use Rattle.std.specs.Prelude.{◌≡◌, ◌≤◌, nat_abs, ◌+ℤ◌};
 ghost use Rattle.std.specs.Float.{binary32};
 ghost use Rattle.std.specs.Float.Ieee.{prec, to_bits};
@@ -24,7 +26,7 @@ const LEAST_EXPONENT: i32 = 1;
 const MOST_EXPONENT: i32 = floats::INFINITE_OR_NAN as i32 - 1;
 
 // The answer to a reading: the product as a binary32 number, with its direction, in the case of its mark, or a refusal: 31, 20, 21, 22 or 23.
-#[derive(Drop)]
+#[derive(Clone, Copy)]
 pub enum ReadingAnswer {
     Right(f32, Direction),
     Open(f32, Direction),
@@ -33,14 +35,14 @@ pub enum ReadingAnswer {
 }
 
 // A binary32 number with its direction and without a mark, or a refusal: what a division answers (31, 20, 21, 22 or 23), and what `place` makes (23).
-#[derive(Drop)]
+#[derive(Clone, Copy)]
 pub enum NumberAnswer {
     Number(f32, Direction),
     Refused(u32),
 }
 
 // A reading before any work: a zero or a normal number, by its bits, or a refusal: 31, 20, 21 or 22.
-#[derive(Drop)]
+#[derive(Clone, Copy)]
 enum Taken {
     Zero(u32),
     Normal(u32),

@@ -1,5 +1,7 @@
 // Rounding numbers of one word and of two words to n bits, and quotients of words to whole numbers: where the number lies between its neighbours, which of them is taken, and the carry.
 // Every rounding hands back its direction (request W4), read off where the number lies. Contracts are equations with RN (`rounded` of the crate `rounding`), or with what it is made of: `location`, `upward`, `nearest` and the number of digits.
+
+#![tactic(auto)]
 ghost use Rattle.std.specs.Prelude.{◌≡◌, suc, ◌+◌, ◌-◌, ◌*◌, ◌/◌, ◌%◌, ◌<◌, ◌≤◌, ◌^◌, nat_abs};
 ghost use Rattle.rounding.specs.Direction.{mirrored as turned, signed_direction};
 ghost use Rattle.rounding.specs.Grid.{rule_of, location, upward, side_taken};
@@ -64,7 +66,7 @@ fn direction_at(l: Location, up: bool) -> Direction
 }
 
 // A whole number that a fraction was rounded to, and on which side of the fraction it lies.
-#[derive(Drop)]
+#[derive(Clone, Copy)]
 pub struct Neighbour {
     pub taken: u64,
     pub direction: Direction,
@@ -181,7 +183,7 @@ pub fn round_wide(u: Wide, n: u32, rule: TieRule) -> Rounded
 }
 
 // A whole number cut in two: what is kept of it, and its k lowest digits.
-#[derive(Drop)]
+#[derive(Clone, Copy)]
 pub struct Cut {
     pub kept: u64,
     pub rest: u64,

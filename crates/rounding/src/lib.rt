@@ -1,7 +1,9 @@
 // What rounding to n bits answers. The definitions stand in specs/, with their laws; the functions are those of the crate `round`.
 
+#![tactic(auto)]
+
 // Where a fraction lies between two neighbouring grid points.
-#[derive(Drop)]
+#[derive(Clone, Copy)]
 pub enum Location {
     Exact,
     BelowHalf,
@@ -10,14 +12,14 @@ pub enum Location {
 }
 
 // Which neighbour a fraction half way between them goes to (IEEE 754-2019: roundTiesToEven, roundTiesToAway).
-#[derive(Drop)]
+#[derive(Clone, Copy)]
 pub enum TieRule {
     ToEven,
     AwayFromZero,
 }
 
 // On which side of what was rounded the rounded number lies, sign included (request W4): below it, on it, or above it.
-#[derive(Drop)]
+#[derive(Clone, Copy)]
 pub enum Direction {
     Below,
     Equal,
@@ -26,7 +28,7 @@ pub enum Direction {
 
 // A size rounded to n bits: significand * 2 ^ exponent, the significand from 2 ^ (n - 1) to 2 ^ n - 1. Zero is 0 and 0.
 // The direction is that from the size to it.
-#[derive(Drop)]
+#[derive(Clone, Copy)]
 pub struct Rounded {
     pub significand: u64,
     pub exponent: i32,
@@ -34,7 +36,7 @@ pub struct Rounded {
 }
 
 // The same with a sign: the significand keeps that of what was rounded, and a negative number's direction is its size's, mirrored.
-#[derive(Drop)]
+#[derive(Clone, Copy)]
 pub struct RoundedSigned {
     pub significand: i64,
     pub exponent: i32,

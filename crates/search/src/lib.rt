@@ -1,4 +1,6 @@
 // The search by remainders (document 01, "Suspects and rounds"): the least place whose remainder lies in a window.
+
+#![tactic(auto)]
 ghost use Rattle.std.specs.Prelude.{◌≡◌, ◌≤◌, ◌<◌};
 ghost use Rattle.wide.specs.Value.{half_word};
 ghost use Rattle.search.specs.Search.{search_window, shift, search_from};
@@ -6,21 +8,21 @@ ghost use Rattle.search.specs.Cases.{Ready};
 ghost use Rattle.search.specs.Trace.{wound, unwound, WindsBelow, mirror_back, round_back, Below};
 
 // Where a search ends: at the least place wanted, or nowhere where none is.
-#[derive(Drop)]
+#[derive(Clone, Copy)]
 pub enum Place {
     At(u64),
     Nowhere,
 }
 
 // A search's place, and the rounds that it took.
-#[derive(Drop)]
+#[derive(Clone, Copy)]
 pub struct Found {
     pub place: Place,
     pub rounds: u64,
 }
 
 // An answer with its winding: how often the steps to the place pass the modulus.
-#[derive(Drop)]
+#[derive(Clone, Copy)]
 struct Trace {
     found: Found,
     winding: u64,

@@ -1,4 +1,6 @@
 // The program `plotconst` in steps by value (document 01, "Frames and report"): from what was read so far and the next bytes to the bytes to write.
+
+#![tactic(auto)]
 ghost use Rattle.std.specs.Prelude.{◌≡◌, true, ◌&&◌, [], ◌+◌, ◌-◌, ◌*◌, ◌≤◌, leb, length, take, drop};
 ghost use Rattle.factor.specs.SetUp.{outcome_of, intact};
 ghost use Rattle.frame.specs.Written.{Written};
@@ -33,7 +35,7 @@ const NOT_A_FRAME: u32 = 24;
 const MOST_WRITTEN: usize = 611;
 
 // A sweep on its way: its state, and how many significands were tried, found wrong and found open.
-#[derive(Drop)]
+#[derive(Clone, Copy)]
 pub struct Tally {
     pub state: SweepState,
     pub trials: u64,
@@ -42,14 +44,14 @@ pub struct Tally {
 }
 
 // What the program is at: reading a line, or sweeping the factor of the line before.
-#[derive(Drop)]
+#[derive(Clone, Copy)]
 pub enum Task {
     Reading,
     Sweeping(Tally),
 }
 
 // What was read so far: the number of the line, what is kept of it in the first places of `held`, and the task.
-#[derive(Drop)]
+#[derive(Clone, Copy)]
 pub struct Progress {
     pub number: u64,
     pub held: [u8; 40],
@@ -58,7 +60,7 @@ pub struct Progress {
 }
 
 // What the program does next: it goes on with what it has, it reads, or it stops.
-#[derive(Drop)]
+#[derive(Clone, Copy)]
 pub enum Next {
     Again,
     Read,
@@ -66,7 +68,7 @@ pub enum Next {
 }
 
 // What one step comes to, or several: the progress, where the input goes on, and where the output goes on.
-#[derive(Drop)]
+#[derive(Clone, Copy)]
 pub struct Move {
     pub progress: Progress,
     pub at: usize,
@@ -74,28 +76,28 @@ pub struct Move {
 }
 
 // What is done between a read and a write, and what comes after it.
-#[derive(Drop)]
+#[derive(Clone, Copy)]
 pub struct Worked {
     pub moved: Move,
     pub next: Next,
 }
 
 // A sweep after one call, and where the output goes on.
-#[derive(Drop)]
+#[derive(Clone, Copy)]
 struct Part {
     tally: Tally,
     used: usize,
 }
 
 // How much of a line is kept, and where the input goes on.
-#[derive(Drop)]
+#[derive(Clone, Copy)]
 struct Kept {
     length: usize,
     at: usize,
 }
 
 // Where the output goes on after some words, and how many of them are open ones.
-#[derive(Drop)]
+#[derive(Clone, Copy)]
 struct Printed {
     at: usize,
     opens: u64,

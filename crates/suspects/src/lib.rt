@@ -1,4 +1,6 @@
 // Suspects: the significands near a midpoint, among which every failing one is, and the search for the next of them (document 01, "Suspects and rounds").
+
+#![tactic(auto)]
 ghost use Rattle.std.specs.Prelude.{◌≡◌, ◌+◌, ◌-◌, ◌*◌, ◌%◌, ◌≤◌, ◌<◌, ◌^◌};
 ghost use Rattle.factor.specs.Context.{context_of, lower_of, upper_of};
 ghost use Rattle.factor.specs.SetUp.{Sound};
@@ -9,7 +11,7 @@ use factor::Factor;
 use search::{Found, Place};
 
 // The window of a half: the remainders from `from` to `to`, both included, that are wanted of the multiples of the step modulo the modulus.
-#[derive(Drop)]
+#[derive(Clone, Copy)]
 pub struct Window {
     pub modulus: u64,
     pub step: u64,
@@ -18,7 +20,7 @@ pub struct Window {
 }
 
 // The window of each half, and the first high significand: all that a search needs of a factor.
-#[derive(Drop)]
+#[derive(Clone, Copy)]
 pub struct Windows {
     pub low: Window,
     pub high: Window,

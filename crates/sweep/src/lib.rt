@@ -1,4 +1,6 @@
 // Sweeps: a range of significands searched for those that fail, in calls of bounded work (document 01, "A sweep").
+
+#![tactic(auto)]
 ghost use Rattle.std.specs.Prelude.{◌≡◌, ◌+◌, ◌≤◌, ◌<◌, ◌^◌, min, max, length};
 ghost use Rattle.search.specs.declared.Place.TheVariants.{Nowhere};
 ghost use Rattle.factor.specs.Precision.{ValidPrecision};
@@ -17,7 +19,7 @@ use search::{Found, Place};
 use suspects::{Window, Windows};
 
 // A sweep's state: the factor, the first, last and next significand, and whether the sweep is finished.
-#[derive(Drop)]
+#[derive(Clone, Copy)]
 pub struct SweepState {
     pub factor: Factor,
     pub first: u64,
@@ -27,14 +29,14 @@ pub struct SweepState {
 }
 
 // The answer to a new sweep: its state, or the refusal 31 or 17.
-#[derive(Drop)]
+#[derive(Clone, Copy)]
 pub enum NewSweep {
     Accepted(SweepState),
     Refused(u32),
 }
 
 // What an accepted call answers: the state handed back, its trials and rounds, and the next first free place.
-#[derive(Drop)]
+#[derive(Clone, Copy)]
 pub struct Swept {
     pub state: SweepState,
     pub trials: u64,
@@ -43,14 +45,14 @@ pub struct Swept {
 }
 
 // What a refused call answers: the state as given, and the refusal 31, 32, 33, 18 or 19.
-#[derive(Drop)]
+#[derive(Clone, Copy)]
 pub struct SweepRefusal {
     pub state: SweepState,
     pub number: u32,
 }
 
 // The answer to a sweep call.
-#[derive(Drop)]
+#[derive(Clone, Copy)]
 pub enum SweepAnswer {
     Accepted(Swept),
     Refused(SweepRefusal),
@@ -58,7 +60,7 @@ pub enum SweepAnswer {
 
 // What a call has done so far: where it goes on, its trials and rounds, and the next free place, counted in entries. Its last step says whether it goes on, which word to list where the place
 // has moved, and where it stopped.
-#[derive(Drop)]
+#[derive(Clone, Copy)]
 pub struct Work {
     pub at: u64,
     pub trials: u64,

@@ -1,4 +1,6 @@
 // The tally (request W2): how many significands of a range are right, wrong and open on the one-step device, so that an office sees what an old unit costs.
+
+#![tactic(auto)]
 ghost use Rattle.std.specs.Prelude.{◌≡◌, ◌*◌, ◌<◌, ◌^◌};
 ghost use Rattle.marks.specs.Answers.{refusal_of, First};
 ghost use Rattle.rounding.specs.Round.{HasBits};
@@ -18,7 +20,7 @@ use rounding::TieRule;
 const MOST_TALLIED: u64 = 65536;
 
 // How many significands of a range are right, wrong and open.
-#[derive(Drop)]
+#[derive(Clone, Copy)]
 pub struct Counts {
     pub rights: u64,
     pub wrongs: u64,
@@ -26,7 +28,7 @@ pub struct Counts {
 }
 
 // The answer to a tally: the counts, or the refusal 31, 17 or 41.
-#[derive(Drop)]
+#[derive(Clone, Copy)]
 pub enum TallyAnswer {
     Accepted(Counts),
     Refused(u32),

@@ -1,5 +1,7 @@
 // Numbers of two 64-bit words, by value, for the products that one word does not hold.
 // Each contract is an equation on the number that the words make.
+
+#![tactic(auto)]
 ghost use Rattle.std.specs.Prelude.{◌≡◌, false, ◌+◌, ◌-◌, ◌*◌, ◌/◌, ◌%◌, ◌<◌, ◌≤◌, ◌^◌, ltb, eqb};
 ghost use Rattle.std.specs.Float.Ieee.{size};
 ghost use Rattle.wide.specs.Value.{half_word, value_of};
@@ -8,14 +10,14 @@ ghost use Rattle.wide.specs.Value.{half_word, value_of};
 const BASE: u64 = 4294967296;
 
 // A number of two words, worth hi * 2 ^ 64 + lo.
-#[derive(Drop)]
+#[derive(Clone, Copy)]
 pub struct Wide {
     pub hi: u64,
     pub lo: u64,
 }
 
 // A quotient and its remainder.
-#[derive(Drop)]
+#[derive(Clone, Copy)]
 pub struct Divided {
     pub quotient: u64,
     pub remainder: u64,
