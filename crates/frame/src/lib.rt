@@ -1,6 +1,7 @@
 // Frames and report (document 01): a line read as a frame, and the lines that are printed, byte for byte.
 
 #![tactic(auto)]
+
 ghost use Rattle.std.specs.Prelude.{◌≡◌, [], ◌∷◌, ◌++◌, ◌+◌, ◌*◌, ◌<◌, ◌≤◌, length};
 ghost use Rattle.frame.specs.Digits.{digit_byte, digits, digit_value, field_at};
 ghost use Rattle.frame.specs.Frame.{signed_byte, spaced, frame_of, outcome_of};

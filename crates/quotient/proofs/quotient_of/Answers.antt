@@ -1,5 +1,5 @@
 -- One division, with n digits or n - 1 behind X's, in a word.
-use Rattle.std.proofs.Common.{◌≡◌, refl, sym, ap, ap₂, ◌∙◌, subst, Bool, true, false, cond, ltb, ℕ, ◌+◌, ◌-◌, ◌*◌, ◌/◌, ◌%◌, ◌^◌, ◌≤◌, ◌<◌, ℤ, pos, ◌-ℤ◌, to_z, of_z, w32, div-le_self, le_trans, arith, pow_pos, pow_mono, shl_lt, shl_exact}
+use Rattle.std.proofs.Common.{◌≡◌, refl, sym, ap, ap₂, ◌∙◌, Bool, true, false, cond, ltb, ℕ, ◌+◌, ◌-◌, ◌*◌, ◌/◌, ◌%◌, ◌^◌, ◌≤◌, ◌<◌, ℤ, pos, ◌-ℤ◌, to_z, of_z, w32, div-le_self, le_trans, arith, pow_pos, pow_mono, shl_lt, shl_exact}
 use Rattle.std.specs.Float.Ieee.{minus}
 use Rattle.rounding.specs.Round.{HasBits}
 use Rattle.round.specs.declared.Neighbour.{Neighbour}
