@@ -1,5 +1,5 @@
 -- Whether the kept digits are the carry.
-use Rattle.std.proofs.Common.{sym, ◌∙◌, suc, ◌+◌, ◌^◌, ◌<◌, w32, add-one, eq-eqb, ne_eqb, arith}
+use Rattle.std.proofs.Common.{sym, ap, ◌∙◌, suc, ◌+◌, ◌^◌, ◌<◌, w32, pos, add-one, eq-eqb, ne_eqb, arith}
 use Rattle.std.proofs.lemmas.Int.{to_z_pos}
 use Rattle.rounding.specs.Round.{normalised}
 use Rattle.rounding.proofs.RoundLaws.{minus_zero}
@@ -10,7 +10,8 @@ unfolding normalised
 returns-then-kept-power c =
     let a = c.args in
     let room : a.dropped + 1 < 2 ^ 31 = omega arith in
-    rw (eq-eqb a.kept (2 ^ a.n) (c.if-kept-power.true ∙ c.power.ensures), c.power-then-kept-power.ensures, to_z_pos w32 (a.dropped + 1) room, add-one, minus_zero (suc a.dropped))
+    let exponent = to_z_pos w32 (a.dropped + 1) room ∙ ap pos (add-one a.dropped) ∙ sym (minus_zero (suc a.dropped)) in
+    rw (eq-eqb a.kept (2 ^ a.n) (c.if-kept-power.true ∙ c.power.ensures)) (λ i. record { significand = c.power-then-kept-power.ensures i; exponent = exponent i; direction = a.direction })
 
 pub returns : goal.returns
 unfolding normalised

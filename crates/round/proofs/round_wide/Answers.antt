@@ -36,9 +36,9 @@ nearest_of-near-requires c =
     let k = b - n in
     let w = c.low_digits-rest.result in
     let l = long u b c.if-hi-eq0.false c.digits.ensures.count in (
-      (kept_word u c.shifted_right-kept.result b n c.digits.ensures.count (omega arith) c.requires.1 c.shifted_right-kept.ensures).1,
+      omega (arith, kept_word u c.shifted_right-kept.result b n c.digits.ensures.count (omega arith) c.requires.1 c.shifted_right-kept.ensures),
       omega (arith, high_room w.hi w.lo word_bits k (rw c.low_digits-rest.ensures (mod-lt (value_of u) (pow_pos k))) (omega arith)),
-      rw c.wide_power.ensures (pow_pos (k - 1)),
+      rw c.wide_power.ensures (pow_pos _),
     )
 
 pub returns : goal.returns
