@@ -20,10 +20,7 @@ slice_bounds-sweep_on-count c =
     omega (arith, tail_free kits_lawful (view_of c.args.state) (call_of c.args.cap c.args.list.now c.args.free) c.in-Passed.ensures.is)
 
 pub slice_bounds-sweep_on-start : goal.slice_bounds-sweep_on-start
-slice_bounds-sweep_on-start c = search rules
-
-pub slice_bounds-sweep_on-end : goal.slice_bounds-sweep_on-end
-slice_bounds-sweep_on-end c = search rules
+slice_bounds-sweep_on-start c = slice_bounds-sweep_on-count c
 
 pub sweep_on-e-requires : goal.sweep_on-e-requires
 sweep_on-e-requires c = tail_taken kits_lawful (view_of c.args.state) (call_of c.args.cap c.args.list.now c.args.free) c.in-Passed.ensures.is
