@@ -12,7 +12,7 @@ use Rattle.calls.specs.State.{State, Call, Listing, entries}
 use Rattle.calls.specs.Engine.{Engine, fresh, Laws, Lawful}
 use Rattle.calls.specs.Call.{ReplyOf, new_state, sweep_call}
 use Rattle.calls.specs.Plain.{span, words_of, Fed, Plain, begun, untried, moved, state_of, plain_next, plains, plain_after}
-use Rattle.calls.specs.Whole.{sweeps, state_after, Each, trials_in, words_in, accepted_in, end_of, fed_by, plain_end, Whole}
+use Rattle.calls.specs.Whole.{sweeps, state_after, Each, IfAccepted, trials_in, words_in, accepted_in, ListKept, end_of, SearchesRight, RoundsRight, Capped, Ample, fed_by, plain_end, Whole}
 use Rattle.calls.proofs.CallLaws.{list_kept, capped, searches_right, rounds_right, ample}
 use Rattle.calls.proofs.RefusalLaws.{tried_by, plain_reply}
 use Rattle.calls.proofs.SameLaws.{sweeps_same, after_same}
@@ -83,7 +83,7 @@ module _ {U : Type 0} {suspect : U → ℕ → Bool} {e : Engine U} {B : U → �
         let before = words_before (suspect u) (e.mark u) w.first w.last clear p.tried laws.ordered in
         record {
           same = alike;
-          lists = each _ (sweep_call e) (list_kept lawful) s calls;
+          lists = each (λ s c r. ListKept c r.answer r.list) (sweep_call e) (list_kept lawful) s calls;
           words =
               record {
                 listed = words_of (e.mark u) (take p.tried w.suspects);
@@ -98,10 +98,10 @@ module _ {U : Type 0} {suspect : U → ℕ → Bool} {e : Engine U} {B : U → �
             (λ h. finished_alike ∙ closes (count 1 (roomy_one w.listing calls)) h.0 (λ u v. omega (arith, trials_are))),
           );
           latest = λ h. finished_by 1 (roomy_one w.listing calls) (omega arith) (omega (arith, mul-one n));
-          capped = each _ (sweep_call e) (capped lawful) s calls;
-          searches = each _ (sweep_call e) (searches_right lawful) s calls;
-          rounds = each _ (sweep_call e) (rounds_right lawful) s calls;
-          ample = each _ (sweep_call e) (ample lawful) s calls;
+          capped = each (λ s c r. IfAccepted (Capped c) r.answer) (sweep_call e) (capped lawful) s calls;
+          searches = each (λ s c r. IfAccepted (SearchesRight suspect e s r.state) r.answer) (sweep_call e) (searches_right lawful) s calls;
+          rounds = each (λ s c r. IfAccepted (RoundsRight suspect e B s r.state) r.answer) (sweep_call e) (rounds_right lawful) s calls;
+          ample = each (λ s c r. IfAccepted (Ample suspect e s c) r.answer) (sweep_call e) (ample lawful) s calls;
         }
 
   -- Demand 3: the list begins with a new state, over what is not refused.

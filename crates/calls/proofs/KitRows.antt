@@ -118,7 +118,7 @@ words_of_row suspect mark first last h q =
 pub nothing_listed : (mark : ℕ → Mark) (a b : ℕ) → a ≤ b → (words_of mark (span a b) ≡ []) ↔ ((X : ℕ) → a ≤ X → X < b → mark X ≡ Right)
 nothing_listed mark a b h =
     let all = holds mark a b (words_of mark (span a b)) h refl in (
-      (λ q X u v. right (mark X) refl (λ w word. Memᴰ.not_nil (subst (λ (l : List ℕ). Memᴰ w l) q ((all.exactly w).1 (record { X = X; from = u; below = v; word = word }))))),
+      (λ q X u v. right (mark X) refl (λ w word. Memᴰ.not-nil (subst (λ (l : List ℕ). Memᴰ w l) q ((all.exactly w).1 (record { X = X; from = u; below = v; word = word }))))),
       (λ q. empty (words_of mark (span a b)) (λ w m. let i = (all.exactly w).0 m in none (mark i.X) (q i.X i.from i.below) i.word)),
     )
   where

@@ -106,7 +106,7 @@ module _ (suspect : ℕ → Bool) where
 
   inside : (a b X : ℕ) → Memᴰ X (row suspect a b) → Inside a b X
   inside a b X =
-      row_induct b (λ a l. Memᴰ X l → Inside a b X) (λ a h m. absurd (Memᴰ.not_nil m)) (λ a k s ih m. first a k s ih (Memᴰ.cases_cons m)) (λ a l k s ih m. up a (ih m)) b a (omega arith)
+      row_induct b (λ a l. Memᴰ X l → Inside a b X) (λ a h m. absurd (Memᴰ.not-nil m)) (λ a k s ih m. first a k s ih (Memᴰ.cases_cons m)) (λ a l k s ih m. up a (ih m)) b a (omega arith)
     where
       up : (a : ℕ) → Inside (suc a) b X → Inside a b X
       up a r = (omega arith, r.1, r.2)
@@ -124,7 +124,7 @@ module _ (suspect : ℕ → Bool) where
 
   -- Where a row is empty, there is no suspect.
   pub row_clear : (a b X : ℕ) → row suspect a b ≡ [] → a ≤ X → X < b → suspect X ≡ false
-  row_clear a b X e h k = (not-eq-not {b = false}).0 (λ s. Memᴰ.not_nil (rw e at ((row_exactly a b X).1 (h, k, s))))
+  row_clear a b X e h k = (not-eq-not {b = false}).0 (λ s. Memᴰ.not-nil (rw e at ((row_exactly a b X).1 (h, k, s))))
 
   -- The first of a row is a suspect.
   pub first_suspect : (a b x : ℕ) (l : List ℕ) → row suspect a b ≡ x ∷ l → suspect x ≡ true

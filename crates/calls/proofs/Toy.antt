@@ -200,7 +200,7 @@ unfolding fed_in plains plain_call row tries words_of
 plain_calls l calls = plains (state_of (fed_in l)) (fed_in l) (begun (fed_in l)) calls
 
 -- four calls, the last of them past the finish
-plain_calls :
+plain_calls_lem :
     plain_calls word_list
     (asked 2 (9 ∷ 9 ∷ 9 ∷ []) 1
     ∷ asked 5 (9 ∷ 9 ∷ []) 0
@@ -213,7 +213,7 @@ plain_calls :
     ∷ record { told = refused 33; state = end }
     ∷ []
 unfolding plain_calls
-plain_calls = refl
+plain_calls_lem = refl
 
 -- ---- the same with two words to an entry
 

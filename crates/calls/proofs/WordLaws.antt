@@ -28,7 +28,7 @@ ascends_all mark (suc n) a b h = ascends_one (mark a) a b (words_of mark (span_o
 -- ---- they are exactly the words of the significands from a up to b that are not right
 
 listed_word : (mark : ℕ → Mark) (X w : ℕ) (m : Mark) → mark X ≡ m → Memᴰ w (listed m X) → WordOf mark X w
-listed_word mark X w Right q r = absurd (Memᴰ.not_nil r)
+listed_word mark X w Right q r = absurd (Memᴰ.not-nil r)
 listed_word mark X w Open q r = inl (q, Memᴰ.eq_of_singleton r)
 listed_word mark X w Wrong q r = inr (q, Memᴰ.eq_of_singleton r)
 
@@ -38,7 +38,7 @@ word_listed mark X w (inr q) = rw q.0 (Memᴰ.head q.1)
 
 there_listed : (mark : ℕ → Mark) (n a w : ℕ) → Memᴰ w (words_of mark (span_of a n)) → Listed mark a (a + n) w
 unfolding span_of words_of
-there_listed mark zero a w r = absurd (Memᴰ.not_nil r)
+there_listed mark zero a w r = absurd (Memᴰ.not-nil r)
 there_listed mark (suc n) a w r = go (Memᴰ.append_cases (listed (mark a) a) r) (there_listed mark n (suc a) w)
   where
     go : Memᴰ w (listed (mark a) a) ⊎ Memᴰ w (words_of mark (span_of (suc a) n))

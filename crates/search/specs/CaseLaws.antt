@@ -62,14 +62,14 @@ searched_within {l} (suc fuel) (start z) enough h = test_yes _ (ℕ_discrete l 0
 searched_within {s} {l} (suc fuel) (still pos z) enough h = test_no _ (ℕ_discrete l 0) (omega arith) ∙ test_yes _ (ℕ_discrete s 0) z
 searched_within {m} {s} {l} {r} (suc fuel) (mirrored pos above t) enough h =
     test_no _ (ℕ_discrete l 0) (omega arith) ∙ test_no _ (ℕ_discrete s 0) (omega arith) ∙ test_yes _ (dec_lt m (2 * s)) above
-    ∙ searched_within fuel t (omega arith) (mirror_ready m s l r h pos above)
+    ∙ searched_within {s = m - s} {l = m - r} {r = m - l} fuel t (omega arith) (mirror_ready m s l r h pos above)
 searched_within {m} {s} {l} {r} (suc fuel) (multiple straight near) enough h =
     test_no _ (ℕ_discrete l 0) (omega arith) ∙ test_no _ (ℕ_discrete s 0) (omega arith) ∙ test_no _ (dec_lt m (2 * s)) (omega arith)
     ∙ test_yes _ (dec_le (ceil_div l s * s) r) near
 searched_within {m} {s} {l} {r} (suc fuel) (rounded straight none t) enough h =
     test_no _ (ℕ_discrete l 0) (omega arith) ∙ test_no _ (ℕ_discrete s 0) (omega arith) ∙ test_no _ (dec_lt m (2 * s)) (omega arith)
     ∙ test_no _ (dec_le (ceil_div l s * s) r) none
-    ∙ ap (after_round m s l) (searched_within fuel t (omega (arith, mod-lt m straight.1)) (round_ready m s l r h straight none))
+    ∙ ap (after_round m s l) (searched_within {m = s} {s = m % s} {l = neg_mod r s} {r = neg_mod l s} fuel t (omega (arith, mod-lt m straight.1)) (round_ready m s l r h straight none))
 
 -- The search goes by the cases.
 pub searched : (m s l r : ℕ) → Ready m s l r → Searched m s l r (search_window m s l r)

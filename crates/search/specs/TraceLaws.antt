@@ -31,11 +31,11 @@ module _ (m s l r : ℕ) (h : Ready m s l r) where
   pub wound_none : Searched m s l r (at_once Nowhere) → unwound Nowhere ≡ wound m s (search_window m s l r)
   wound_none t = ap (wound m s) (sym (searched_unique t h))
 
-  mirror_winding :
+  mirror_winding_lem :
       0 < l → (p : Place) → Least (Hits m (m - s) (m - r) (m - l)) p
       → WindsBelow p (winding m (m - s) p) × (mirror_winding p (winding m (m - s) p) ≡ winding m s p)
-  mirror_winding pos Nowhere g = (tt, refl)
-  mirror_winding pos (At k) g =
+  mirror_winding_lem pos Nowhere g = (tt, refl)
+  mirror_winding_lem pos (At k) g =
       let w = g.0.0 in
       let turned = mirror_meets m (m - s) s (m - r) r (m - l) l k w (omega arith) (omega arith) (omega arith) (omega arith) g.0.1 in
       let before = winding_meets m (m - s) (m - r) (m - l) k w (omega arith) g.0.1 in
@@ -50,7 +50,7 @@ module _ (m s l r : ℕ) (h : Ready m s l r) where
       let f = search_window m (m - s) (m - r) (m - l) in
       let ready = mirror_ready m s l r h pos above in
       let inner = searched m (m - s) (m - r) (m - l) ready in
-      let back = mirror_winding pos f.place (searched_least inner ready) in
+      let back = mirror_winding_lem pos f.place (searched_least inner ready) in
       rw e (back.0, ap (λ (w : ℕ). record { found = f; winding = w }) back.1 ∙ ap (wound m s) (sym (searched_unique (mirrored pos above inner) h)))
 
   module _ (straight : Straight m s l) (none : ¬ (ceil_div l s * s ≤ r)) where
