@@ -1,8 +1,6 @@
 -- A call makes its steps factor by factor: what is done so far and what is left to do are what the call does.
-use Rattle.std.proofs.Common.{◌≡◌, ◌+◌, ◌*◌, ◌^◌, ◌≤◌, ◌<◌, length, get_or, refl, sym, ap, ◌∙◌, arith, rules, length-take}
-use Rattle.factor.specs.SetUp.{Sound}
+use Rattle.std.proofs.Common.{◌≡◌, ◌*◌, ◌^◌, ◌<◌, length, refl, sym, ap, ◌∙◌, arith, rules, length-take}
 use Rattle.kit.specs.declared.Halt.{Halt}
-use Rattle.kit.specs.Answers.{no_factor}
 use Rattle.kit.specs.Steps.{end_of}
 use Rattle.kit.specs.SweepLaws.{taken_inside, taken_few, start_sound, work_start, place_inside, count_few, work_steps, work_stops, stops_less, goes_inside, moved_sound, work_goes, ended_place}
 use Rattle.kit.proofs.sweep_on.Goals as goal
@@ -94,8 +92,7 @@ ended-requires c =
 
 pub returns : goal.returns
 returns c =
-    let l = c.loop-w in
-    (
+    let l = c.loop-w in (
       ap (λ (r : Halt). end_of c.args.s r l.tail) c.ended.ensures ∙ l.invariant.off c.loop-w-test.false,
       omega (arith, ap (λ (r : Halt). r.place) c.ended.ensures, ended_place l.i l.part.last l.w, l.invariant.fits),
     )
