@@ -1,8 +1,7 @@
 -- 31 or 17 is the first refusal that holds, or none is and the state is fresh.
-use Rattle.std.proofs.Common.{◌≡◌, sym, ap, ◌∙◌}
-use Rattle.std.specs.Prelude.{false, not}
+use Rattle.std.proofs.Common.{sym, ap}
+use Rattle.std.specs.Prelude.{not}
 use Rattle.marks.specs.AnswerLaws.{pass, stop, end, refuses, accepts}
-use Rattle.factor.specs.SetUp.{intact}
 use Rattle.calls.specs.Engine.{fresh}
 use Rattle.sweep.specs.Engine.{range, engine}
 use Rattle.sweep.proofs.EngineLaws.{sound_of}

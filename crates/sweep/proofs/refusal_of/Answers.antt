@@ -20,7 +20,7 @@ returns-then-s c = pass (ap not (sym c.if-not-is_intact.ensures)) (pass (sym c.i
 
 pub returns-then-cap-eq0 : goal.returns-then-cap-eq0
 returns-then-cap-eq0 c =
-    pass (ap not (sym c.if-not-is_intact.ensures)) (pass (sym c.if-state_out.ensures) (pass c.if-s.false (stop (eq-eqb c.args.cap 0 c.if-cap-eq0.true))))
+    pass (ap not (sym c.if-not-is_intact.ensures)) (pass (sym c.if-state_out.ensures) (pass (cc) (stop (eq-eqb c.args.cap 0 c.if-cap-eq0.true))))
 
 pub returns-then-size-free : goal.returns-then-size-free
 returns-then-size-free c =

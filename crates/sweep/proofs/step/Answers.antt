@@ -1,5 +1,5 @@
 -- The search ahead, and the trial where the call does not stop.
-use Rattle.std.proofs.Common.{arith, rules}
+use Rattle.std.proofs.Common.{arith}
 use Rattle.sweep.proofs.StepLaws.{step_sound, step_last, step_rounds, found_bits, step_room, stop_step, trial_step, over_step}
 use Rattle.sweep.proofs.step.Goals as goal
 

@@ -1,7 +1,6 @@
 -- A step may be made, its entry fits where it is written, and what is done so far and what is left to do are still all.
-use Rattle.std.proofs.Common.{arith}
 use Rattle.sweep.proofs.EngineLaws.{sound_of}
-use Rattle.sweep.proofs.LoopLaws.{part_start, part_steps, part_stepped, one_word, two_words}
+use Rattle.sweep.proofs.LoopLaws.{part_steps, part_stepped, one_word, two_words}
 use Rattle.sweep.proofs.steps_on.Goals as goal
 
 pub windows_of-windows-requires : goal.windows_of-windows-requires

@@ -4,7 +4,7 @@ use Rattle.marks.specs.Answers.{none, judged}
 use Rattle.calls.specs.State.{terms_of}
 use Rattle.calls.specs.Call.{conditions}
 use Rattle.calls.proofs.RefusalLaws.{call_refused}
-use Rattle.calls.proofs.TailLaws.{moved, tail_free, tail_taken, tail_moved}
+use Rattle.calls.proofs.TailLaws.{moved, tail_free, tail_moved}
 use Rattle.sweep.specs.declared.SweepState.{SweepState}
 use Rattle.sweep.specs.declared.SweepAnswer.{SweepAnswer}
 use Rattle.sweep.specs.Engine.{engine}

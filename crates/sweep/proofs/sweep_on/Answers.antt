@@ -12,8 +12,7 @@ pub returns : goal.returns
 returns c =
     let a = c.args in
     let made = whole_done a.s a.cap a.tail.now c.requires c.begun.ensures c.steps_on.ensures.0 c.steps_on.ensures.1 in
-    let e = c.ended.ensures in
-    (
+    let e = c.ended.ensures in (
       (λ i. record { answer = accepted (e.1 i); state = e.0 i; list = c.steps_on.new.tail }) ∙ made.0,
       omega (arith, ap (λ (r : Result). r.place) e.1, made.1),
     )
