@@ -265,8 +265,7 @@ fn read_on(d: Device, factor: &[u64], reading: u32, out: &mut [u32]) -> u32
 }
 
 // Set-up: 0 and the factor's 10 words, or the refusal; 255 where the list is too short. The sign is minus where it is not 0.
-#[unsafe(no_mangle)]
-pub extern "C" fn gusnalip_set_up(
+pub fn gusnalip_set_up(
     minus: u32,
     precision: u32,
     scale: i32,
@@ -297,8 +296,7 @@ pub extern "C" fn gusnalip_set_up(
 }
 
 // Multiplies a significand: 1 right, 2 open, 3 wrong, with significand, binade, direction (1 below, 2 equal, 3 above) and sign (0 plus, 1 minus), or the refusal; 255 where a list is too short, 31 where the factor's words are damaged.
-#[unsafe(no_mangle)]
-pub extern "C" fn gusnalip_multiply(factor: &[u64], x: u64, out: &mut [u64]) -> u32
+pub fn gusnalip_multiply(factor: &[u64], x: u64, out: &mut [u64]) -> u32
     ensures value { result ≡ (multiply_to Device.TwoStep factor.now x out.old).number }
     ensures out_after { out.new ≡ leaves (multiply_to Device.TwoStep factor.now x out.old) out.old }
 {
@@ -306,8 +304,7 @@ pub extern "C" fn gusnalip_multiply(factor: &[u64], x: u64, out: &mut [u64]) -> 
 }
 
 // The same on the one-step device.
-#[unsafe(no_mangle)]
-pub extern "C" fn gusnalip_multiply_once(factor: &[u64], x: u64, out: &mut [u64]) -> u32
+pub fn gusnalip_multiply_once(factor: &[u64], x: u64, out: &mut [u64]) -> u32
     ensures value { result ≡ (multiply_to Device.OneStep factor.now x out.old).number }
     ensures out_after { out.new ≡ leaves (multiply_to Device.OneStep factor.now x out.old) out.old }
 {
@@ -315,8 +312,7 @@ pub extern "C" fn gusnalip_multiply_once(factor: &[u64], x: u64, out: &mut [u64]
 }
 
 // Multiplies a reading given by its bits: 1 right, 2 open, 3 wrong, with the product's bits and direction, or the refusal; 255 where a list is too short, 31 where the factor's words are damaged.
-#[unsafe(no_mangle)]
-pub extern "C" fn gusnalip_read(factor: &[u64], reading: u32, out: &mut [u32]) -> u32
+pub fn gusnalip_read(factor: &[u64], reading: u32, out: &mut [u32]) -> u32
     ensures value { result ≡ (read_to Device.TwoStep factor.now reading out.old).number }
     ensures out_after { out.new ≡ leaves (read_to Device.TwoStep factor.now reading out.old) out.old }
 {
@@ -324,8 +320,7 @@ pub extern "C" fn gusnalip_read(factor: &[u64], reading: u32, out: &mut [u32]) -
 }
 
 // The same on the one-step device.
-#[unsafe(no_mangle)]
-pub extern "C" fn gusnalip_read_once(factor: &[u64], reading: u32, out: &mut [u32]) -> u32
+pub fn gusnalip_read_once(factor: &[u64], reading: u32, out: &mut [u32]) -> u32
     ensures value { result ≡ (read_to Device.OneStep factor.now reading out.old).number }
     ensures out_after { out.new ≡ leaves (read_to Device.OneStep factor.now reading out.old) out.old }
 {
@@ -333,8 +328,7 @@ pub extern "C" fn gusnalip_read_once(factor: &[u64], reading: u32, out: &mut [u3
 }
 
 // Tallies a range on the one-step device: 0 with how many significands are right, wrong and open, or the refusal; 255 where a list is too short, 31 where the factor's words are damaged.
-#[unsafe(no_mangle)]
-pub extern "C" fn gusnalip_tally(factor: &[u64], first: u64, last: u64, out: &mut [u64]) -> u32
+pub fn gusnalip_tally(factor: &[u64], first: u64, last: u64, out: &mut [u64]) -> u32
     ensures value { result ≡ (tally_to factor.now first last out.old).number }
     ensures out_after { out.new ≡ leaves (tally_to factor.now first last out.old) out.old }
 {
@@ -348,8 +342,7 @@ pub extern "C" fn gusnalip_tally(factor: &[u64], first: u64, last: u64, out: &mu
 }
 
 // Divides a significand: 0 with the quotient's significand, its binade, a word in two's complement, its direction and its sign, or the refusal; 255 where a list is too short, 31 where the factor's words are damaged.
-#[unsafe(no_mangle)]
-pub extern "C" fn gusnalip_divide(factor: &[u64], x: u64, out: &mut [u64]) -> u32
+pub fn gusnalip_divide(factor: &[u64], x: u64, out: &mut [u64]) -> u32
     ensures value { result ≡ (divide_to factor.now x out.old).number }
     ensures out_after { out.new ≡ leaves (divide_to factor.now x out.old) out.old }
 {
@@ -363,8 +356,7 @@ pub extern "C" fn gusnalip_divide(factor: &[u64], x: u64, out: &mut [u64]) -> u3
 }
 
 // Divides a reading given by its bits: 0 with the quotient's bits and direction, or the refusal; 255 where a list is too short, 31 where the factor's words are damaged.
-#[unsafe(no_mangle)]
-pub extern "C" fn gusnalip_divide_reading(factor: &[u64], reading: u32, out: &mut [u32]) -> u32
+pub fn gusnalip_divide_reading(factor: &[u64], reading: u32, out: &mut [u32]) -> u32
     ensures value { result ≡ (divide_reading_to factor.now reading out.old).number }
     ensures out_after { out.new ≡ leaves (divide_reading_to factor.now reading out.old) out.old }
 {
@@ -378,8 +370,7 @@ pub extern "C" fn gusnalip_divide_reading(factor: &[u64], reading: u32, out: &mu
 }
 
 // A new sweep: 0 and the state's 14 words, or the refusal; 255 where a list is too short, 31 where the factor's words are damaged.
-#[unsafe(no_mangle)]
-pub extern "C" fn gusnalip_new_sweep(factor: &[u64], first: u64, last: u64, out: &mut [u64]) -> u32
+pub fn gusnalip_new_sweep(factor: &[u64], first: u64, last: u64, out: &mut [u64]) -> u32
     ensures value { result ≡ (new_sweep_to factor.now first last out.old).number }
     ensures out_after { out.new ≡ leaves (new_sweep_to factor.now first last out.old) out.old }
 {
@@ -396,8 +387,7 @@ pub extern "C" fn gusnalip_new_sweep(factor: &[u64], first: u64, last: u64, out:
 }
 
 // A sweep call: 0 with the state's words as handed back, words in the list, and trials, rounds and the next first free place; or the refusal, with nothing written; 255 where the state or the counts have too few words, 31 where the state's are damaged.
-#[unsafe(no_mangle)]
-pub extern "C" fn gusnalip_sweep(
+pub fn gusnalip_sweep(
     state: &mut [u64],
     cap: u64,
     list: &mut [u32],
@@ -515,8 +505,7 @@ fn put_behind(place: usize, next: u64, finished: bool, out: &mut [u64])
 }
 
 // Forms a kit: 0, or the refusal 42, 31 or 43; 255 where the list is too short.
-#[unsafe(no_mangle)]
-pub extern "C" fn gusnalip_form_kit(kit: &[u64]) -> u32
+pub fn gusnalip_form_kit(kit: &[u64]) -> u32
     ensures { result ≡ form_to kit.now }
 {
     match take_kit(kit, KIT_WORDS, 0, 0) {
@@ -529,8 +518,7 @@ pub extern "C" fn gusnalip_form_kit(kit: &[u64]) -> u32
 }
 
 // A new kit sweep: 0 and the state's 964 words, or the refusal 42, 31 or 43; 255 where a list is too short.
-#[unsafe(no_mangle)]
-pub extern "C" fn gusnalip_new_kit_sweep(kit: &[u64], out: &mut [u64]) -> u32
+pub fn gusnalip_new_kit_sweep(kit: &[u64], out: &mut [u64]) -> u32
     ensures value { result ≡ (new_kit_to kit.now out.old).number }
     ensures out_after { out.new ≡ leaves (new_kit_to kit.now out.old) out.old }
 {
@@ -553,8 +541,7 @@ pub extern "C" fn gusnalip_new_kit_sweep(kit: &[u64], out: &mut [u64]) -> u32
 }
 
 // A kit call: 0 with the three words behind the kit's, entries in the list, and trials, rounds and the next first free place; or the refusal, with nothing written; 255 where the state or the counts have too few words.
-#[unsafe(no_mangle)]
-pub extern "C" fn gusnalip_kit_sweep(
+pub fn gusnalip_kit_sweep(
     state: &mut [u64],
     cap: u64,
     list: &mut [u32],
@@ -587,8 +574,7 @@ pub extern "C" fn gusnalip_kit_sweep(
 }
 
 // Whether a kit is clean, by its state and how many entries its calls wrote since the new one: 1 clean, 2 not clean, 3 not finished, or the refusal 42, 31, 43 or 32; 255 where the list is too short.
-#[unsafe(no_mangle)]
-pub extern "C" fn gusnalip_kit_clean(state: &[u64], entries: u64) -> u32
+pub fn gusnalip_kit_clean(state: &[u64], entries: u64) -> u32
     ensures { result ≡ clean_to state.now entries }
 {
     match take_kit(state, KIT_STATE_WORDS, 0, 0) {

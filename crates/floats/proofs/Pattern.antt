@@ -3,7 +3,6 @@ use Rattle.std.specs.Prelude.{◌≡◌, refl, Bool, true, false, not, ◌⊎◌
 use Rattle.std.proofs.Common.{sym, ap, ◌∙◌, subst, inl, inr, le_refl, mul-le-mul_right, zero-lt-suc, mod-lt, div-lt_iff_lt-mul, mul-pos, eq-or-lt_of_le, lt_of_le_of_lt, lt_of_lt_of_le, lt_of_mul-lt-mul_right, mul-lt-mul_of_pos_right, mul_comm, arith, lit≤, pow-add, pow_pos, pow_mono}
 use Rattle.std.proofs.Math.Nat.{pow-succ'}
 use Rattle.std.proofs.Math.Arith.{mod-mul, digits_lt, digits_div, digits_mod}
-use Rattle.std.specs.Float.Ieee
 use Rattle.std.specs.Float.{Format}
 use Rattle.std.specs.Float.Ieee.{prec, low, hid, ones, top, of_fields, of_bits, to_bits, nan_bits}
 use Rattle.std.specs.Float.Ieee.Bits.{of_bits-fits, to_bits-of_bits}

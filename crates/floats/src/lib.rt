@@ -1,6 +1,7 @@
 // Binary32 numbers by their bit patterns: the one crate that knows how a float is laid out. What it knows is stated over a format, of which binary32 is one.
 
 #![tactic(auto)]
+
 ghost use Rattle.std.specs.Prelude.{◌≡◌, ◌<◌, ◌^◌};
 ghost use Rattle.std.specs.Float.Ieee;
 ghost use Rattle.std.specs.Float.{binary32};

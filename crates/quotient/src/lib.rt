@@ -1,6 +1,7 @@
 // The quotient of a significand by a factor's high part, rounded once (request W1), with the direction of that rounding (request W4) and the factor's sign (request W5): what a tape that is graduated in diameter gives back as a girth.
 
 #![tactic(auto)]
+
 ghost use Rattle.std.specs.Prelude.{◌≡◌};
 ghost use Rattle.rounding.specs.Round.{HasBits};
 ghost use Rattle.factor.specs.SetUp.{Sound};

@@ -48,8 +48,8 @@ use Rattle.reading.specs.Reading.{unreadable, sign_with, exponent_out, number_of
 use Rattle.reading.proofs.Exponents.{let_through, out_none}
 use Rattle.reading.proofs.ReadingLaws.{number_value, number_normal}
 use Rattle.reading.proofs.AnswerLaws.{is_intact, precision_is, of_reading}
-use Rattle.reading.proofs.Standard.{Is, StoredSteps, stored_steps}
-use Rattle.reading.specs.OneOperation.{reading_at, scaled_by, multiplying, OneOperation, signed_high, StandardSign}
+use Rattle.reading.proofs.Standard.{StoredSteps, stored_steps}
+use Rattle.reading.specs.OneOperation.{Is, reading_at, scaled_by, multiplying, OneOperation, signed_high, StandardSign}
 use Rattle.reading.proofs.OneOperationLaws.{reading_is, multiplies, one_operation}
 use Rattle.reading.proofs.SignLaws.{zero_sign, number_sign, zero_is_operation}
 

@@ -34,8 +34,7 @@ use Rattle.reading.specs.Reading.{unreadable, sign_with, exponent_out, number_of
 use Rattle.reading.proofs.Exponents.{scale_size, let_through}
 use Rattle.reading.proofs.ReadingLaws.{number_value, number_rounds}
 use Rattle.reading.proofs.AnswerLaws.{is_normal}
-use Rattle.reading.proofs.Standard.{Is}
-use Rattle.reading.specs.OneOperation.{reading_at, scaled_by, applied_high, Operation, dividing, multiplying, OneOperation}
+use Rattle.reading.specs.OneOperation.{Is, reading_at, scaled_by, applied_high, Operation, dividing, multiplying, OneOperation}
 
 -- ---- a reading that is let through, and not a zero, is a normal number
 pub reading_is : (f : Factor) (b : ℕ) → NoneHolds (unreadable f b) → zero_bits binary32 b ≡ false → (x : Float) → T (fits binary32 x) → to_bits binary32 x ≡ b → Is x (reading_at b)

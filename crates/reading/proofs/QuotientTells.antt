@@ -31,8 +31,7 @@ use Rattle.reading.specs.Divided.{quotient_exponent, quotient_of, divided_readin
 use Rattle.reading.proofs.Exponents.{let_through}
 use Rattle.reading.proofs.ReadingLaws.{number_value, number_normal}
 use Rattle.reading.proofs.AnswerLaws.{is_intact, precision_is, of_reading}
-use Rattle.reading.proofs.Standard.{Is}
-use Rattle.reading.specs.OneOperation.{reading_at, dividing, OneOperation, signed_high, StandardSign}
+use Rattle.reading.specs.OneOperation.{Is, reading_at, dividing, OneOperation, signed_high, StandardSign}
 use Rattle.reading.proofs.OneOperationLaws.{reading_is, divides, one_operation}
 use Rattle.reading.proofs.SignLaws.{zero_sign, number_sign, zero_is_operation}
 

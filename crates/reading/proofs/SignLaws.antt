@@ -18,8 +18,7 @@ use Rattle.product.proofs.SoundLaws.{sound_high_positive}
 use Rattle.product.specs.Product.{high}
 use Rattle.reading.specs.Reading.{unreadable, sign_with, number_of, Made, answer_to}
 use Rattle.reading.proofs.AnswerLaws.{is_intact, precision_is, zeros_answered}
-use Rattle.reading.proofs.Standard.{Is}
-use Rattle.reading.specs.OneOperation.{reading_at, applied_high, Operation, signed_high, LikeFactor, StandardSign}
+use Rattle.reading.specs.OneOperation.{Is, reading_at, applied_high, Operation, signed_high, LikeFactor, StandardSign}
 use Rattle.reading.proofs.OneOperationLaws.{Lawful, reading_is, sized_positive, applied_held}
 
 module _ (o : Operation) (lawful : Lawful o) (f : Factor) (b : ℕ) (h : NoneHolds (unreadable f b)) where

@@ -30,11 +30,8 @@ use Rattle.factor.proofs.StoredLaws.{high_number, low_number, accepted_fits}
 use Rattle.product.specs.Product.{argument, high, low, first, fused, product, product_by, value_of}
 use Rattle.product.specs.Units.{first_units, fused_units}
 use Rattle.product.proofs.ProductLaws.{first_in_units, fused_in_units, fused_some, product_is, product_value}
+use Rattle.reading.specs.OneOperation.{Is}
 use Rattle.reading.proofs.FirstLaws.{K32, fine_32, near_32, first_float}
-
--- a float has the value q
-abbrev pub Is : Float → Fraction → Type 0
-Is x q = HasValue x q.minus q.num q.den
 
 -- what both steps are, by what is stored: y is x as a float
 pub record StoredSteps (f : Factor) (X : ℕ) (y : Float) : Type 0 where

@@ -2,6 +2,7 @@
 use Rattle.std.specs.Prelude.{◌≡◌, true, cond, ℕ, ◌*◌, ◌<◌, T, ℤ, ◌+ℤ◌, ◌-ℤ◌, Float}
 use Rattle.std.specs.Float.{binary32}
 use Rattle.std.specs.Float.Ieee.{prec, hid, up, down, to_bits, fits, neg, mul, div}
+use Rattle.std.specs.Float.Ieee.Exact.{HasValue}
 use Rattle.rounding.specs.Fraction.{Fraction, scaled_as, times, ratio}
 use Rattle.rounding.specs.Ulp.{WithinThreeHalves}
 use Rattle.floats.specs.Fields.{is_sign_minus, sign_of, zero_bits, significand_of, exponent_of}
@@ -10,7 +11,10 @@ use Rattle.factor.specs.Context.{context_of, lower_of, upper_of}
 use Rattle.factor.specs.Ends.{Between}
 use Rattle.factor.specs.SetUp.{float_in}
 use Rattle.product.specs.Product.{argument, high}
-use Rattle.reading.proofs.Standard.{Is}
+
+-- a float has the value q
+abbrev pub Is : Float → Fraction → Type 0
+Is x q = HasValue x q.minus q.num q.den
 
 -- a normal reading as a number, by its bits b
 abbrev pub reading_at : ℕ → Fraction

@@ -2,6 +2,7 @@
 // Every rounding hands back its direction (request W4), read off where the number lies. Contracts are equations with RN (`rounded` of the crate `rounding`), or with what it is made of: `location`, `upward`, `nearest` and the number of digits.
 
 #![tactic(auto)]
+
 ghost use Rattle.std.specs.Prelude.{◌≡◌, suc, ◌+◌, ◌-◌, ◌*◌, ◌/◌, ◌%◌, ◌<◌, ◌≤◌, ◌^◌, nat_abs};
 ghost use Rattle.rounding.specs.Direction.{mirrored as turned, signed_direction};
 ghost use Rattle.rounding.specs.Grid.{rule_of, location, upward, side_taken};

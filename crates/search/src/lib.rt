@@ -1,6 +1,7 @@
 // The search by remainders (document 01, "Suspects and rounds"): the least place whose remainder lies in a window.
 
 #![tactic(auto)]
+
 ghost use Rattle.std.specs.Prelude.{◌≡◌, ◌≤◌, ◌<◌};
 ghost use Rattle.wide.specs.Value.{half_word};
 ghost use Rattle.search.specs.Search.{search_window, shift, search_from};

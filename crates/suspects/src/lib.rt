@@ -1,6 +1,7 @@
 // Suspects: the significands near a midpoint, among which every failing one is, and the search for the next of them (document 01, "Suspects and rounds").
 
 #![tactic(auto)]
+
 ghost use Rattle.std.specs.Prelude.{◌≡◌, ◌+◌, ◌-◌, ◌*◌, ◌%◌, ◌≤◌, ◌<◌, ◌^◌};
 ghost use Rattle.factor.specs.Context.{context_of, lower_of, upper_of};
 ghost use Rattle.factor.specs.SetUp.{Sound};

@@ -2,6 +2,7 @@
 // Each contract is an equation on the number that the words make.
 
 #![tactic(auto)]
+
 ghost use Rattle.std.specs.Prelude.{◌≡◌, false, ◌+◌, ◌-◌, ◌*◌, ◌/◌, ◌%◌, ◌<◌, ◌≤◌, ◌^◌, ltb, eqb};
 ghost use Rattle.std.specs.Float.Ieee.{size};
 ghost use Rattle.wide.specs.Value.{half_word, value_of};

@@ -1,6 +1,7 @@
 // Signed numbers as words, in two's complement. For programs that store factors or hand them to others.
 
 #![tactic(auto)]
+
 ghost use Rattle.std.specs.Prelude.{◌≡◌};
 ghost use Rattle.words.specs.Words.{unsigned, signed, low32, past_half};
 

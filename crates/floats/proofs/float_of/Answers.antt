@@ -1,0 +1,20 @@
+-- The pattern of a normal number.
+use Rattle.std.proofs.Common.{sym, ap, ◌∙◌, Bool, true, false}
+use Rattle.std.specs.Float.{binary32}
+use Rattle.floats.specs.Fields.{float_of}
+use Rattle.floats.proofs.Pattern.{pattern_number, pattern_is}
+use Rattle.floats.proofs.float_of.Goals as goal
+
+pub float_from_bits-result : goal.float_from_bits-result
+float_from_bits-result c = pattern_number binary32 true c.args.exponent c.args.m c.requires
+
+pub returns-then-minus : goal.returns-then-minus
+returns-then-minus c =
+    pattern_is binary32 true c.args.exponent c.args.m c.requires ∙ ap (λ (s : Bool). float_of binary32 s c.args.exponent c.args.m) (sym c.if-minus.true)
+
+pub float_from_bits-result-2 : goal.float_from_bits-result-2
+float_from_bits-result-2 c = pattern_number binary32 false c.args.exponent c.args.m c.requires
+
+pub returns : goal.returns
+returns c =
+    pattern_is binary32 false c.args.exponent c.args.m c.requires ∙ ap (λ (s : Bool). float_of binary32 s c.args.exponent c.args.m) (sym c.if-minus.false)

@@ -1,0 +1,26 @@
+-- Five fields, each where the one before it ended.
+use Rattle.std.proofs.Common.{ℕ, length-append, arith}
+use Rattle.frame.specs.DigitLaws.{length_digits}
+use Rattle.frame.specs.Report.{report_line}
+use Rattle.frame.specs.WrittenLaws.{written_field}
+use Rattle.frame.proofs.put_report.Goals as goal
+
+pub put_field-b-requires : goal.put_field-b-requires
+put_field-b-requires c = (omega (arith, length-append {A = ℕ}, length_digits), omega arith, omega arith)
+
+pub put_field-c-requires : goal.put_field-c-requires
+put_field-c-requires c = (omega (arith, length-append {A = ℕ}, length_digits), omega arith, omega arith)
+
+pub put_field-d-requires : goal.put_field-d-requires
+put_field-d-requires c = (omega (arith, length-append {A = ℕ}, length_digits), omega arith, omega arith)
+
+pub put_field-requires : goal.put_field-requires
+put_field-requires c = (omega (arith, length-append {A = ℕ}, length_digits), omega arith, omega arith)
+
+pub returns : goal.returns
+unfolding report_line
+returns c =
+    written_field _ _ _ _ c.put_field-a.ensures
+    (written_field _ _ _ _ (rw c.verdict.ensures at c.put_field-b.ensures)
+    (written_field _ _ _ _ c.put_field-c.ensures
+    (written_field _ _ _ _ c.put_field-d.ensures c.put_field.ensures)))

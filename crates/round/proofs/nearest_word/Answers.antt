@@ -1,0 +1,29 @@
+-- Quotient and remainder by 2 ^ k, then the choice by its half.
+use Rattle.std.proofs.Common.{ap, ◌∙◌, ℕ, ◌-◌, ◌/◌, ◌%◌, ◌^◌, ◌≤◌, ◌<◌, mod-lt, pow_pos, pow_mono, arith}
+use Rattle.rounding.specs.Grid.{rule_of}
+use Rattle.wide.specs.Value.{word_bits}
+use Rattle.round.specs.Neighbour.{neighbour_at}
+use Rattle.round.proofs.Laws.{quotient_room, half_of, by_division}
+use Rattle.round.proofs.nearest_word.Goals as goal
+
+pub nearest_by_word-requires : goal.nearest_by_word-requires
+nearest_by_word-requires c =
+    let x = c.args.x in
+    let k = c.args.k in
+    let u = c.power-u.ensures in
+    let few : 2 ^ k ≤ 2 ^ (word_bits - 1) = pow_mono {i = k} {j = word_bits - 1} (omega arith) in
+    let some : 0 < c.power-u.result = rw u (pow_pos k) in (
+      omega (arith, quotient_room x c.power-u.result k u c.requires.0),
+      omega (arith, mod-lt x some),
+      rw c.power-half.ensures (pow_pos (k - 1)),
+    )
+
+pub returns : goal.returns
+returns c =
+    let rule = rule_of c.args.rule in
+    let x = c.args.x in
+    let k = c.args.k in
+    c.nearest_by_word.ensures
+    ∙ ap (neighbour_at rule (x / c.power-u.result) (x % c.power-u.result)) (half_of k c.power-half.result c.requires.0 c.power-half.ensures)
+    ∙ ap (λ (u : ℕ). neighbour_at rule (x / u) (x % u) (2 ^ k)) c.power-u.ensures
+    ∙ by_division rule x (2 ^ k) (pow_pos k)
