@@ -1,4 +1,4 @@
-/* The engine's exported functions, for C and C++: link target/staticlib/libexports.a, which `rt staticlib exports` makes (x86-64 Linux).
+/* The engine's exported functions, for C and C++: link target/staticlib/libexports.a, which `tools/build exports` makes (x86-64 Linux).
  * examples/calls.c calls each of them.
  *
  * A list is a pointer and the number of its words. Lists given to one call must not overlap. A list that is too short is answered with

@@ -53,6 +53,7 @@ pub struct Report {
 }
 
 // The value of an upper-case hexadecimal digit.
+#[tactic(auto, unfolding(crate::specs::Digits::digit_value))]
 fn digit_value(b: u8) -> Field
     ensures { result ≡ digit_value b }
 {
@@ -96,6 +97,7 @@ pub fn read_field(line: &[u8], at: usize, width: usize) -> Field
 }
 
 // Whether blanks stand where the fields of a frame meet, and the line ends where the last field does; each end has e digits.
+#[tactic(auto, unfolding(crate::specs::Frame::spaced))]
 fn is_spaced(line: &[u8], e: usize) -> bool
     requires { e ≤ 32 }
     ensures { result ≡ spaced e line.now }
@@ -156,6 +158,7 @@ pub fn read_frame(line: &[u8]) -> FrameAnswer
 }
 
 // The digit for a number below 16.
+#[tactic(auto, unfolding(crate::specs::Digits::digit_byte))]
 fn digit_byte(d: u64) -> u8
     requires { d < 16 }
     ensures { result ≡ digit_byte d }
@@ -193,6 +196,7 @@ fn put_field(buf: &mut [u8], at: usize, width: usize, base: u64, v: u64, after: 
 }
 
 // A listed word of `width` digits, on a line of its own.
+#[tactic(auto, unfolding(crate::specs::Report::word_line))]
 pub fn put_word(buf: &mut [u8], at: usize, width: usize, v: u64) -> usize
     requires { at + (width + 1) ≤ length buf.old }
     ensures { Written buf.old at (word_line width v) buf.new result }

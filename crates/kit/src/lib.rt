@@ -1,6 +1,7 @@
 // Kits: up to 96 factors, swept one after another in calls of bounded work, with one cap and one list (request W6).
 
 #![tactic(auto)]
+
 ghost use Rattle.std.specs.Prelude.{◌≡◌, not, ◌-◌, ◌*◌, ◌^◌, ◌≤◌, ◌<◌, ltb, length};
 ghost use Rattle.wide.specs.Value.{word_bits};
 ghost use Rattle.marks.specs.Answers.{refusal_of, First, NoneHolds};

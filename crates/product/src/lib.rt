@@ -1,6 +1,7 @@
 // The product of a factor and a significand on either device, the two-step one of document 01 ("The product") and the one-step one of request W2, the direction of its last rounding (request W4), the factor's sign on it (request W5), and the mark of a value.
 
 #![tactic(auto)]
+
 ghost use Rattle.std.specs.Prelude.{◌≡◌, ◌+◌, ◌-◌, ◌*◌, ◌<◌, ◌≤◌, ◌^◌};
 ghost use Rattle.marks.specs.Answers.{refusal_of, First, accepted};
 ghost use Rattle.rounding.specs.Unit.{rn};

@@ -1,6 +1,7 @@
 // A binary32 reading times a factor (document 01, "Binary32"), on the two-step device or the one-step device of request W2: the product with its mark, or a refusal; and divided by it (request W1): the quotient, or a refusal. Every answer, a zero too, has the sign that the standard gives the product or quotient of reading and factor (requests W3 and W5), and the direction of its last rounding (request W4).
 
 #![tactic(auto)]
+
 ghost use Rattle.std.specs.Prelude.{◌≡◌, ◌≤◌, nat_abs, ◌+ℤ◌};
 ghost use Rattle.std.specs.Float.{binary32};
 ghost use Rattle.std.specs.Float.Ieee.{prec, to_bits};
@@ -124,6 +125,7 @@ fn finish(f: Factor, bits: u32, v: DirectedProduct) -> ReadingAnswer
 }
 
 // What a reading is judged to be before any work: the first of the refusals 31, 20, 21 and 22 whose condition holds, or a zero or a normal number, by its bits.
+#[tactic(auto, unfolding(marks::specs::Answers::answer))]
 fn take(f: Factor, reading: f32) -> Taken
     ensures { taken_of result ≡ answer (unreadable f (to_bits binary32 reading)) (kind_of (to_bits binary32 reading)) }
 {

@@ -1,6 +1,7 @@
 // Sweeps: a range of significands searched for those that fail, in calls of bounded work (document 01, "A sweep").
 
 #![tactic(auto)]
+
 ghost use Rattle.std.specs.Prelude.{◌≡◌, ◌+◌, ◌≤◌, ◌<◌, ◌^◌, min, max, length};
 ghost use Rattle.search.specs.declared.Place.TheVariants.{Nowhere};
 ghost use Rattle.factor.specs.Precision.{ValidPrecision};

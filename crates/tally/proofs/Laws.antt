@@ -1,9 +1,6 @@
 -- An end of a factor times a significand, cut behind its step of binade 0: that it can be rounded and what it rounds to, that it can be added to, and the next significand's. Assumes nothing.
-use mathlib.Core.Path.{◌≡◌, sym, ap, ap₂, ◌∙◌, subst}
-use Prim.Native.Nat.{ℕ, suc, ◌+◌, ◌-◌, ◌*◌, ◌^◌, ◌≤◌, ◌<◌}
-use native.Mathlib.Nat.{le_trans, le_of_eq, lt_of_lt_of_le, lt_of_le_of_lt, mul-lt-mul_of_pos_right, div-lt_iff_lt-mul, pow-succ'}
-use native.Mathlib.Omega.{arith}
-use lib.Pow.{pow-add, pow_pos, pow_mono}
+use Rattle.std.proofs.Common.{◌≡◌, sym, ap, ap₂, ◌∙◌, subst, ℕ, suc, ◌+◌, ◌-◌, ◌*◌, ◌^◌, ◌≤◌, ◌<◌, le_trans, le_of_eq, lt_of_lt_of_le, lt_of_le_of_lt, mul-lt-mul_of_pos_right, div-lt_iff_lt-mul, pow-add, pow_pos, pow_mono, arith}
+use Rattle.std.proofs.Math.Nat.{pow-succ'}
 use Rattle.rounding.specs.Unit.{rn}
 use Rattle.rounding.specs.Round.{HasBits}
 use Rattle.wide.specs.Value.{word_bits}

@@ -1,6 +1,7 @@
 // The tally (request W2): how many significands of a range are right, wrong and open on the one-step device, so that an office sees what an old unit costs.
 
 #![tactic(auto)]
+
 ghost use Rattle.std.specs.Prelude.{◌≡◌, ◌*◌, ◌<◌, ◌^◌};
 ghost use Rattle.marks.specs.Answers.{refusal_of, First};
 ghost use Rattle.rounding.specs.Round.{HasBits};
@@ -99,6 +100,7 @@ fn count(f: Factor, first: u64, last: u64) -> Counts
 }
 
 // The first refusal of a tally whose condition holds: 31 by the factor, 17 by the range, then 41 by its length.
+#[tactic(auto, unfolding(marks::specs::Answers::judged))]
 fn refusal_of(f: Factor, first: u64, last: u64) -> Judgement
     ensures { First (conditions f first last) (refusal_of result) }
 {

@@ -1,14 +1,11 @@
 -- What a number from 1 to below 4 rounds to is a product, and a word holds it in steps.
 use Rattle.std.specs.Prelude.{◌≡◌, ℕ, ◌+◌, ◌*◌, ◌^◌}
-use Rattle.std.proofs.Common.{sym, ap, ◌∙◌, arith, pow-add}
-use Rattle.rounding.specs.Unit.{rn}
+use Rattle.std.proofs.Common.{ap, ◌∙◌, arith, pow-add}
 use Rattle.wide.specs.Value.{value_of}
-use Rattle.factor.specs.Context.{tie_rule, context_at}
+use Rattle.factor.specs.Context.{context_at}
 use Rattle.factor.specs.Precision.{scale_of}
 use Rattle.product.specs.Product.{steps_of}
-use Rattle.product.specs.Units.{rounded_units}
 use Rattle.product.specs.declared.DirectedProduct.{DirectedProduct}
-use Rattle.product.proofs.ProductLaws.{IsProduct}
 use Rattle.product.proofs.StepLaws.{within_is}
 use Rattle.product.proofs.Laws.{steps_word}
 use Rattle.product.proofs.end_steps.Goals as goal

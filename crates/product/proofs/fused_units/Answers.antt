@@ -1,6 +1,6 @@
 -- Two words hold the sum, and u1 is not above the product that it may be taken from.
 use Rattle.std.specs.Prelude.{◌≡◌, Bool, true, false, ℕ, ◌+◌, ◌-◌, ◌*◌, ◌^◌, ◌≤◌, ◌<◌, ℤ, pos, FitsSigned}
-use Rattle.std.proofs.Common.{sym, ap, ap₂, ◌∙◌, le_of_lt, lt_of_lt_of_le, mul-le-mul, le_of_mul-le-mul_right, arith, rules, pow_pos, pow_mono, w64, to_z, of_z}
+use Rattle.std.proofs.Common.{sym, ap, ap₂, ◌∙◌, le_of_lt, mul-le-mul, le_of_mul-le-mul_right, arith, rules, pow_pos, pow_mono, w64, to_z, of_z}
 use Rattle.std.proofs.Math.Nat.{mul_right_comm}
 use Rattle.std.specs.Int.Signed.{lt_z}
 use Rattle.rounding.specs.Signed.{negative}
@@ -13,7 +13,7 @@ use Rattle.factor.specs.Context.{context_at}
 use Rattle.factor.specs.Precision.{ValidPrecision, scale_of}
 use Rattle.factor.specs.UnitParts.{step, plus_or_minus, unit_parts_of}
 use Rattle.product.specs.Units.{first_units, fused_units, PartsAtEnd}
-use Rattle.product.proofs.StepLaws.{product_word, high_le, first_lt, first_le}
+use Rattle.product.proofs.StepLaws.{product_word, high_le, first_le}
 use Rattle.product.proofs.fused_units.Goals as goal
 
 -- H * X is one word

@@ -1,5 +1,5 @@
 -- The mark, by whole numbers of the step of binade 0.
-use Rattle.std.specs.Prelude.{◌≡◌, ℕ, ◌+◌, ◌-◌, ◌*◌, ◌^◌, ◌≤◌}
+use Rattle.std.specs.Prelude.{ℕ, ◌+◌, ◌-◌, ◌^◌, ◌≤◌}
 use Rattle.std.proofs.Common.{sym, ap, ap₂, ◌∙◌, arith, pow_mono}
 use Rattle.rounding.specs.Unit.{rn}
 use Rattle.wide.specs.Value.{word_bits, half_word}

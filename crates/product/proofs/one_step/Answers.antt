@@ -1,6 +1,5 @@
 -- Significand and binade, by the steps of binade 0.
-use Rattle.std.specs.Prelude.{ℕ, ◌≤◌, ◌<◌}
-use Rattle.std.proofs.Common.{ap, subst}
+use Rattle.std.proofs.Common.{ap}
 use Rattle.round.specs.declared.Neighbour.{Neighbour}
 use Rattle.product.specs.OneStep.{one_step_by}
 use Rattle.product.proofs.SoundLaws.{sound_fine}

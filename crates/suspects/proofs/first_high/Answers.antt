@@ -4,7 +4,6 @@ use Rattle.std.proofs.Math.Nat.{le_of_mul-le-mul_right}
 use Rattle.factor.specs.declared.Factor.{Factor}
 use Rattle.factor.specs.Context.{context_of, lower_of}
 use Rattle.factor.specs.SetUp.{Sound}
-use Rattle.wide.specs.Value.{value_of}
 use Rattle.search.specs.Search.{ceil_div}
 use Rattle.search.specs.MultipleLaws.{ceil_div_ge, ceil_div_le}
 use Rattle.suspects.specs.Next.{first_high}
