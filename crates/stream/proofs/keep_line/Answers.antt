@@ -1,5 +1,5 @@
 -- Where the line stops, what the buffer holds is what was to be kept; else one byte more of it is kept.
-use Rattle.std.proofs.Common.{◌≡◌, sym, ap, ap₂, ◌∙◌, List, ℕ, add-one, take, drop, arith}
+use Rattle.std.proofs.Common.{sym, ap, ap₂, ◌∙◌, List, ℕ, add-one, take, drop, arith}
 use Rattle.stream.specs.Keep.{kept, up_to_feed}
 use Rattle.stream.specs.KeepLaws.{at_end, at_feed, at_byte}
 use Rattle.stream.proofs.keep_line.Goals as goal

@@ -1,7 +1,6 @@
 -- One word more is printed, and counted where it is open.
-use Rattle.std.proofs.Common.{◌≡◌, refl, sym, ap, subst, ◌∙◌, List, [], ◌∷◌, ◌++◌, ℕ, ◌+◌, ◌%◌, ◌<◌, ◌≤◌, length, get_or, take, add-one, arith}
+use Rattle.std.proofs.Common.{◌≡◌, refl, sym, ap, subst, ◌∙◌, List, [], ◌∷◌, ◌++◌, ℕ, ◌+◌, ◌%◌, ◌<◌, length, get_or, take, add-one, arith}
 use Rattle.std.proofs.Math.Seq.{take-suc, length-take-le}
-use Rattle.frame.specs.Report.{word_line}
 use Rattle.frame.specs.Written.{Written}
 use Rattle.frame.specs.WrittenLaws.{written_then, written_length}
 use Rattle.stream.specs.Output.{word_lines, odds}

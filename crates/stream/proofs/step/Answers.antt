@@ -1,6 +1,5 @@
 -- What a step comes to, by what the program is at and where the line stops.
-use Rattle.std.proofs.Common.{refl, subst}
-use Rattle.stream.specs.Good.{GoodTask}
+use Rattle.std.proofs.Common.{refl}
 use Rattle.stream.specs.MoveLaws.{with_room, moved_swept, moved_past, moved_kept, moved_line}
 use Rattle.stream.proofs.step.Goals as goal
 
