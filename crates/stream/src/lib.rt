@@ -1,6 +1,7 @@
 // The program `plotconst` in steps by value (document 01, "Frames and report"): from what was read so far and the next bytes to the bytes to write.
 
 #![tactic(auto)]
+
 ghost use Rattle.std.specs.Prelude.{◌≡◌, true, ◌&&◌, [], ◌+◌, ◌-◌, ◌*◌, ◌≤◌, leb, length, take, drop};
 ghost use Rattle.factor.specs.SetUp.{outcome_of, intact};
 ghost use Rattle.frame.specs.Written.{Written};
