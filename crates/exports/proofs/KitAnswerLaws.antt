@@ -1,13 +1,12 @@
 -- What is known of a kit's words that were taken or not, and of the words that are left. Assumes nothing.
-use Rattle.std.specs.Prelude.{◌≡◌, refl, List, [], ◌∷◌, ◌++◌, ℕ, ◌+◌, ◌≤◌, ◌<◌, length, take}
+use Rattle.std.specs.Prelude.{◌≡◌, List, [], ◌∷◌, ◌++◌, ℕ, ◌+◌, ◌≤◌, ◌<◌, length, take}
 use Rattle.std.proofs.Math.Path.{sym}
-use Rattle.std.proofs.Common.{ap, ap₂, ◌∙◌, subst, arith, length-take-le, ltb-false}
+use Rattle.std.proofs.Common.{ap, ap₂, ◌∙◌, arith, length-take-le, ltb-false}
 use Rattle.std.proofs.lemmas.List.Edits.{sets}
 use Rattle.marks.specs.declared.Judgement.{Judgement}
-use Rattle.marks.specs.Answers.{refusal_of, First, Outcome, refused, accepted}
+use Rattle.marks.specs.Answers.{refusal_of, First, refused, accepted}
 use Rattle.marks.specs.AnswerLaws.{none_refuses, judged_passed, judged_refused}
-use Rattle.factor.specs.declared.Factor.{Factor}
-use Rattle.calls.specs.Kit.{Kit, place_size}
+use Rattle.calls.specs.Kit.{place_size}
 use Rattle.calls.proofs.KitLaws.{place_of, significand_of_lem}
 use Rattle.calls.proofs.ListLaws.{sets_append}
 use Rattle.kit.specs.declared.KitState.{KitState}

@@ -1,14 +1,12 @@
 -- Laws of kits as words: loops over the places of a kit, and copies of words. Assumes nothing.
 use Rattle.std.specs.Prelude.{◌≡◌, refl, Bool, true, false, ◌||◌, length, get_or, set, take, drop, replicate}
 use Rattle.std.proofs.Math.Path.{sym, ap}
-use Rattle.std.proofs.Common.{ap₂, ◌∙◌, add-one, length-set, length-take, length-drop, take-suc, take-suc-set, take_all, drop-cons, drop-drop, length-take-le}
+use Rattle.std.proofs.Common.{ap₂, ◌∙◌, add-one, length-set, length-drop, take-suc, take-suc-set, take_all, drop-drop, length-take-le}
 use mathlib.Core.List.{List, [], ◌∷◌, ◌++◌}
 use Prim.Native.Nat.{ℕ, zero, suc, ◌+◌, ◌-◌, ◌*◌, ◌≤◌, ◌<◌}
 use native.Mathlib.Omega.{arith}
 use Rattle.std.proofs.lemmas.List.{length-replicate}
 use Rattle.std.proofs.lemmas.List.Edits.{sets}
-use Rattle.std.proofs.Math.Seq.{take-length}
-use borrow.Rule.Slice.PartMut.{mid_of}
 use Rattle.factor.specs.declared.Factor.{Factor}
 use Rattle.calls.proofs.ListLaws.{sets_append}
 use Rattle.exports.specs.Words.{factor_length, factor_from, damaged}

@@ -1,6 +1,7 @@
 // The engine for programs in other languages: numbers and lists of words in place of structs and enums. include/gusnalip.h declares the functions.
 
 #![tactic(auto)]
+
 ghost use Rattle.std.specs.Prelude.{◌≡◌, ◌≤◌, length, take, drop, [], ◌∷◌};
 ghost use Rattle.std.proofs.lemmas.List.Edits.{sets};
 ghost use Rattle.product.specs.declared.Device.{Device};
