@@ -1,5 +1,5 @@
 -- Laws of the two halves as sections of a range: they are searched one after the other, every significand lies in one, and a call completes two at most. Assumes nothing.
-use Rattle.std.specs.Prelude.{◌≡◌, Bool, [], ◌∷◌, ℕ, suc, ◌+◌, ◌≤◌, ◌<◌}
+use Rattle.std.specs.Prelude.{Bool, ℕ, suc, ◌+◌, ◌≤◌, ◌<◌}
 use Rattle.std.proofs.Common.{inl, inr, arith}
 use Rattle.std.proofs.Math.Decide.{dec_lt}
 use Rattle.search.specs.declared.Place.{Place}

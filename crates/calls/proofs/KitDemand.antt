@@ -1,10 +1,10 @@
 -- What request W6 demands of kits, as one record: demand 3, by the theorem of sweeps, and what it says of the factors in a kit. What stands in quotes is the request's. Assumes nothing.
-use Rattle.std.specs.Prelude.{◌≡◌, refl, Bool, true, ◌↔◌, List, [], ℕ, suc, ◌-◌, length}
+use Rattle.std.specs.Prelude.{◌≡◌, Bool, true, ◌↔◌, List, [], ℕ, suc, ◌-◌, length}
 use Rattle.std.proofs.Common.{sym, ap, ◌∙◌}
 use Rattle.marks.specs.Answers.{accepted}
 use Rattle.marks.specs.AnswerLaws.{only_accepted}
 use Rattle.calls.specs.State.{State, Call, entries}
-use Rattle.calls.specs.Engine.{Engine, fresh}
+use Rattle.calls.specs.Engine.{fresh}
 use Rattle.calls.specs.Call.{new_state, sweep_call}
 use Rattle.calls.specs.Plain.{span, words_of}
 use Rattle.calls.specs.Whole.{sweeps, state_after, words_in, fed_by, Whole}

@@ -1,17 +1,16 @@
 -- The engine of kits is lawful where that of its factors is: so demand 3 holds of kits by the theorem of sweeps. Assumes nothing.
-use Rattle.std.specs.Prelude.{◌≡◌, Bool, true, false, cond, not, ◌&&◌, ◌||◌, ◌≢◌, ◌⊎◌, ◌↔◌, eqb, ltb, take}
+use Rattle.std.specs.Prelude.{◌≡◌, Bool, true, false, cond, not, ◌&&◌, ◌≢◌, eqb, ltb}
 use Rattle.std.proofs.Math.Path.{refl, ap, subst}
 use Rattle.std.proofs.Common.{sym, ◌∙◌, true≢false, inl, inr, add-zero, ltb-false, le-ltb}
 use Rattle.std.proofs.Math.Bool.{and-false}
 use mathlib.Core.List.{List, [], ◌∷◌, ◌++◌, map}
-use Prim.Native.Nat.{ℕ, zero, suc, ◌+◌, ◌-◌, ◌*◌, ◌/◌, ◌%◌, ◌^◌, ◌≤◌, ◌<◌}
+use Prim.Native.Nat.{ℕ, zero, suc, ◌+◌, ◌-◌, ◌*◌, ◌/◌, ◌%◌, ◌≤◌, ◌<◌}
 use native.Mathlib.Omega.{arith}
 use Rattle.std.proofs.Math.Nat.{zero-add}
 use Rattle.std.proofs.Math.Decide.{dec_lt}
 use Rattle.std.proofs.lemmas.Bool.{eqb-false, lt-leb, not-false}
 use Rattle.std.proofs.Math.ListN.{length, drop, length-append, length-drop}
 use Rattle.std.proofs.Math.Seq.{drop-drop}
-use Rattle.marks.specs.declared.Mark.{Mark}
 use Rattle.marks.specs.declared.Mark.TheVariants.{Right}
 use Rattle.marks.specs.Answers.{NoneHolds}
 use Rattle.marks.specs.AnswerLaws.{and_true, or_false}
@@ -21,7 +20,7 @@ use Rattle.search.specs.Finds.{LeastFrom}
 use Rattle.calls.specs.State.{State}
 use Rattle.calls.specs.Engine.{Section, start_in, past, stops_at, once, passed, Engine, handed, ListingLaws, AllOf, Chain, InSome, Finds, Laws, AtSuspect, Standing, Lawful}
 use Rattle.calls.proofs.SearchLaws.{passed_few, passed_in, chain_ends}
-use Rattle.calls.specs.Kit.{Kit, in_kit, any_of, kit_faults, place_size, position, place_in, significand_in, Factors, first_in, last_of, last_in, has_at, suspect_at, mark_at, has_in, suspect_in, mark_in, place_at, found_at, section_at, sections_from, entry_list, searched_in, kit_engine}
+use Rattle.calls.specs.Kit.{Kit, in_kit, any_of, kit_faults, place_size, position, place_in, significand_in, Factors, first_in, last_of, last_in, has_at, suspect_at, mark_at, has_in, suspect_in, mark_in, place_at, section_at, sections_from, entry_list, searched_in, kit_engine}
 
 -- ---- positions
 

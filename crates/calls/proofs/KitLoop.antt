@@ -16,7 +16,7 @@ use Rattle.search.specs.declared.Place.TheVariants.{At, Nowhere}
 use Rattle.search.specs.declared.Found.{Found}
 use Rattle.calls.specs.State.{listed}
 use Rattle.calls.specs.Engine.{Section, start_in, Engine, AllOf, Chain}
-use Rattle.calls.specs.Call.{within, none_after, sought, or_else, seek, ahead, Run, over, stopped, tried, run}
+use Rattle.calls.specs.Call.{within, none_after, sought, or_else, seek, ahead, Run, over, stopped, run}
 use Rattle.calls.proofs.SearchLaws.{chain_ends}
 use Rattle.calls.proofs.LoopLaws.{run_halts, tried_after, run_tries, run_passes}
 use Rattle.calls.proofs.RunLaws.{ahead_found}

@@ -1,11 +1,11 @@
 -- Laws of what a kit's sweep lists: its row of suspects is its factors' rows, joined in kit order, and from a new state to the finish its calls list what the separate sweeps list. Assumes nothing.
 use Rattle.std.proofs.Math.Path.{◌≡◌, refl, sym, ap, ap₂}
 use Rattle.std.proofs.Common.{◌∙◌, subst, true≢false, inl, inr}
-use Rattle.std.specs.Prelude.{Bool, true, false, cond, ◌≢◌, ◌⊎◌, ◌↔◌, take, drop}
+use Rattle.std.specs.Prelude.{Bool, true, false, cond, ◌≢◌, ◌↔◌, drop}
 use Rattle.std.proofs.Math.Bool.{not-eq-not}
 use mathlib.Core.List.Memᴰ
 use mathlib.Core.List.{List, [], ◌∷◌, ◌++◌, map, append-nil, Memᴰ}
-use Prim.Native.Nat.{ℕ, zero, suc, ◌+◌, ◌-◌, ◌*◌, ◌/◌, ◌%◌, ◌^◌, ◌≤◌, ◌<◌}
+use Prim.Native.Nat.{ℕ, suc, ◌+◌, ◌-◌, ◌*◌, ◌/◌, ◌%◌, ◌≤◌, ◌<◌}
 use native.Mathlib.Omega.{arith}
 use Rattle.std.proofs.Math.Nat.{suc-mul}
 use Rattle.std.proofs.Math.Decide.{dec_lt}

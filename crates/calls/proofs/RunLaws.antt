@@ -1,13 +1,12 @@
 -- Laws: what a call does by searches is what the row of suspects says, and its rounds are few. Assumes nothing.
-use Rattle.std.specs.Prelude.{◌≡◌, Bool, true, drop}
+use Rattle.std.specs.Prelude.{◌≡◌, Bool, drop}
 use Rattle.std.proofs.Math.Path.{refl}
 use Rattle.std.proofs.Common.{sym, ap, ◌∙◌, arith, mul-le-mul_left}
-use mathlib.Core.List.{List, [], ◌∷◌, ◌++◌}
-use Prim.Native.Nat.{ℕ, zero, suc, ◌+◌, ◌-◌, ◌*◌, ◌≤◌, ◌<◌}
+use mathlib.Core.List.{List, [], ◌∷◌}
+use Prim.Native.Nat.{ℕ, zero, suc, ◌+◌, ◌-◌, ◌*◌, ◌≤◌}
 use Rattle.std.proofs.Math.Nat.{add-zero}
 use Rattle.std.proofs.Math.ListN.{length}
-use Rattle.search.specs.declared.Place.{Place}
-use Rattle.search.specs.declared.Place.TheVariants.{At, Nowhere}
+use Rattle.search.specs.declared.Place.TheVariants.{At}
 use Rattle.search.specs.declared.Found.{Found}
 use Rattle.calls.specs.Engine.{stops_at, once, passed, Engine, Laws, AtSuspect}
 use Rattle.calls.specs.State.{listed}
@@ -16,7 +15,7 @@ use Rattle.calls.specs.Plain.{row, not_right, tries, words_of}
 use Rattle.calls.specs.ByRow.{head_of, legs, trail, rounds_in, row_run}
 use Rattle.calls.proofs.TrialLaws.{listed_length, no_cap, no_place}
 use Rattle.calls.proofs.RowLaws.{begins, first_suspect}
-use Rattle.calls.proofs.SearchLaws.{row_in, rows_whole, seek_is, searches_few, rounds_append, trail_few}
+use Rattle.calls.proofs.SearchLaws.{rows_whole, seek_is, searches_few, rounds_append, trail_few}
 
 module _ {U : Type 0} {suspect : ℕ → Bool} {e : Engine U} {u : U} {B : ℕ} (laws : Laws suspect e u B) where
   abbrev first : ℕ

@@ -3,7 +3,7 @@ use Rattle.std.specs.Prelude.{◌≡◌, Bool, true, false, length, take, drop}
 use Rattle.std.proofs.Math.Path.{refl, ap}
 use Rattle.std.proofs.Common.{sym, ◌∙◌, true≢false, arith, drop-drop}
 use mathlib.Core.List.{List, [], ◌∷◌}
-use Prim.Native.Nat.{ℕ, suc, ◌+◌, ◌≤◌}
+use Prim.Native.Nat.{ℕ, suc, ◌+◌}
 use Rattle.marks.specs.Answers.{Refusal, number, none, judged, NoneHolds}
 use Rattle.marks.specs.AnswerLaws.{pass_all}
 use Rattle.calls.specs.State.{State, Call, terms_of, entries, room_in}

@@ -1,5 +1,5 @@
 -- Laws of sections: the row of suspects is made of theirs, the searches in them lead to its first, and how many searches a call makes. Assumes nothing.
-use Rattle.std.specs.Prelude.{◌≡◌, Bool, cond, ◌&&◌, ◌⊎◌, ltb, drop}
+use Rattle.std.specs.Prelude.{◌≡◌, Bool, cond, ◌&&◌, ltb, drop}
 use Rattle.std.proofs.Math.Path.{refl, sym, ap}
 use Rattle.std.proofs.Common.{◌∙◌, subst, inl, inr, zero-add, mul-add, mul-suc}
 use Rattle.std.proofs.Math.Bool.{true, false, not, not-eq-not}
@@ -15,7 +15,7 @@ use Rattle.search.specs.declared.Place.TheVariants.{At, Nowhere}
 use Rattle.search.specs.declared.Found.{Found}
 use Rattle.search.specs.Finds.{LeastFrom}
 use Rattle.calls.specs.Engine.{Section, start_in, past, stops_at, once, passed, AllOf, Chain, InSome, Finds}
-use Rattle.calls.specs.Call.{within, none_after, sought, or_else, seek}
+use Rattle.calls.specs.Call.{within, or_else, seek}
 use Rattle.calls.specs.Plain.{keep, row}
 use Rattle.calls.specs.ByRow.{head_of, legs, trail, rounds_in, closing, closings, searches_of}
 use Rattle.calls.proofs.RowLaws.{row_empty, row_at, row_none, row_skip, row_split, row_clear, first_suspect, begins}

@@ -11,7 +11,7 @@ use Rattle.std.proofs.Math.Seq.{take-length}
 use borrow.Rule.Slice.PartMut.{put_mid, mid_of}
 use Rattle.marks.specs.Answers.{none, judged, NoneHolds, Outcome, refused, accepted}
 use Rattle.marks.specs.AnswerLaws.{judged_none, none_holds, pass_all}
-use Rattle.calls.specs.State.{State, Call, Terms, terms_of, Listing, entries, room_in, tail_terms}
+use Rattle.calls.specs.State.{State, Call, terms_of, Listing, entries}
 use Rattle.calls.specs.Engine.{Engine, handed, Lawful}
 use Rattle.calls.specs.Call.{Result, ReplyOf, conditions, Run, run, run_of, replied, sweep_call}
 use Rattle.calls.proofs.RefusalLaws.{Ready, ready}

@@ -10,7 +10,7 @@ use Rattle.search.specs.declared.Place.TheVariants.{At, Nowhere}
 use Rattle.search.specs.declared.Found.{Found}
 use Rattle.search.specs.Finds.{LeastFrom}
 use Rattle.calls.specs.State.{Range, State, in_range, out_of_range, Call, Listing, word_list}
-use Rattle.calls.specs.Engine.{Half, low, high, halves, Engine, fresh, handed, ListingLaws, Lawful}
+use Rattle.calls.specs.Engine.{Half, low, high, halves, Engine, fresh, ListingLaws, Lawful}
 use Rattle.calls.specs.Call.{new_state, seek, run, sweep_call}
 use Rattle.calls.specs.Plain.{row, tries, words_of, Fed, begun, plain_call, Seen, state_of, plains}
 use Rattle.calls.specs.ByRow.{closings, searches_of}

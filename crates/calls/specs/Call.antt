@@ -1,12 +1,12 @@
 -- Definitions: a new state and a sweep call, by searches (document 01, "A sweep"), for every state, also one that no calls lead to. What stands in quotes is document 01's.
-use Rattle.std.specs.Prelude.{Bool, true, false, cond, List, [], ◌∷◌, ◌++◌, ℕ, zero, suc, ◌+◌, ◌-◌, ltb, length}
+use Rattle.std.specs.Prelude.{Bool, cond, List, [], ◌∷◌, ◌++◌, ℕ, zero, suc, ◌+◌, ◌-◌, ltb, length}
 use Rattle.std.proofs.lemmas.List.Edits.{sets}
 use Rattle.marks.specs.declared.Mark.{Mark}
 use Rattle.marks.specs.Answers.{Refusal, number, none, judged, Outcome, refused, accepted, answer}
 use Rattle.search.specs.declared.Place.{Place}
 use Rattle.search.specs.declared.Place.TheVariants.{At, Nowhere}
 use Rattle.search.specs.declared.Found.{Found}
-use Rattle.calls.specs.State.{State, Call, Terms, terms_of, listed, Listing, entries, room_in}
+use Rattle.calls.specs.State.{State, Call, Terms, terms_of, listed, entries, room_in}
 use Rattle.calls.specs.Engine.{Section, start_in, Engine, fresh, handed}
 
 -- ---- refusals and replies

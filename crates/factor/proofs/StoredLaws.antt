@@ -117,9 +117,13 @@ module _ (f : Format) (K : Context) (ok : Fine K) (held : Held f K) where
         value_over l (negative p.low) (nat_abs p.low) p.places (low_in_units K ok c ce).some (low_sign K ok c ce) (low_over K ok c ce) (low_held p (storable K ok c ce))
 
 -- ---- what set-up stores
-pub applied_from_lem : (d : Description) → ValidPrecision d.precision → End (context_for d) d.lower → applied_of d ≡ applied_from d.precision d.scale (parts_at (context_for d) d.lower)
+-- `applied_of` opens only here: with it rounding to a float opens too
+applied_is : (d : Description) → applied_of d ≡ record { high = float_in binary32 (high_part (context_for d) d.lower); low = float_in binary32 (low_part (context_for d) d.lower); scale = d.scale }
 unfolding applied_of
-applied_from_lem d N ce = λ i. record { high = high_from_lem binary32 (context_for d) (fine_at N) (valid_held N) d.lower ce i; low = low_from_lem binary32 (context_for d) (fine_at N) (valid_held N) d.lower ce i; scale = d.scale }
+applied_is d = refl
+
+pub applied_from_lem : (d : Description) → ValidPrecision d.precision → End (context_for d) d.lower → applied_of d ≡ applied_from d.precision d.scale (parts_at (context_for d) d.lower)
+applied_from_lem d N ce = applied_is d ∙ λ i. record { high = high_from_lem binary32 (context_for d) (fine_at N) (valid_held N) d.lower ce i; low = low_from_lem binary32 (context_for d) (fine_at N) (valid_held N) d.lower ce i; scale = d.scale }
 
 -- they are numbers
 pub accepted_numbers : (d : Description) (f : Factor) → set_up d ≡ accepted f → T (not (is_nan f.applied.high)) × T (not (is_nan f.applied.low))
@@ -129,19 +133,18 @@ accepted_numbers d f e =
     let fine = fine_at t.1.precision in
     let held = valid_held t.1.precision in
     subst (λ (g : Factor). T (not (is_nan g.applied.high)) × T (not (is_nan g.applied.low))) t.0
-    (unfold applied_of in (value_number _ _ _ _ (stored_high binary32 K fine held d.lower t.1.lower_end), value_number _ _ _ _ (stored_low binary32 K fine held d.lower t.1.lower_end)))
+    (rw applied_is (value_number _ _ _ _ (stored_high binary32 K fine held d.lower t.1.lower_end), value_number _ _ _ _ (stored_low binary32 K fine held d.lower t.1.lower_end)))
 
 -- so 31 refuses a factor that stores a NaN
 pub intact_numbers : (f : Factor) → intact f ≡ true → T (not (is_nan f.applied.high)) × T (not (is_nan f.applied.low))
-unfolding applied_of
 intact_numbers f e =
     let s = intact_sound f e in
     let d = described f in
     let h = high_part (context_for d) d.lower in
     let l = low_part (context_for d) d.lower in
-    let n = accepted_numbers d (factor_of d) (intact_accepted f e).0 in (
-      same_number binary32 f.applied.high (float_in binary32 h) (round-fits binary32 h.minus h.num h.den) s.high_stored n.0,
-      same_number binary32 f.applied.low (float_in binary32 l) (round-fits binary32 l.minus l.num l.den) s.low_stored n.1,
+    let n = rw applied_is at (accepted_numbers d (factor_of d) (intact_accepted f e).0) in (
+      same_number binary32 f.applied.high (float_in binary32 h) (round-fits binary32 h.minus h.num h.den) (rw applied_is at s.high_stored) n.0,
+      same_number binary32 f.applied.low (float_in binary32 l) (round-fits binary32 l.minus l.num l.den) (rw applied_is at s.low_stored) n.1,
     )
 
 -- ---- what a sound factor stores, in floats of the format: exactly Ch and Cl
@@ -150,23 +153,21 @@ module _ (f : Factor) (s : Sound f) where
   storable_parts = subst (Storable (context_of f)) (sym s.parts) (storable (context_of f) (fine_at s.precision) (lower_of f) s.lower_end)
 
   pub high_number : T (fits binary32 f.applied.high) → HasValue f.applied.high false f.parts.high (2 ^ (f.precision.bits - 1))
-  unfolding applied_of
   high_number h =
       let K = context_of f in
       let ok = fine_at s.precision in
       let held = valid_held s.precision in
       let x = high_part K (lower_of f) in
-      let is = same_bits binary32 f.applied.high (float_in binary32 x) h (round-fits binary32 x.minus x.num x.den) s.high_stored ∙ high_from_lem binary32 K ok held (lower_of f) s.lower_end ∙ ap (high_from binary32 K.n) (sym s.parts) in
+      let is = same_bits binary32 f.applied.high (float_in binary32 x) h (round-fits binary32 x.minus x.num x.den) (rw applied_is at s.high_stored) ∙ high_from_lem binary32 K ok held (lower_of f) s.lower_end ∙ ap (high_from binary32 K.n) (sym s.parts) in
       subst (λ (z : Float). HasValue z false f.parts.high (2 ^ (f.precision.bits - 1))) (sym is) (high_held binary32 K ok held f.parts storable_parts)
 
   pub low_number : T (fits binary32 f.applied.low) → HasValue f.applied.low (negative f.parts.low) (nat_abs f.parts.low) (2 ^ f.parts.places)
-  unfolding applied_of
   low_number h =
       let K = context_of f in
       let ok = fine_at s.precision in
       let held = valid_held s.precision in
       let x = low_part K (lower_of f) in
-      let is = same_bits binary32 f.applied.low (float_in binary32 x) h (round-fits binary32 x.minus x.num x.den) s.low_stored ∙ low_from_lem binary32 K ok held (lower_of f) s.lower_end ∙ ap (low_from binary32) (sym s.parts) in
+      let is = same_bits binary32 f.applied.low (float_in binary32 x) h (round-fits binary32 x.minus x.num x.den) (rw applied_is at s.low_stored) ∙ low_from_lem binary32 K ok held (lower_of f) s.lower_end ∙ ap (low_from binary32) (sym s.parts) in
       subst (λ (z : Float). HasValue z (negative f.parts.low) (nat_abs f.parts.low) (2 ^ f.parts.places)) (sym is) (low_held binary32 K ok held f.parts storable_parts)
 
 -- and what set-up stores are floats of the format
@@ -175,4 +176,4 @@ accepted_fits d f e =
     let h = high_part (context_for d) d.lower in
     let l = low_part (context_for d) d.lower in
     subst (λ (g : Factor). T (fits binary32 g.applied.high) × T (fits binary32 g.applied.low)) (set_up_sound d f e).0
-    (unfold applied_of in (round-fits binary32 h.minus h.num h.den, round-fits binary32 l.minus l.num l.den))
+    (rw applied_is (round-fits binary32 h.minus h.num h.den, round-fits binary32 l.minus l.num l.den))

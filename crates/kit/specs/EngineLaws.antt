@@ -1,15 +1,14 @@
 -- What kits ask of factors is so: so the engine of kits is lawful. Assumes nothing.
-use Rattle.std.specs.Prelude.{◌≡◌, false, ℕ, ◌-◌, ◌*◌, ◌^◌}
+use Rattle.std.specs.Prelude.{◌≡◌, false, ℕ, ◌-◌}
 use Rattle.std.proofs.Common.{arith, pow_pos}
 use Rattle.marks.specs.Answers.{NoneHolds}
 use Rattle.rounding.proofs.Digits.{pow_half}
-use Rattle.rounding.specs.Round.{HasBits}
 use Rattle.factor.specs.declared.Factor.{Factor}
-use Rattle.factor.specs.Precision.{most_precision, ValidPrecision, least_of, most_of, range_out}
+use Rattle.factor.specs.Precision.{ValidPrecision, least_of, most_of, range_out}
 use Rattle.factor.specs.SetUp.{Sound}
 use Rattle.product.proofs.AnswerLaws.{range_in}
 use Rattle.calls.specs.Engine.{Lawful}
-use Rattle.calls.specs.Kit.{Kit, suspect_in, place_size}
+use Rattle.calls.specs.Kit.{suspect_in}
 use Rattle.calls.proofs.KitLaws.{FactorLaws, kit_lawful}
 use Rattle.sweep.specs.Engine as sweep
 use Rattle.sweep.proofs.EngineLaws.{sound_of, lawful}

@@ -22,7 +22,6 @@ use Rattle.floats.proofs.NormalLaws.{number_at, number_some}
 use Rattle.factor.specs.declared.Factor.{Factor}
 use Rattle.factor.specs.SetUp.{intact, Sound}
 use Rattle.factor.proofs.SetUpLaws.{intact_sound}
-use Rattle.product.specs.Product.{high}
 use Rattle.quotient.specs.declared.Quotient.{Quotient}
 use Rattle.quotient.specs.Quotient.{by_high, quotient_by, direction_by, directed_by, signed_quotient, value_of}
 use Rattle.quotient.specs.Tells.{Tells as TellsOf, sound_quotient}

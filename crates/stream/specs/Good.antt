@@ -5,7 +5,6 @@ use Rattle.factor.specs.Precision.{most_precision, range_out}
 use Rattle.factor.specs.SetUp.{intact}
 use Rattle.sweep.specs.declared.SweepState.{SweepState}
 use Rattle.stream.specs.declared.Tally.{Tally}
-use Rattle.stream.specs.declared.Task
 use Rattle.stream.specs.declared.Task.{Task}
 use Rattle.stream.specs.declared.Progress.{Progress}
 use Rattle.stream.specs.Output.{most_lines}

@@ -6,7 +6,6 @@ use Rattle.marks.specs.AnswerLaws.{and_true}
 use Rattle.frame.specs.Written.{Written}
 use Rattle.frame.specs.WrittenLaws.{written_then, written_none, written_front, written_length}
 use Rattle.stream.specs.declared.Move.{Move}
-use Rattle.stream.specs.declared.Next
 use Rattle.stream.specs.declared.Next.{Next}
 use Rattle.stream.specs.declared.Progress.{Progress}
 use Rattle.stream.specs.declared.Worked.{Worked}

@@ -14,7 +14,6 @@ use Rattle.frame.specs.Written.{Written}
 use Rattle.frame.specs.WrittenLaws.{written_then, written_none}
 use Rattle.sweep.specs.declared.SweepState.{SweepState}
 use Rattle.stream.specs.declared.Tally.{Tally}
-use Rattle.stream.specs.declared.Task
 use Rattle.stream.specs.declared.Task.{Task}
 use Rattle.stream.specs.declared.Progress.{Progress}
 use Rattle.stream.specs.declared.Move.{Move}

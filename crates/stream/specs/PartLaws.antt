@@ -15,7 +15,6 @@ use Rattle.calls.specs.ByRow.{head_of, row_run}
 use Rattle.calls.proofs.TrialLaws.{tries_within, words_fit}
 use Rattle.calls.proofs.ListLaws.{entries_are, read_back}
 use Rattle.sweep.specs.declared.SweepState.{SweepState}
-use Rattle.sweep.specs.declared.SweepAnswer
 use Rattle.sweep.specs.declared.SweepAnswer.{SweepAnswer}
 use Rattle.sweep.specs.Engine.{mark_of, engine}
 use Rattle.sweep.specs.Answers.{view_of, code_of, call_of, terms_by, reply_of}

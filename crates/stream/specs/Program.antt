@@ -7,9 +7,7 @@ use Rattle.std.proofs.Math.Bool.{cond}
 use mathlib.Core.List.{List, [], ◌∷◌, ◌++◌, append_assoc, append-nil}
 use Prim.Native.Nat.{ℕ, zero, suc, ◌+◌, ◌≤◌, ◌<◌}
 use Rattle.std.proofs.Math.ListN.{length}
-use Rattle.stream.specs.declared.Next
 use Rattle.stream.specs.declared.Next.{Next}
-use Rattle.stream.specs.declared.Task
 use Rattle.stream.specs.declared.Task.{Task}
 use Rattle.stream.specs.Output.{most_lines, output}
 use Rattle.stream.specs.PieceLaws.{by_test, reading_past}

@@ -1,5 +1,5 @@
 -- One step of the program, from what was read so far and the next bytes to the bytes to write. Definitions only. Assumes nothing.
-use Rattle.std.specs.Prelude.{Bool, true, false, cond, List, [], ◌∷◌, ◌++◌, ℕ, suc, ◌+◌, ◌-◌, ◌^◌, leb, length, take, drop}
+use Rattle.std.specs.Prelude.{Bool, true, false, cond, List, [], ◌∷◌, ◌++◌, ℕ, suc, ◌+◌, ◌-◌, ◌^◌, leb, take, drop}
 use Rattle.wide.specs.Value.{word_bits}
 use Rattle.search.specs.declared.Place.{Place}
 use Rattle.marks.specs.Answers.{Outcome, refused, accepted}
@@ -14,7 +14,6 @@ use Rattle.sweep.specs.Answers.{view_of, code_of}
 use Rattle.frame.specs.declared.Report.{Report}
 use Rattle.frame.specs.Report.{report_line, refusal_line}
 use Rattle.stream.specs.declared.Tally.{Tally}
-use Rattle.stream.specs.declared.Task
 use Rattle.stream.specs.declared.Task.{Task}
 use Rattle.stream.specs.declared.Progress.{Progress}
 use Rattle.stream.specs.Output.{most_lines, is_wrong, is_open, counted, word_lines, judged_line, tally}

@@ -21,7 +21,6 @@ use Rattle.frame.specs.Frame.{frame_of}
 use Rattle.sweep.specs.declared.SweepState.{SweepState}
 use Rattle.sweep.specs.Engine.{mark_of, suspect}
 use Rattle.stream.specs.declared.Tally.{Tally}
-use Rattle.stream.specs.declared.Task
 use Rattle.stream.specs.declared.Task.{Task}
 use Rattle.stream.specs.Output.{most_lines, among, suspects_of, judged_line, judged_output, last_output, line_output, output}
 use Rattle.stream.specs.PieceLaws.{by_test, reading, reading_all, reading_feed, reading_end, reading_past}

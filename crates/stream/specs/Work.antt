@@ -1,6 +1,5 @@
 -- What the program does between a read and a write, and its loop around them, as functions of the bytes that are read. Definitions only. Assumes nothing.
 use Rattle.std.specs.Prelude.{Bool, true, false, cond, ◌&&◌, List, [], ◌∷◌, ◌++◌, ℕ, zero, suc, ◌+◌, ◌-◌, leb, length}
-use Rattle.stream.specs.declared.Next
 use Rattle.stream.specs.declared.Next.{Next}
 use Rattle.stream.specs.Output.{most_lines}
 use Rattle.stream.specs.Step.{most_written, Read, Stepped, wants_step, at_line, step_of, end_of}

@@ -14,7 +14,6 @@ use Rattle.calls.proofs.TrialLaws.{tries_full}
 use Rattle.sweep.specs.declared.SweepState.{SweepState}
 use Rattle.sweep.specs.Engine.{mark_of}
 use Rattle.stream.specs.declared.Tally.{Tally}
-use Rattle.stream.specs.declared.Task
 use Rattle.stream.specs.declared.Task.{Task}
 use Rattle.stream.specs.Output.{judged_line}
 use Rattle.stream.specs.PieceLaws.{by_test}

@@ -1,6 +1,7 @@
 // The program `plotconst` in steps by value (document 01, "Frames and report"): from what was read so far and the next bytes to the bytes to write.
 
 #![tactic(auto)]
+
 ghost use Rattle.std.specs.Prelude.{◌≡◌, true, ◌&&◌, [], ◌+◌, ◌-◌, ◌*◌, ◌≤◌, leb, length, take, drop};
 ghost use Rattle.factor.specs.SetUp.{outcome_of, intact};
 ghost use Rattle.frame.specs.Written.{Written};
@@ -363,6 +364,7 @@ fn step(p: Progress, input: &[u8], at: usize, out: &mut [u8], used: usize) -> Mo
 }
 
 // The end of the input: a last line without its line feed is refused.
+#[tactic(auto, unfolding(crate::specs::Step::end_of))]
 fn finish(p: Progress, out: &mut [u8], used: usize) -> usize
     requires { Fit p × (used + most_written ≤ length out.old) }
     ensures { Written out.old used (end_of (read_of p)) out.new result × (result ≤ used + most_written) }

@@ -18,7 +18,7 @@ use Rattle.factor.specs.Precision.{most_precision}
 use Rattle.suspects.specs.declared.Windows.{Windows}
 use Rattle.calls.specs.State.{listed, Listing, entries, word_list, Call}
 use Rattle.calls.specs.Engine.{once, stops_at, passed, handed}
-use Rattle.calls.specs.Call.{Run, ahead, run, run_of, sweep_call}
+use Rattle.calls.specs.Call.{Run, run, run_of, sweep_call}
 use Rattle.calls.specs.Plain.{row, tries}
 use Rattle.calls.specs.ByRow.{head_of}
 use Rattle.calls.proofs.RowLaws.{row_ascends, ascends_few}

@@ -1,6 +1,6 @@
 -- Definitions: what the code's states and answers say, in document 01's numbers and values. Assumes nothing.
 use Rattle.std.specs.Prelude.{List, ℕ}
-use Rattle.marks.specs.Answers.{number, Outcome, refused, accepted}
+use Rattle.marks.specs.Answers.{Outcome, refused, accepted}
 use Rattle.factor.specs.declared.Factor.{Factor}
 use Rattle.calls.specs.State.{Range, State, Call, Terms}
 use Rattle.calls.specs.Call.{Result, Reply}

@@ -1,5 +1,5 @@
 -- Refused, or the steps on the free tail that is lent on.
-use Rattle.std.proofs.Common.{◌-◌, ◌*◌, ◌^◌, ◌≤◌, ◌<◌, length, ap, ◌∙◌, arith, rules}
+use Rattle.std.proofs.Common.{◌*◌, ◌^◌, ◌<◌, length, ap, ◌∙◌, arith, rules}
 use Rattle.calls.proofs.RefusalLaws.{call_refused}
 use Rattle.calls.proofs.TailLaws.{moved, lent_length, tail_free, tail_taken, tail_moved}
 use Rattle.sweep.specs.Answers.{call_of}

@@ -18,6 +18,10 @@ use Rattle.reading.proofs.AnswerLaws.{Ready, ready, normal_answered, zero_answer
 use Rattle.reading.proofs.Laws.{kept}
 use Rattle.reading.proofs.divide.Goals as goal
 
+-- what is made of a zero, y having the sign s
+zero_is : (f : Factor) (b : ℕ) (y : Float) (s : Bool) → y ≡ zero_of s → s ≡ sign_with f b → accepted (record { number = y; direction = Equal }) ≡ accepted (quotient_of f b).of_zero
+zero_is f b y s y_is s_is = ap (λ (y : Float). accepted (record { number = y; direction = Equal })) (y_is ∙ ap zero_of s_is)
+
 -- ---- the quotient w of a normal reading with the bits b, whose significand is x, and what is put on the exponent
 module _ (f : Factor) (b : ℕ) (r : Ready f b) (w : DirectedQuotient) (x : ℕ) (x_is : x ≡ significand_of binary32 b) (w_is : w ≡ directed_by f x) where
   abbrev v : Quotient
@@ -79,7 +83,7 @@ pub returns-in-Zero : goal.returns-in-Zero
 unfolding divided_reading
 returns-in-Zero c =
     let a = c.args in
-    ap (λ (y : Float). accepted (record { number = y; direction = Equal })) (c.zero.ensures ∙ ap zero_of c.sign_with.ensures) ∙ zero_answered a.f a.reading c.take.result c.take.ensures (quotient_of a.f) c.in-Zero.is
+    zero_is a.f c.in-Zero.bits _ _ c.zero.ensures c.sign_with.ensures ∙ zero_answered a.f a.reading c.take.result c.take.ensures (quotient_of a.f) c.in-Zero.is
 
 pub returns-in-Normal : goal.returns-in-Normal
 unfolding divided_reading

@@ -1,10 +1,9 @@
 -- The binary32 product is u1, and its bits tell it.
-use Rattle.std.proofs.Common.{◌≡◌, refl, ℕ, false, ◌-◌, ◌^◌, T, Float, lit<, lit≤, sym, ap, ◌∙◌, subst, le_of_lt, nat_abs, pow_pos, rules}
+use Rattle.std.proofs.Common.{◌≡◌, refl, ℕ, false, ◌-◌, T, Float, lit<, lit≤, sym, ap, ◌∙◌, subst, le_of_lt, pow_pos, rules}
 use Rattle.std.specs.Float.Ieee
 use Rattle.std.specs.Float.Ieee.{binary32, prec, hid, mul, to_bits, fits}
 use Rattle.std.specs.Float.Ieee.Exact.{HasValue}
 use Rattle.rounding.specs.Round.{HasBits}
-use Rattle.rounding.specs.Signed.{negative}
 use Rattle.wide.specs.Value.{word_bits}
 use Rattle.floats.specs.Fields.{unit_at}
 use Rattle.floats.proofs.Narrow.{stored_exactly}

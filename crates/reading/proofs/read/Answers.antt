@@ -1,5 +1,5 @@
 -- Refused, a zero, or the product on the device and what becomes of it.
-use Rattle.std.proofs.Common.{ap, ◌∙◌, subst, ℕ, Float}
+use Rattle.std.proofs.Common.{◌≡◌, ap, ◌∙◌, subst, ℕ, Bool, Float}
 use Rattle.std.specs.Float.{binary32}
 use Rattle.marks.specs.declared.Mark.{Mark}
 use Rattle.marks.specs.Answers.{accepted, Marked}
@@ -9,13 +9,17 @@ use Rattle.floats.specs.Fields.{zero_of, significand_of}
 use Rattle.factor.specs.declared.Factor.{Factor}
 use Rattle.product.specs.declared.Device.{Device}
 use Rattle.product.proofs.DeviceLaws.{formed}
-use Rattle.reading.specs.Reading.{DirectedNumber, Made, product_of, product_at, directed_at, finished, applied}
+use Rattle.reading.specs.Reading.{sign_with, DirectedNumber, Made, product_of, product_at, directed_at, finished, applied}
 use Rattle.reading.proofs.AnswerLaws.{ready, normal_answered, zero_answered, refused_answered}
 use Rattle.reading.proofs.read.Goals as goal
 
 -- what is made of a reading by its bits
 abbrev made : Device → Factor → ℕ → Made (Marked DirectedNumber)
 made d f b = product_of f b (directed_at d f b)
+
+-- what is made of a zero, y having the sign s
+zero_is : (d : Device) (f : Factor) (b : ℕ) (y : Float) (s : Bool) → y ≡ zero_of s → s ≡ sign_with f b → accepted (record { mark = Mark.Right; value = record { number = y; direction = Equal } }) ≡ accepted (made d f b).of_zero
+zero_is d f b y s y_is s_is = ap (λ (y : Float). accepted (record { mark = Mark.Right; value = record { number = y; direction = Equal } })) (y_is ∙ ap zero_of s_is)
 
 pub product_of-requires : goal.product_of-requires
 product_of-requires c =
@@ -38,7 +42,7 @@ pub returns-in-Zero : goal.returns-in-Zero
 unfolding applied
 returns-in-Zero c =
     let a = c.args in
-    ap (λ (y : Float). accepted (record { mark = Mark.Right; value = record { number = y; direction = Equal } })) (c.zero.ensures ∙ ap zero_of c.sign_with.ensures) ∙ zero_answered a.f a.reading c.take.result c.take.ensures (made a.d a.f) c.in-Zero.is
+    zero_is a.d a.f c.in-Zero.bits _ _ c.zero.ensures c.sign_with.ensures ∙ zero_answered a.f a.reading c.take.result c.take.ensures (made a.d a.f) c.in-Zero.is
 
 pub returns-in-Normal : goal.returns-in-Normal
 unfolding applied finished

@@ -1,4 +1,5 @@
 -- A step may be made, its entry fits where it is written, and what is done so far and what is left to do are still all.
+use Rattle.std.proofs.Common.{ℕ, arith, length-set}
 use Rattle.sweep.proofs.EngineLaws.{sound_of}
 use Rattle.sweep.proofs.LoopLaws.{part_steps, part_stepped, one_word, two_words}
 use Rattle.sweep.proofs.steps_on.Goals as goal
@@ -8,6 +9,16 @@ windows_of-windows-requires c = sound_of c.args.s.factor c.requires.sound.0
 
 pub step-next-requires : goal.step-next-requires
 step-next-requires c = part_steps c.loop-w.invariant c.loop-w-test.true c.windows_of-windows.ensures
+
+pub bounds-tail-place : goal.bounds-tail-place
+bounds-tail-place c =
+    let stepped = part_stepped c.loop-w.invariant c.loop-w-test.true c.step-next.ensures in
+    omega (arith, two_words c.loop-w.invariant c.loop-w-test.true stepped c.if-place-next.true c.if-paired.true)
+
+pub bounds-tail-place-then-paired : goal.bounds-tail-place-then-paired
+bounds-tail-place-then-paired c =
+    let stepped = part_stepped c.loop-w.invariant c.loop-w-test.true c.step-next.ensures in
+    omega (arith, two_words c.loop-w.invariant c.loop-w-test.true stepped c.if-place-next.true c.if-paired.true, length-set {A = ℕ})
 
 pub overflow_cast-tail : goal.overflow_cast-tail
 overflow_cast-tail c = record { fits = ((part_stepped c.loop-w.invariant c.loop-w-test.true c.step-next.ensures).fits c.if-place-next.true).1 }

@@ -1,5 +1,5 @@
 -- Before each significand the counts are those of the span up to it, and the cuts those of both ends times it.
-use Rattle.std.proofs.Common.{◌≡◌, ℕ, suc, ◌+◌, ◌-◌, ◌*◌, ◌≤◌}
+use Rattle.std.proofs.Common.{◌≡◌, ℕ, suc, ◌-◌, ◌*◌, ◌≤◌}
 use Rattle.marks.specs.declared.Mark.{Mark}
 use Rattle.round.specs.declared.Cut.{Cut}
 use Rattle.round.specs.Cuts.{cut_at}
