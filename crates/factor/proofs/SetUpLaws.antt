@@ -5,7 +5,7 @@ use Rattle.std.proofs.Math.Path.{ap, subst}
 use Rattle.std.specs.Float.Ieee.{binary32, to_bits}
 use store.Seg.{eqb_same}
 use borrow.Author.Tests.{ltb-false, leb-false, eqb-true, eq-eqb, not-false}
-use Rattle.marks.specs.Answers.{NoneHolds, Outcome, refused, accepted, each}
+use Rattle.marks.specs.Answers.{NoneHolds, Outcome, refused, accepted, answer, each}
 use Rattle.marks.specs.AnswerLaws.{answer_each, only_accepted, none_refuses, or_false, and_true}
 use Rattle.floats.specs.Fields.{same_float}
 use Rattle.factor.specs.declared.Description.{Description}
@@ -15,9 +15,9 @@ use Rattle.factor.specs.declared.Factor.{Factor}
 use Rattle.factor.specs.Precision.{least_precision, most_precision, ValidPrecision, precision_out}
 use Rattle.factor.specs.Context.{Context, context_for}
 use Rattle.factor.proofs.ContextLaws.{valid_of}
-use Rattle.factor.specs.Parts.{parts_at}
+use Rattle.factor.specs.Parts.{high_part, low_part, parts_at}
 use Rattle.factor.specs.Ends.{End}
-use Rattle.factor.specs.SetUp.{end_out, same_high, same_z, same_low, applied_of, stored_by, factor_with, factor_of, conditions, stored_of, set_up, stores_just, given, described, intact, Sound}
+use Rattle.factor.specs.SetUp.{end_out, same_high, same_z, same_low, float_in, applied_of, stored_by, factor_with, factor_of, conditions, stored_of, set_up, stores_just, given, described, intact, Sound}
 
 -- ---- tests
 pub same_z_true : (x y : ℤ) → same_z x y ≡ true → x ≡ y
@@ -44,6 +44,19 @@ end_in K c e = let t = or_false (ltb c (2 ^ K.E)) (leb (2 ^ suc K.E) c) e in rec
 -- a precision that 11 lets through
 pub valid_in : (n : ℕ) → precision_out n ≡ false → ValidPrecision n
 valid_in n e = let t = or_false (ltb n least_precision) (ltb most_precision n) e in valid_of (ltb-false n least_precision t.0) (ltb-false most_precision n t.1)
+
+-- ---- what is stored, and what 31 looks at: each opens here, as rounding to a float opens with them
+pub applied_is : (d : Description) → applied_of d ≡ record { high = float_in binary32 (high_part (context_for d) d.lower); low = float_in binary32 (low_part (context_for d) d.lower); scale = d.scale }
+unfolding applied_of
+applied_is d = refl
+
+pub stored_is : (d : Description) → stored_of d ≡ answer (conditions d) (stored_by d)
+unfolding stored_of
+stored_is d = refl
+
+pub intact_is : (f : Factor) → intact f ≡ given f (stored_of (described f))
+unfolding intact
+intact_is f = refl
 
 -- ---- set-up gives what is stored of the size, with sign, precision and ends as described beside it
 pub set_up_stores : (d : Description) → set_up d ≡ each (factor_with d) (stored_of d)

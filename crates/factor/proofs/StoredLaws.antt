@@ -28,7 +28,7 @@ use Rattle.factor.proofs.LowForm.{Tells}
 use Rattle.factor.proofs.PartsLaws.{high_in_units, high_count, high_is, high_least, high_most, low_in_units, low_kept, low_tells, units_of_parts}
 use Rattle.factor.specs.SetUp.{float_in, applied_of, factor_of, set_up, described, intact, Sound}
 use Rattle.factor.specs.Stored.{high_from, low_from, applied_from, LowStorable, Storable, Held}
-use Rattle.factor.proofs.SetUpLaws.{set_up_sound, intact_accepted, intact_sound}
+use Rattle.factor.proofs.SetUpLaws.{applied_is, set_up_sound, intact_accepted, intact_sound}
 
 module _ (K : Context) (ok : Fine K) (c : ℕ) (ce : End K c) where
   open K use {n, E}
@@ -117,11 +117,6 @@ module _ (f : Format) (K : Context) (ok : Fine K) (held : Held f K) where
         value_over l (negative p.low) (nat_abs p.low) p.places (low_in_units K ok c ce).some (low_sign K ok c ce) (low_over K ok c ce) (low_held p (storable K ok c ce))
 
 -- ---- what set-up stores
--- `applied_of` opens only here: with it rounding to a float opens too
-applied_is : (d : Description) → applied_of d ≡ record { high = float_in binary32 (high_part (context_for d) d.lower); low = float_in binary32 (low_part (context_for d) d.lower); scale = d.scale }
-unfolding applied_of
-applied_is d = refl
-
 pub applied_from_lem : (d : Description) → ValidPrecision d.precision → End (context_for d) d.lower → applied_of d ≡ applied_from d.precision d.scale (parts_at (context_for d) d.lower)
 applied_from_lem d N ce = applied_is d ∙ λ i. record { high = high_from_lem binary32 (context_for d) (fine_at N) (valid_held N) d.lower ce i; low = low_from_lem binary32 (context_for d) (fine_at N) (valid_held N) d.lower ce i; scale = d.scale }
 

@@ -13,18 +13,15 @@ use Rattle.factor.specs.Parts.{parts_at}
 use Rattle.factor.specs.SetUp.{end_out, scale_out, same_high, same_low, conditions, stored_by, stored_of}
 use Rattle.factor.specs.Stored.{applied_from}
 use Rattle.factor.proofs.ContextLaws.{fine_at}
-use Rattle.factor.proofs.SetUpLaws.{valid_in, end_in}
+use Rattle.factor.proofs.SetUpLaws.{valid_in, end_in, stored_is}
 use Rattle.factor.proofs.StoredLaws.{storable, applied_from_lem}
 use Rattle.factor.proofs.stored_of.Goals as goal
 
--- what is stored opens only here
 refuse : {n : ℕ} (d : Description) → First (conditions d) (number n) → refused n ≡ stored_of d
-unfolding stored_of
-refuse d q = refuses q (stored_by d)
+refuse d q = refuses q (stored_by d) ∙ sym (stored_is d)
 
 accept : (d : Description) {s : Stored} → First (conditions d) none → s ≡ stored_by d → accepted s ≡ stored_of d
-unfolding stored_of
-accept d q e = ap accepted e ∙ accepts q (stored_by d)
+accept d q e = ap accepted e ∙ accepts q (stored_by d) ∙ sym (stored_is d)
 
 -- past the precision, which is the description's
 module _ (d : Description) {p : Precision} (e : accepted p ≡ new_precision d.precision) where
