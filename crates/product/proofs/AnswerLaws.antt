@@ -1,5 +1,5 @@
 -- What 31 and 17 let through: a sound factor, and a significand of its bits. Assumes nothing.
-use Rattle.std.specs.Prelude.{◌≡◌, false, ◌||◌, ℕ, ◌-◌, ◌^◌, ◌≤◌, ltb, leb}
+use Rattle.std.specs.Prelude.{◌≡◌, false, ◌||◌, ℕ, ◌-◌, ◌^◌, ltb, leb}
 use Rattle.std.proofs.Common.{ltb-false, leb-false, le-ltb}
 use Rattle.std.proofs.lemmas.Bool.{not-false, lt-leb}
 use Rattle.marks.specs.Answers.{NoneHolds}
@@ -9,7 +9,7 @@ use Rattle.factor.specs.declared.Factor.{Factor}
 use Rattle.factor.specs.Precision.{significand_out, range_out}
 use Rattle.factor.specs.SetUp.{Sound}
 use Rattle.factor.proofs.SetUpLaws.{intact_sound}
-use Rattle.product.specs.Answer.{conditions}
+use Rattle.product.specs.Answer.{conditions, InRange}
 
 -- a significand that 17 does not refuse has n bits
 pub significand_in : (n X : ℕ) → significand_out n X ≡ false → HasBits n X
@@ -20,12 +20,6 @@ significand_in n X e =
 -- and 17 refuses none that has
 pub bits_in : (n X : ℕ) → HasBits n X → significand_out n X ≡ false
 bits_in n X x = rw (le-ltb X (2 ^ (n - 1)) x.least, lt-leb (2 ^ n) X x.most)
-
--- what a range has that 17 does not refuse
-pub record InRange (n first last : ℕ) : Type 0 where
-  pub first_bits : HasBits n first
-  pub last_bits : HasBits n last
-  pub ordered : first ≤ last
 
 pub in_range_lem : (n first last : ℕ) → range_out n first last ≡ false → InRange n first last
 in_range_lem n first last q =

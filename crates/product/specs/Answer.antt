@@ -1,9 +1,10 @@
 -- The answer to a multiplication (document 01, "The product" and the refusals 31 and 17; its sign, request W5), and what each of its cases says. Definitions only. Assumes nothing.
-use Rattle.std.specs.Prelude.{Bool, not, List, [], ◌∷◌, ℕ}
+use Rattle.std.specs.Prelude.{Bool, not, List, [], ◌∷◌, ℕ, ◌≤◌}
 use Rattle.marks.specs.declared.Mark.{Mark}
 use Rattle.marks.specs.Answers.{Outcome, refused, accepted, answer, Marked}
 use Rattle.marks.specs.Says.{Says}
 use Rattle.rounding.specs.Fraction.{Fraction, Same}
+use Rattle.rounding.specs.Round.{HasBits}
 use Rattle.factor.specs.declared.Factor.{Factor}
 use Rattle.factor.specs.Precision.{significand_out}
 use Rattle.factor.specs.Context.{context_of, lower_of, upper_of}
@@ -22,6 +23,12 @@ use Rattle.product.specs.Marks.{mark, mark_by, exact}
 -- the conditions that refuse a significand: 31 by the factor, then 17
 abbrev pub conditions : Factor → ℕ → List (ℕ × Bool)
 conditions f X = (31, not (intact f)) ∷ (17, significand_out f.precision.bits X) ∷ []
+
+-- what a range has that 17 does not refuse
+pub record InRange (n first last : ℕ) : Type 0 where
+  pub first_bits : HasBits n first
+  pub last_bits : HasBits n last
+  pub ordered : first ≤ last
 
 -- a value, whoever made it, with its mark
 abbrev pub marked : Factor → ℕ → DirectedProduct → Marked DirectedProduct

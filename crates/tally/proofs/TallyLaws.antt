@@ -14,7 +14,8 @@ use Rattle.factor.specs.Precision.{range_out}
 use Rattle.factor.specs.SetUp.{intact, Sound}
 use Rattle.factor.proofs.SetUpLaws.{intact_sound}
 use Rattle.factor.proofs.Signs.{factor_as, intact_signed}
-use Rattle.product.proofs.AnswerLaws.{InRange, in_range_lem, range_in}
+use Rattle.product.specs.Answer.{InRange}
+use Rattle.product.proofs.AnswerLaws.{in_range_lem, range_in}
 use Rattle.tally.specs.declared.Counts.{Counts}
 use Rattle.tally.specs.Tally.{one, how_many, counts_of, nothing, together, mark_once, most_tallied, span_length, conditions, tallied}
 

@@ -8,7 +8,7 @@ ghost use Rattle.rounding.specs.Round.{HasBits};
 ghost use Rattle.round.specs.Cuts.{cut_at};
 ghost use Rattle.factor.specs.Context.{context_of, lower_of, upper_of};
 ghost use Rattle.factor.specs.SetUp.{Sound};
-ghost use Rattle.product.proofs.AnswerLaws.{InRange};
+ghost use Rattle.product.specs.Answer.{InRange};
 ghost use Rattle.tally.specs.Tally.{with_one, counts_of, mark_once, span_length, conditions, tallied, tally_says};
 
 use factor::Factor;

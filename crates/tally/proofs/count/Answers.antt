@@ -9,7 +9,7 @@ use Rattle.factor.specs.Precision.{scale_of}
 use Rattle.factor.specs.Context.{context_of, lower_of, upper_of}
 use Rattle.factor.specs.Ends.{End}
 use Rattle.factor.specs.SetUp.{Sound}
-use Rattle.product.proofs.AnswerLaws.{InRange}
+use Rattle.product.specs.Answer.{InRange}
 use Rattle.product.proofs.StepLaws.{significand_word}
 use Rattle.tally.specs.declared.Counts.{Counts}
 use Rattle.tally.specs.Tally.{with_one, counts_of, mark_once}
