@@ -80,7 +80,9 @@ parts_at-parts-requires c =
 
 pub parts_at-other-requires : goal.parts_at-other-requires
 parts_at-other-requires c =
-    rw (made c.args.d c.in-Accepted.ensures).1 (valid c.args.d c.in-Accepted.ensures, upper_in c.args.d c.in-Accepted.ensures c.if-ends_out.ensures)
+    let lower = lower_in c.args.d c.in-Accepted.ensures c.if-ends_out.ensures in
+    let upper = upper_in c.args.d c.in-Accepted.ensures c.if-ends_out.ensures in
+    rw (made c.args.d c.in-Accepted.ensures).1 (valid c.args.d c.in-Accepted.ensures, search rules)
 
 pub returns-then-parts-other : goal.returns-then-parts-other
 returns-then-parts-other c =
