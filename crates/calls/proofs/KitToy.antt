@@ -53,6 +53,15 @@ new : new_state toy_kits three ≡ accepted (at 0 64)
 unfolding answer any_of two_alike
 new = refl
 
+-- 31 comes before 43, and 43 looks at every two.
+refused_31 : new_state toy_kits (record { factors = 7 ∷ 7 ∷ []; count = 2 }) ≡ refused 31
+unfolding answer any_of two_alike
+refused_31 = refl
+
+refused_43 : new_state toy_kits (record { factors = 2 ∷ 6 ∷ 6 ∷ []; count = 3 }) ≡ refused 43
+unfolding answer any_of two_alike
+refused_43 = refl
+
 called : State (Kit ℕ) → (cap : ℕ) → List ℕ → (free : ℕ) → Reply (Kit ℕ)
 unfolding sweep_call run seek any_of two_alike has_in mark_in sections_from
 called s cap list free = sweep_call toy_kits s (asked cap list free)

@@ -16,6 +16,7 @@ pub mod Made
 pub mod LoopLaws
 pub mod TailLaws
 pub mod KitLaws
+pub mod KitFormed
 pub mod KitRows
 pub mod KitDemand
 pub mod KitLoop

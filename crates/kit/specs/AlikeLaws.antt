@@ -1,7 +1,7 @@
--- Laws: two factors are alike exactly if they are described alike; and as code tests it, the lower ends first. Assumes nothing.
-use Rattle.std.specs.Prelude.{◌≡◌, refl, Bool, false, ◌&&◌, ◌↔◌, eqb, ℤ}
-use Rattle.std.proofs.Common.{sym, ap, subst, true≢false}
-use Rattle.std.proofs.Math.Bool.{true, and-false}
+-- Laws: two factors are alike exactly if they are described alike, and of a kit's that none are; and as code tests it, the lower ends first. Assumes nothing.
+use Rattle.std.specs.Prelude.{◌≡◌, refl, Bool, false, ◌&&◌, ◌≢◌, ◌↔◌, List, eqb, ℤ}
+use Rattle.std.proofs.Common.{sym, ap, ◌∙◌, subst, true≢false}
+use Rattle.std.proofs.Math.Bool.{true, and-false, not-eq-not}
 use Rattle.std.specs.Bool.{beq}
 use borrow.Author.Tests.{eqb-true, eq-eqb}
 use Rattle.marks.specs.AnswerLaws.{and_true}
@@ -9,6 +9,8 @@ use Rattle.factor.specs.declared.Description.{Description}
 use Rattle.factor.specs.declared.Factor.{Factor}
 use Rattle.factor.specs.SetUp.{same_z, described}
 use Rattle.factor.proofs.SetUpLaws.{same_z_true, same_z_same}
+use Rattle.calls.specs.Kit.{two_alike}
+use Rattle.calls.proofs.KitFormed.{Apart, none_alike}
 use Rattle.kit.specs.Engine.{alike}
 
 -- ---- what it means
@@ -64,3 +66,13 @@ module _ (f g : Factor) where
   pub alike_apart : eqb f.lower g.lower ≡ false → false ≡ alike f g
   unfolding alike
   alike_apart l = rw (l, and-false (same_z f.applied.scale g.applied.scale), and-false (eqb f.precision.bits g.precision.bits), and-false (beq f.minus g.minus))
+
+-- ---- of a list of factors
+
+-- 43 lets factors through exactly if those at two places are never described alike.
+pub apart_described : (fs : List Factor) → (two_alike alike fs ≡ false) ↔ Apart (λ f g. described f ≢ described g) fs
+apart_described fs =
+    let apart = none_alike alike fs in (
+      (λ e i j h f g p q a b same. true≢false (sym ((alike_described f g).1 same) ∙ apart.0 e i j h f g p q a b)),
+      (λ h. apart.1 (λ i j k f g p q a b. (not-eq-not {b = false}).0 (λ e. h i j k f g p q a b ((alike_described f g).0 e)))),
+    )
