@@ -5,6 +5,7 @@
 ghost use Rattle.std.specs.Prelude.{◌≡◌, ◌≤◌, nat_abs, ◌+ℤ◌};
 ghost use Rattle.std.specs.Float.{binary32};
 ghost use Rattle.std.specs.Float.Ieee.{prec, to_bits};
+ghost use Rattle.marks.specs.declared.Mark.{Mark};
 ghost use Rattle.marks.specs.Answers.{accepted, answer};
 ghost use Rattle.rounding.specs.Round.{HasBits};
 ghost use Rattle.floats.specs.Fields.{significand_of, exponent_of};
@@ -13,7 +14,7 @@ ghost use Rattle.factor.specs.UnitParts.{unit_parts_of};
 ghost use Rattle.factor.specs.SetUp.{Sound};
 ghost use Rattle.product.specs.Devices.{directed_on};
 ghost use Rattle.product.specs.Units.{first_units};
-ghost use Rattle.reading.specs.Reading.{unreadable, kind_of, sign_with, placed, finished, applied, outcome_of, number_says, taken_of};
+ghost use Rattle.reading.specs.Reading.{unreadable, kind_of, sign_with, directed_zero, placed, finished, applied, outcome_of, number_says, taken_of};
 ghost use Rattle.reading.specs.Divided.{divided_reading};
 
 use factor::Factor;
@@ -163,15 +164,20 @@ fn product_of(d: Device, f: Factor, bits: u32) -> DirectedProduct
     }
 }
 
+// What a zero is answered with: a zero with the sign of the product, right and equal.
+fn zero_read(f: Factor, bits: u32) -> ReadingAnswer
+    ensures { outcome_of result ≡ accepted (record { mark = Mark.Right; value = directed_zero (sign_with f bits) }) }
+{
+    ReadingAnswer::Right(floats::zero(sign_with(f, bits)), Direction::Equal)
+}
+
 // Multiplies a reading on a device: the product with its mark and direction, or the first of the refusals 31, 20, 21, 22 and 23 whose condition holds. A zero gives a zero, right and equal, with the sign of the product.
 pub fn read(d: Device, f: Factor, reading: f32) -> ReadingAnswer
     ensures { outcome_of result ≡ applied d f reading }
 {
     match take(f, reading) {
         Taken::Refused(number) => ReadingAnswer::Refused(number),
-        Taken::Zero(bits) => {
-            ReadingAnswer::Right(floats::zero(sign_with(f, bits)), Direction::Equal)
-        }
+        Taken::Zero(bits) => zero_read(f, bits),
         Taken::Normal(bits) => finish(f, bits, product_of(d, f, bits)),
     }
 }

@@ -1,15 +1,14 @@
 -- Refused, a zero, or the product on the device and what becomes of it.
-use Rattle.std.proofs.Common.{◌≡◌, ap, ◌∙◌, subst, ℕ, Bool, Float}
+use Rattle.std.proofs.Common.{◌≡◌, refl, ap, ◌∙◌, subst, ℕ}
 use Rattle.std.specs.Float.{binary32}
 use Rattle.marks.specs.declared.Mark.{Mark}
 use Rattle.marks.specs.Answers.{accepted, Marked}
-use Rattle.rounding.specs.declared.Direction.TheVariants.{Equal}
 use Rattle.rounding.specs.Round.{HasBits}
-use Rattle.floats.specs.Fields.{zero_of, significand_of}
+use Rattle.floats.specs.Fields.{significand_of}
 use Rattle.factor.specs.declared.Factor.{Factor}
 use Rattle.product.specs.declared.Device.{Device}
 use Rattle.product.proofs.DeviceLaws.{formed}
-use Rattle.reading.specs.Reading.{sign_with, DirectedNumber, Made, product_of, product_at, directed_at, finished, applied}
+use Rattle.reading.specs.Reading.{sign_with, directed_zero, DirectedNumber, Made, product_of, product_at, directed_at, finished, applied}
 use Rattle.reading.proofs.AnswerLaws.{ready, normal_answered, zero_answered, refused_answered}
 use Rattle.reading.proofs.read.Goals as goal
 
@@ -17,9 +16,9 @@ use Rattle.reading.proofs.read.Goals as goal
 abbrev made : Device → Factor → ℕ → Made (Marked DirectedNumber)
 made d f b = product_of f b (directed_at d f b)
 
--- what is made of a zero, y having the sign s
-zero_is : (d : Device) (f : Factor) (b : ℕ) (y : Float) (s : Bool) → y ≡ zero_of s → s ≡ sign_with f b → accepted (record { mark = Mark.Right; value = record { number = y; direction = Equal } }) ≡ accepted (made d f b).of_zero
-zero_is d f b y s y_is s_is = ap (λ (y : Float). accepted (record { mark = Mark.Right; value = record { number = y; direction = Equal } })) (y_is ∙ ap zero_of s_is)
+-- what is made of a zero: said by itself, so that a wrong one is found at once
+zero_is : (d : Device) (f : Factor) (b : ℕ) → accepted (record { mark = Mark.Right; value = directed_zero (sign_with f b) }) ≡ accepted (made d f b).of_zero
+zero_is d f b = refl
 
 pub product_of-requires : goal.product_of-requires
 product_of-requires c =
@@ -42,7 +41,7 @@ pub returns-in-Zero : goal.returns-in-Zero
 unfolding applied
 returns-in-Zero c =
     let a = c.args in
-    zero_is a.d a.f c.in-Zero.bits _ _ c.zero.ensures c.sign_with.ensures ∙ zero_answered a.f a.reading c.take.result c.take.ensures (made a.d a.f) c.in-Zero.is
+    c.zero_read.ensures ∙ zero_is a.d a.f c.in-Zero.bits ∙ zero_answered a.f a.reading c.take.result c.take.ensures (made a.d a.f) c.in-Zero.is
 
 pub returns-in-Normal : goal.returns-in-Normal
 unfolding applied finished
