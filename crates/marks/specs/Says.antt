@@ -1,4 +1,4 @@
--- What a mark says (demand 2) of those who might have given an answer: all, none, or some of them did. Definitions only. Assumes nothing.
+-- What a mark says of those who might have given an answer: all, none, or some of them did. Definitions only. Assumes nothing.
 use Rattle.marks.specs.declared.Mark.{Mark}
 
 -- right: everyone in B gives it; wrong: none does; open: one does and another does not

@@ -8,7 +8,7 @@ pub mod RoundLaws
 pub mod Best
 pub mod Standard
 pub mod FractionLaws
-pub mod Directed
+pub mod DirectedLaws
 pub mod UlpLaws
 pub mod OneRounding
 pub mod Examples

@@ -37,7 +37,7 @@ module _ (n : ℕ) (C h : Fraction) (c : Positive C) (k : Positive h) (close : A
         (distance_in_units S A B (times h x) (times C x) a b) (times_in_units (2 ^ n) S 1 B false (over 1 n) (times C x) (over_in_units 1 n) b)
         (omega (arith, mul-le-mul_right S far, mul-le-mul_right (h.den * x.num * S) one))
 
-    -- |RN(h * x) - C * x| < 3/2 ulp(C * x) (request W2; source document 003, Property 2.1)
+    -- |RN(h * x) - C * x| < 3/2 ulp(C * x)
     pub times_error : (rule : Rule) → 0 < n → WithinThreeHalves n (RN rule n (times h x)) (times C x)
     times_error rule P = ulp_near rule n P (times C x) (times_positive C x c p) (times h x) (times_positive h x k p) times_near
 
@@ -57,6 +57,6 @@ module _ (n : ℕ) (C h : Fraction) (c : Positive C) (k : Positive h) (close : A
         (distance_in_units S A B (ratio x h) (ratio x C) a b) (times_in_units (2 ^ n) S 1 B false (over 1 n) (ratio x C) (over_in_units 1 n) b)
         (omega (arith, mul-le-mul_right S far, mul-le-mul_right (C.den * x.num * S) one))
 
-    -- |RN(x / h) - x / C| < 3/2 ulp(x / C) (request W1; source document 003, Property 3.1, is a little sharper)
+    -- |RN(x / h) - x / C| < 3/2 ulp(x / C)
     pub ratio_error : (rule : Rule) → 0 < n → WithinThreeHalves n (RN rule n (ratio x h)) (ratio x C)
     ratio_error rule P = ulp_near rule n P (ratio x C) (ratio_positive x C p c) (ratio x h) (ratio_positive x h p k) ratio_near

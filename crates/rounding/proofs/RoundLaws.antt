@@ -25,7 +25,7 @@ use Rattle.rounding.proofs.UnitLaws.{kept_le, kept_ge, rn_scale_whole, rn_whole_
 use Rattle.rounding.specs.Round.{normalised, stepped, rounded_in, rounded, Equals, HasBits}
 
 -- r * 2 ^ j
-abbrev pub shifted : ℕ → Rounded → Rounded
+abbrev pub shifted : ℕ → Rounded ℕ → Rounded ℕ
 shifted j r = record { significand = r.significand; exponent = r.exponent +ℤ pos j; direction = r.direction }
 
 -- ---- exponents
@@ -65,7 +65,7 @@ zero_minus (suc a) = rw (lt-leb (suc a) 0 (omega arith)) (ap negsuc (omega arith
 -- ---- one fraction in two units: N / d of the unit 2 ^ - t is M / e of the unit 2 ^ - s
 module _ (rule : Rule) (n : ℕ) (P : 0 < n) where
   -- what is normalised is the carry's record, or as it was kept: a law of all exponents and units by the two cases
-  by_carry : (Q : (ℕ → ℕ → Rounded) → Type 0) (k : ℕ) (d : Direction)
+  by_carry : (Q : (ℕ → ℕ → Rounded ℕ) → Type 0) (k : ℕ) (d : Direction)
       → (k ≡ 2 ^ n → Q (λ (j t : ℕ). record { significand = 2 ^ (n - 1); exponent = minus (suc j) t; direction = d })) → (¬ (k ≡ 2 ^ n) → Q (λ (j t : ℕ). record { significand = k; exponent = minus j t; direction = d }))
       → Q (λ (j t : ℕ). normalised n k j t d)
   unfolding normalised
@@ -81,7 +81,7 @@ module _ (rule : Rule) (n : ℕ) (P : 0 < n) where
   step_same t k N u M v j D Q h =
       let next : minus (suc (k + j)) (t + j) ≡ minus (suc k) t = ap (λ (z : ℕ). minus z (t + j)) (omega arith) ∙ minus_add (suc k) t j in
       rw (nearest_same rule N u M v D Q h, side_same N u M v (nearest rule M v) D Q h)
-      (by_carry (λ (f : ℕ → ℕ → Rounded). f k t ≡ f (k + j) (t + j)) (nearest rule M v) (side_at M v (nearest rule M v)) (λ _. rw next) (λ _. rw (minus_add k t j)))
+      (by_carry (λ (f : ℕ → ℕ → Rounded ℕ). f k t ≡ f (k + j) (t + j)) (nearest rule M v) (side_at M v (nearest rule M v)) (λ _. rw next) (λ _. rw (minus_add k t j)))
 
   finer : (t N d M e j : ℕ) → 0 < d → 0 < e → N * 2 ^ j * e ≡ M * d → 2 ^ n * d ≤ 2 * N → rounded_in rule n t N d ≡ rounded_in rule n (t + j) M e
   unfolding rounded_in
@@ -120,7 +120,7 @@ module _ (rule : Rule) (n : ℕ) (P : 0 < n) where
   rounded_in_exponent t N d =
       let j = drop n N d in
       let k = nearest rule N (d * 2 ^ j) in
-      by_carry (λ (f : ℕ → ℕ → Rounded). (i : ℕ) × ((f j t).exponent ≡ minus i t) × ((f j t).significand * 2 ^ i ≡ k * 2 ^ j)) k (side_at N (d * 2 ^ j) k)
+      by_carry (λ (f : ℕ → ℕ → Rounded ℕ). (i : ℕ) × ((f j t).exponent ≡ minus i t) × ((f j t).significand * 2 ^ i ≡ k * 2 ^ j)) k (side_at N (d * 2 ^ j) k)
       (λ e. (suc j, refl, omega (arith, ap (λ (z : ℕ). 2 ^ (n - 1) * z) (pow-succ' 2 j), ap (λ (z : ℕ). z * 2 ^ j) e, ap (λ (z : ℕ). z * 2 ^ j) (pow_half n P))))
       (λ _. (j, refl, refl))
 
@@ -130,7 +130,7 @@ module _ (rule : Rule) (n : ℕ) (P : 0 < n) where
   rounded_in_direction t N d =
       let j = drop n N d in
       let k = nearest rule N (d * 2 ^ j) in
-      by_carry (λ (f : ℕ → ℕ → Rounded). (f j t).direction ≡ side_at N (d * 2 ^ j) k) k (side_at N (d * 2 ^ j) k) (λ _. refl) (λ _. refl) ∙ ap (λ (z : ℕ). side_of (pos N) (pos z)) (omega arith)
+      by_carry (λ (f : ℕ → ℕ → Rounded ℕ). (f j t).direction ≡ side_at N (d * 2 ^ j) k) k (side_at N (d * 2 ^ j) k) (λ _. refl) (λ _. refl) ∙ ap (λ (z : ℕ). side_of (pos N) (pos z)) (omega arith)
 
   pub rounded_in_value : (t N d : ℕ) → Equals (rounded_in rule n t N d) (rn rule n N d) (2 ^ t)
   rounded_in_value t N d =
@@ -139,7 +139,7 @@ module _ (rule : Rule) (n : ℕ) (P : 0 < n) where
 
   -- in every unit that is fine enough RN's value is that of `rn`
   pub rounded_value : (N d t M e : ℕ) → 0 < d → 0 < e → N * 2 ^ t * e ≡ M * d → 2 ^ n * e ≤ 2 * M → Equals (rounded rule n N d) (rn rule n M e) (2 ^ t)
-  rounded_value N d t M e D Q h fine = subst (λ (r : Rounded). Equals r (rn rule n M e) (2 ^ t)) (sym (rounded_at N d t M e D Q h fine)) (rounded_in_value t M e)
+  rounded_value N d t M e D Q h fine = subst (λ (r : Rounded ℕ). Equals r (rn rule n M e) (2 ^ t)) (sym (rounded_at N d t M e D Q h fine)) (rounded_in_value t M e)
 
   -- and in every unit in which the fraction is whole
   pub rounded_whole : (N d t M : ℕ) → 0 < d → N * 2 ^ t ≡ M * d → Equals (rounded rule n N d) (rn rule n M 1) (2 ^ t)
@@ -167,7 +167,7 @@ module _ (rule : Rule) (n : ℕ) (P : 0 < n) where
       let s = n + size d in
       let A = suc K * 2 ^ s in
       let j = drop n A d in
-      by_carry (λ (f : ℕ → ℕ → Rounded). HasBits n (f j s).significand) (kept rule n A d) (side_at A (d * 2 ^ j) (kept rule n A d))
+      by_carry (λ (f : ℕ → ℕ → Rounded ℕ). HasBits n (f j s).significand) (kept rule n A d) (side_at A (d * 2 ^ j) (kept rule n A d))
       (λ _. record { least = le_of_eq refl; most = omega (arith, pow_half n P, pow_pos (n - 1)) })
       (λ e. record { least = kept_ge rule n P A d D (enough_digits n (suc K) d s m (le_refl s)); most = lt_of_le-ne (kept_le rule n P A d D) e })
 
@@ -185,5 +185,5 @@ module _ (rule : Rule) (n : ℕ) (P : 0 < n) where
       let i = drop n A d in
       let fine = enough_digits n N d (t + j) M (omega arith) in
       rounded_at (N * 2 ^ j) d t A d D D (omega (arith, ap (λ (z : ℕ). N * z * d) (pow-add 2 t j))) fine
-      ∙ by_carry (λ (f : ℕ → ℕ → Rounded). f i t ≡ shifted j (f i (t + j))) (nearest rule A (d * 2 ^ i)) (side_at A (d * 2 ^ i) (nearest rule A (d * 2 ^ i))) (λ _. rw (minus_shift (suc i) t j)) (λ _. rw (minus_shift i t j))
+      ∙ by_carry (λ (f : ℕ → ℕ → Rounded ℕ). f i t ≡ shifted j (f i (t + j))) (nearest rule A (d * 2 ^ i)) (side_at A (d * 2 ^ i) (nearest rule A (d * 2 ^ i))) (λ _. rw (minus_shift (suc i) t j)) (λ _. rw (minus_shift i t j))
       ∙ ap (shifted j) (sym (rounded_at N d (t + j) A d D D refl fine))

@@ -14,7 +14,7 @@ use Rattle.rounding.proofs.RoundLaws.{rounded_bits, rounded_value}
 use Rattle.rounding.proofs.Best.{rn_best, rn_tie, even_taken}
 
 -- |r - N / d| is at most |v - N / d|
-abbrev pub AsNear : (N d : ℕ) → (r v : Rounded) → Type 0
+abbrev pub AsNear : (N d : ℕ) → (r v : Rounded ℕ) → Type 0
 AsNear N d r v =
     apart (r.significand * up r.exponent * d) (N * down r.exponent) * down v.exponent
     ≤ apart (v.significand * up v.exponent * d) (N * down v.exponent) * down r.exponent
@@ -26,11 +26,11 @@ pub record HalfWay (n N d t j k : ℕ) : Type 0 where
   pub middle : 2 * (N * 2 ^ t) ≡ (2 * j + 1) * 2 ^ k * d
 
 -- r is N / d rounded to nearest, n bits, ties by the rule
-pub record RoundsTo (rule : Rule) (n N d : ℕ) (r : Rounded) : Type 0 where
+pub record RoundsTo (rule : Rule) (n N d : ℕ) (r : Rounded ℕ) : Type 0 where
   -- it is a number of n bits
   pub bits : HasBits n r.significand
   -- and no number of n bits is nearer
-  pub nearest : (v : Rounded) → v.significand < 2 ^ n → AsNear N d r v
+  pub nearest : (v : Rounded ℕ) → v.significand < 2 ^ n → AsNear N d r v
   -- half way between two the rule decides
   pub tie : (t j k : ℕ) → HalfWay n N d t j k → Equals r (cond (rule j) (suc j) j * 2 ^ k) (2 ^ t)
 
@@ -43,7 +43,7 @@ module _ (rule : Rule) (n : ℕ) (P : 0 < n) (N d : ℕ) (M : 0 < N) (D : 0 < d)
   fine m = enough_digits n N d (n + size d + m) M (omega arith)
 
   -- in a unit in which v is whole
-  by_unit : (r v : Rounded) (m R K : ℕ) → Equals r R (2 ^ (n + size d + m)) → Equals v K (2 ^ (n + size d + m)) → apart (R * d) (N * 2 ^ (n + size d + m)) ≤ apart (K * d) (N * 2 ^ (n + size d + m)) → AsNear N d r v
+  by_unit : (r v : Rounded ℕ) (m R K : ℕ) → Equals r R (2 ^ (n + size d + m)) → Equals v K (2 ^ (n + size d + m)) → apart (R * d) (N * 2 ^ (n + size d + m)) ≤ apart (K * d) (N * 2 ^ (n + size d + m)) → AsNear N d r v
   by_unit r v m R K er ev h =
       let T = 2 ^ (n + size d + m) in
       let a = r.significand * up r.exponent in
@@ -59,7 +59,7 @@ module _ (rule : Rule) (n : ℕ) (P : 0 < n) (N d : ℕ) (M : 0 < N) (D : 0 < d)
           ∙ ap (λ (z : ℕ). apart (R * d * x) z) (omega arith)
           ∙ sym (apart_mul (R * d) (N * T) x)
 
-  as_near : (v : Rounded) → v.significand < 2 ^ n → AsNear N d (rounded rule n N d) v
+  as_near : (v : Rounded ℕ) → v.significand < 2 ^ n → AsNear N d (rounded rule n N d) v
   as_near v h = go v.exponent refl
     where
       value : (m : ℕ) → Equals (rounded rule n N d) (rn rule n (N * 2 ^ (n + size d + m)) d) (2 ^ (n + size d + m))

@@ -6,9 +6,9 @@ use Rattle.rounding.specs.Grid.{Rule, nearest, side_at}
 use Rattle.rounding.specs.Round.{normalised}
 
 -- x of b digits, with n - b zeros behind it
-abbrev pub padded : (n x b : ℕ) → Rounded
+abbrev pub padded : (n x b : ℕ) → Rounded ℕ
 padded n x b = record { significand = x * 2 ^ (n - b); exponent = neg_ℤ (pos (n - b)); direction = Equal }
 
 -- k digits of x dropped, and what is kept rounded
-abbrev pub cut : Rule → (n x k : ℕ) → Rounded
+abbrev pub cut : Rule → (n x k : ℕ) → Rounded ℕ
 cut rule n x k = normalised n (nearest rule x (2 ^ k)) k 0 (side_at x (2 ^ k) (nearest rule x (2 ^ k)))

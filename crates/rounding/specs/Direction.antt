@@ -1,7 +1,9 @@
--- On which side of what was rounded the rounded number lies (request W4), by comparing the two numbers. Definitions only. Assumes nothing.
+-- On which side of what was rounded the rounded number lies, by comparing the two numbers. Definitions only. Assumes nothing.
 use Rattle.std.specs.Prelude.{◌≡◌, Bool, cond, ℤ, ◌<ℤ◌}
 use Rattle.std.specs.Int.Signed.{lt_z}
 use Rattle.rounding.specs.declared.Direction.{Direction}
+use Rattle.rounding.specs.declared.Directed.{Directed}
+use Rattle.rounding.specs.declared.Signed.{Signed}
 use Rattle.rounding.specs.declared.Direction.TheVariants.{Below, Equal, Above}
 
 -- on which side of a the number b lies
@@ -23,3 +25,7 @@ mirrored Above = Below
 -- of a number with a sign, by the direction of its size
 abbrev pub signed_direction : Bool → Direction → Direction
 signed_direction s d = cond s (mirrored d) d
+
+-- a rounded size with a sign put on, by which a negative number's direction is mirrored
+abbrev pub to_signed : {A : Type 0} → Bool → Directed A → Signed A
+to_signed s v = record { minus = s; value = v.value; direction = signed_direction s v.direction }

@@ -1,4 +1,4 @@
--- Signed fractions, their exact sums, products and quotients, RN of them, and its direction: what document 01 says of factors and products is said with these. Definitions only. Assumes nothing.
+-- Signed fractions, their exact sums, products and quotients, RN of them, and its direction: what is said of factors and products is said with these. Definitions only. Assumes nothing.
 use Rattle.std.specs.Prelude.{◌≡◌, Bool, true, false, not, ℕ, ◌+◌, ◌*◌, ◌^◌, ◌≤◌, ◌<◌, ltb, eqb, ℤ}
 use Rattle.std.specs.Float.Ieee.{up, down, unlike}
 use Rattle.rounding.specs.declared.Direction.{Direction}
@@ -56,10 +56,10 @@ abbrev pub distance : Fraction → Fraction → Fraction
 distance x y = let z = less x y in record { minus = false; num = z.num; den = z.den }
 
 -- a rounded size with a sign
-abbrev pub signed : Bool → Rounded → Fraction
+abbrev pub signed : Bool → Rounded ℕ → Fraction
 signed s r = record { minus = s; num = r.significand * up r.exponent; den = down r.exponent }
 
--- RN of document 01: the size is rounded, the sign stays
+-- RN: the size is rounded, the sign stays
 abbrev pub RN : Rule → (n : ℕ) → Fraction → Fraction
 RN rule n x = signed x.minus (rounded rule n x.num x.den)
 
@@ -100,7 +100,7 @@ beside x y = signed_of x.minus (x.num * y.den)
 abbrev pub direction : Fraction → Fraction → Direction
 direction x y = side_of (beside x y) (beside y x)
 
--- the direction of a rounding: how RN(x) lies as seen from x (request W4)
+-- the direction of a rounding: how RN(x) lies as seen from x
 unfoldable pub direction_of : Rule → (n : ℕ) → Fraction → Direction
 direction_of rule n x = direction x (RN rule n x)
 

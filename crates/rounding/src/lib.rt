@@ -1,9 +1,9 @@
-// What rounding to n bits answers. The definitions stand in specs/, with their laws; the functions are those of the crate `round`.
+// What rounding to n bits answers. The definitions stand in specs/, with their laws in proofs/; the functions are those of the crate `round`.
 
 #![tactic(auto)]
 
 // Where a fraction lies between two neighbouring grid points.
-#[derive(Clone, Copy)]
+#[derive(Clone, Copy, Debug, PartialEq, Eq)]
 pub enum Location {
     Exact,
     BelowHalf,
@@ -12,33 +12,40 @@ pub enum Location {
 }
 
 // Which neighbour a fraction half way between them goes to (IEEE 754-2019: roundTiesToEven, roundTiesToAway).
-#[derive(Clone, Copy)]
+#[derive(Clone, Copy, Debug, PartialEq, Eq)]
 pub enum TieRule {
     ToEven,
     AwayFromZero,
 }
 
-// On which side of what was rounded the rounded number lies, sign included (request W4): below it, on it, or above it.
-#[derive(Clone, Copy)]
+// On which side of what was rounded the rounded number lies, sign included: below it, on it, or above it.
+#[derive(Clone, Copy, Debug, PartialEq, Eq)]
 pub enum Direction {
     Below,
     Equal,
     Above,
 }
 
-// A size rounded to n bits: significand * 2 ^ exponent, the significand from 2 ^ (n - 1) to 2 ^ n - 1. Zero is 0 and 0.
-// The direction is that from the size to it.
+// A size rounded to n bits, or a signed number: significand * 2 ^ exponent, the significand's size from 2 ^ (n - 1) to 2 ^ n - 1, and its sign that of what was rounded. Zero is 0 and 0.
+// The direction is that from what was rounded to it: a negative number's is its size's, mirrored.
 #[derive(Clone, Copy)]
-pub struct Rounded {
-    pub significand: u64,
+pub struct Rounded<T> {
+    pub significand: T,
     pub exponent: i32,
     pub direction: Direction,
 }
 
-// The same with a sign: the significand keeps that of what was rounded, and a negative number's direction is its size's, mirrored.
+// A number that was rounded, and on which side of what was rounded it lies.
 #[derive(Clone, Copy)]
-pub struct RoundedSigned {
-    pub significand: i64,
-    pub exponent: i32,
+pub struct Directed<T> {
+    pub value: T,
+    pub direction: Direction,
+}
+
+// A size that was rounded, with a sign: the direction is that of the number that has it.
+#[derive(Clone, Copy)]
+pub struct Signed<T> {
+    pub minus: bool,
+    pub value: T,
     pub direction: Direction,
 }

@@ -1,4 +1,4 @@
--- Laws of a rounding's direction (request W4): exactly one of the three holds, and it is `direction_of`; it is symmetric in sign; equal means exact; a sign put on later mirrors it, and a scale changes nothing; and it is what `rounded` hands back. Assumes nothing.
+-- Laws of a rounding's direction: exactly one of the three holds, and it is `direction_of`; it is symmetric in sign; equal means exact; a sign put on later mirrors it, and a scale changes nothing; and it is what `rounded` hands back. Assumes nothing.
 use Rattle.std.specs.Prelude.{◌≡◌, Bool, true, not, ℤ, pos, negsuc}
 use Rattle.std.proofs.Math.Path.{refl, sym, ap}
 use Rattle.std.proofs.Common.{ap₂, ◌∙◌, subst, zero-lt-suc, le_refl, mul-one, pow_pos}
