@@ -1,20 +1,10 @@
 -- Laws: which floats are numbers, and which one is not; floats with the same bits are the same. Assumes nothing.
-use Rattle.std.specs.Prelude.{◌≡◌, refl, Bool, true, false, not, ℕ, ◌*◌, ◌%◌, ◌≤◌, ◌<◌, T, Float}
-use Rattle.std.proofs.Common.{sym, ap, ◌∙◌, subst, true≢false, lt-ltb, le-ltb}
+use Rattle.std.specs.Prelude.{◌≡◌, refl, Bool, true, not, ℕ, ◌*◌, ◌%◌, ◌≤◌, ◌<◌, T, Float}
+use Rattle.std.proofs.Common.{sym, ap, ◌∙◌, subst, lt-ltb, le-ltb}
 use Rattle.std.specs.Float.{nan, inf, fin, Format}
-use Rattle.std.specs.Float.Ieee.{fits, to_bits, of_bits, is_nan, nan_bits, ne, hid, ones, top}
-use Rattle.std.specs.Float.Ieee.Compare.{differs_from_itself, nan_differs}
+use Rattle.std.specs.Float.Ieee.{fits, to_bits, of_bits, is_nan, nan_bits, hid, ones, top}
 use Rattle.std.specs.Float.Ieee.Bits.{of_bits-to_bits, nan_bits_is, nan_bits_above}
 use Rattle.std.specs.Float.Ieee.Exact.{HasValue}
-
-pub no_nan : (x : Float) → ne x x ≡ false → T (not (is_nan x))
-unfolding is_nan
-no_nan nan h = absurd (true≢false (sym nan_differs ∙ h))
-no_nan (inf s) h = tt
-no_nan (fin s m e) h = tt
-
-pub is_nan_lem : (x : Float) → ne x x ≡ true → x ≡ nan
-is_nan_lem x h = differs_from_itself x (rw h tt)
 
 -- what has a value is a number
 pub value_number : (x : Float) (s : Bool) (a c : ℕ) → HasValue x s a c → T (not (is_nan x))
@@ -34,13 +24,14 @@ same_number f (fin s m g) y h e n = tt
 pub same_bits : (f : Format) (x y : Float) → T (fits f x) → T (fits f y) → to_bits f x ≡ to_bits f y → x ≡ y
 same_bits f x y h k e = sym (of_bits-to_bits f x h) ∙ ap (of_bits f) e ∙ of_bits-to_bits f y k
 
--- ---- the patterns of a NaN: above the infinities', the sign left out
-named_nan : (x : Float) → is_nan x ≡ true → x ≡ nan
+-- there is one NaN
+pub named_nan : (x : Float) → is_nan x ≡ true → x ≡ nan
 unfolding is_nan
 named_nan nan h = refl
 named_nan (inf s) h = search
 named_nan (fin s m e) h = search
 
+-- ---- the patterns of a NaN: above the infinities', the sign left out
 pub nan_pattern : (f : Format) (b : ℕ) → ones f * hid f < b % top f → of_bits f b ≡ nan
 nan_pattern f b h = named_nan (of_bits f b) (sym (nan_bits_is f b) ∙ nan_bits_above f b ∙ lt-ltb (ones f * hid f) (b % top f) h)
 

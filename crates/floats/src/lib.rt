@@ -10,16 +10,16 @@ ghost use Rattle.wide.specs.Value.{word_bits};
 ghost use Rattle.floats.specs.Fields.{sign_of, biased_exponent, trailing_significand, significand_of, zero_of, same_float, float_of, Normalized, Narrow, unit_at, WholeInUnits, units_of};
 
 // How many digits a significand has, the leading one counted.
-pub const PRECISION: u32 = 24;
+pub const PRECISION: u32 = f32::MANTISSA_DIGITS;
 
 // The largest exponent.
-const MOST_EXPONENT: u32 = 127;
+const MOST_EXPONENT: u32 = f32::MAX_EXP as u32 - 1;
 
 // The biased exponent of infinities and NaNs.
 pub const INFINITE_OR_NAN: u32 = 2 * MOST_EXPONENT + 1;
 
 // The weight of the biased exponent in a pattern, which the leading digit has too, and that of the sign.
-const LEADING: u32 = 8388608;
+const LEADING: u32 = 1 << (PRECISION - 1);
 
 const SIGN: u32 = LEADING * (INFINITE_OR_NAN + 1);
 
@@ -53,7 +53,7 @@ pub fn trailing_significand(bits: u32) -> u32
 pub fn significand_of(bits: u32) -> u32
     ensures { result ≡ significand_of binary32 bits }
 {
-    LEADING + bits % LEADING
+    LEADING + trailing_significand(bits)
 }
 
 // The number of a pattern, all NaN patterns being one NaN.
@@ -61,20 +61,17 @@ pub fn float_from(bits: u32) -> f32
     ensures { result ≡ of_bits binary32 bits }
 {
     if INFINITY < bits % SIGN {
-        let zero = f32::from_bits(0);
-        return zero / zero;
+        f32::NAN
+    } else {
+        f32::from_bits(bits)
     }
-    f32::from_bits(bits)
 }
 
 // The pattern of a number, a NaN's too.
 pub fn bits_of(x: f32) -> u32
     ensures { result ≡ to_bits binary32 x }
 {
-    if x != x {
-        return NAN;
-    }
-    f32::to_bits(x)
+    if x.is_nan() { NAN } else { x.to_bits() }
 }
 
 // Whether two floats are the same bit for bit.
@@ -88,10 +85,7 @@ pub fn same_float(x: f32, y: f32) -> bool
 pub fn zero(minus: bool) -> f32
     ensures { result ≡ zero_of minus }
 {
-    if minus {
-        return f32::from_bits(SIGN);
-    }
-    f32::from_bits(0)
+    if minus { -0.0 } else { 0.0 }
 }
 
 // The float of a sign, an exponent and a significand: m * 2 ^ exponent times the smallest positive value.
@@ -99,10 +93,12 @@ pub fn float_of(minus: bool, exponent: u32, m: u32) -> f32
     requires { Normalized binary32 exponent m }
     ensures { result ≡ float_of binary32 minus exponent m }
 {
+    let size = exponent * LEADING + m;
     if minus {
-        return f32::from_bits(SIGN + (exponent * LEADING + m));
+        f32::from_bits(SIGN + size)
+    } else {
+        f32::from_bits(size)
     }
-    f32::from_bits(exponent * LEADING + m)
 }
 
 // m / 2 ^ places with a sign, for an m of n digits, or 2 ^ n.
@@ -127,7 +123,7 @@ pub fn units_of(x: f32, d: u32) -> u64
     requires { WholeInUnits binary32 word_bits d (to_bits binary32 x) }
     ensures { result ≡ units_of binary32 d (to_bits binary32 x) }
 {
-    let bits = f32::to_bits(x);
+    let bits = x.to_bits();
     if bits % SIGN == 0 {
         return 0;
     }

@@ -9,7 +9,7 @@ use Rattle.rounding.proofs.Digits.{pow_half, drop_at}
 use Rattle.rounding.specs.Unit.{rn}
 use Rattle.rounding.proofs.UnitLaws.{rn_in_binade}
 use Rattle.round.specs.declared.Cut.{Cut}
-use Rattle.round.specs.declared.Neighbour.{Neighbour}
+use Rattle.rounding.specs.declared.Directed.{Directed}
 use Rattle.round.specs.Neighbour.{neighbour_at}
 use Rattle.round.specs.NeighbourLaws.{neighbour_by}
 use Rattle.round.specs.Cuts.{cut_at, uncut, RoundedCut}
@@ -38,8 +38,8 @@ carry_most k x y p q = (div-lt_iff_lt-mul (pow_pos k)).1 (omega (arith, p, q))
 
 -- ---- to n bits
 -- a neighbour in steps half as wide
-abbrev pub doubled : Neighbour → Neighbour
-doubled m = record { taken = 2 * m.taken; direction = m.direction }
+abbrev pub doubled : Directed ℕ → Directed ℕ
+doubled m = record { value = 2 * m.value; direction = m.direction }
 
 module _ (rule : Rule) (n : ℕ) (P : 0 < n) (k : ℕ) (c : Cut) (short : c.rest < 2 ^ k) where
   abbrev N : ℕ

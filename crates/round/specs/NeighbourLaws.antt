@@ -10,4 +10,4 @@ neighbour_by rule N d q r e h =
     let l = location r d in
     let t : choose rule q l ≡ nearest rule N d = sym (nearest_only rule N d (choose rule q l) (lt_of_le_of_lt (omega arith) h) (choose_nearest rule N d q r l e h (location_lies r d))) in
     let s : towards rule q l ≡ side_at N d (nearest rule N d) = sym (towards_side rule N d q r l e h (location_lies r d)) ∙ ap (side_at N d) t in
-    λ i. record { taken = t i; direction = s i }
+    λ i. record { value = t i; direction = s i }

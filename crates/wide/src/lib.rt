@@ -3,40 +3,36 @@
 
 #![tactic(auto)]
 
-ghost use Rattle.std.specs.Prelude.{◌≡◌, false, ◌+◌, ◌-◌, ◌*◌, ◌/◌, ◌%◌, ◌<◌, ◌≤◌, ◌^◌, ltb, eqb};
+ghost use Rattle.std.specs.Prelude.{◌≡◌, ◌+◌, ◌-◌, ◌*◌, ◌/◌, ◌%◌, ◌<◌, ◌≤◌, ◌^◌};
 ghost use Rattle.std.specs.Float.Ieee.{size};
 ghost use Rattle.wide.specs.Value.{half_word, value_of};
 
-// The base of a digit of 32 bits, of which a word has two.
-const BASE: u64 = 4294967296;
+use std::ops::{Add, Shl, Shr, Sub};
 
-// A number of two words, worth hi * 2 ^ 64 + lo.
-#[derive(Clone, Copy)]
+// The base of a digit of 32 bits, of which a word has two.
+const BASE: u64 = 1 << 32;
+
+// A number of two words, worth hi * 2 ^ 64 + lo. The high word comes first, so that the derived order is that of the numbers.
+#[derive(Clone, Copy, Debug, PartialEq, Eq, PartialOrd, Ord)]
 pub struct Wide {
     pub hi: u64,
     pub lo: u64,
 }
 
 // A quotient and its remainder.
-#[derive(Clone, Copy)]
+#[derive(Clone, Copy, Debug, PartialEq, Eq)]
 pub struct Divided {
     pub quotient: u64,
     pub remainder: u64,
 }
 
 // A word as a number of two words.
-pub fn from_word(x: u64) -> Wide
-    ensures { value_of result ≡ x }
-{
-    Wide { hi: 0, lo: x }
-}
+impl From<u64> for Wide {
+    ghost from_gives = { λ x u. value_of u ≡ x };
 
-// A number that one word holds, as that word.
-pub fn to_word(u: Wide) -> u64
-    requires { value_of u < 2 ^ 64 }
-    ensures { result ≡ value_of u }
-{
-    u.lo
+    fn from(x: u64) -> Wide {
+        Wide { hi: 0, lo: x }
+    }
 }
 
 // The whole product of two words, by columns of digits of 32 bits: each column's carry goes to the next.
@@ -70,58 +66,37 @@ pub fn product_by_digit(a: u64, d: u64) -> Wide
 }
 
 // The sum, where the high words leave room for a carry.
-pub fn sum(u: Wide, v: Wide) -> Wide
-    requires { u.hi + v.hi + 1 < 2 ^ 64 }
-    ensures { value_of result ≡ value_of u + value_of v }
-{
-    let room = u64::MAX - u.lo;
-    if v.lo <= room {
-        return Wide {
-            hi: u.hi + v.hi,
-            lo: u.lo + v.lo,
-        };
-    }
-    Wide {
-        hi: u.hi + v.hi + 1,
-        lo: v.lo - room - 1,
+impl Add for Wide {
+    type Output = Wide;
+
+    ghost can_add = { λ u v. u.hi + v.hi + 1 < 2 ^ 64 };
+
+    ghost add_gives = { λ u v r. value_of r ≡ value_of u + value_of v };
+
+    fn add(self, v: Wide) -> Wide {
+        let (lo, carry) = self.lo.overflowing_add(v.lo);
+        Wide {
+            hi: self.hi + v.hi + carry as u64,
+            lo,
+        }
     }
 }
 
 // The difference, where it is not below zero.
-pub fn difference(u: Wide, v: Wide) -> Wide
-    requires { value_of v ≤ value_of u }
-    ensures { value_of result ≡ value_of u - value_of v }
-{
-    if v.lo <= u.lo {
-        return Wide {
-            hi: u.hi - v.hi,
-            lo: u.lo - v.lo,
-        };
-    }
-    Wide {
-        hi: u.hi - v.hi - 1,
-        lo: u64::MAX - (v.lo - u.lo) + 1,
-    }
-}
+impl Sub for Wide {
+    type Output = Wide;
 
-// Whether u is less than v.
-pub fn below(u: Wide, v: Wide) -> bool
-    ensures { result ≡ ltb (value_of u) (value_of v) }
-{
-    if u.hi == v.hi {
-        return u.lo < v.lo;
-    }
-    u.hi < v.hi
-}
+    ghost can_sub = { λ u v. value_of v ≤ value_of u };
 
-// Whether u and v are the same number.
-pub fn same(u: Wide, v: Wide) -> bool
-    ensures { result ≡ eqb (value_of u) (value_of v) }
-{
-    if u.hi == v.hi {
-        return u.lo == v.lo;
+    ghost sub_gives = { λ u v r. value_of r ≡ value_of u - value_of v };
+
+    fn sub(self, v: Wide) -> Wide {
+        let (lo, borrow) = self.lo.overflowing_sub(v.lo);
+        Wide {
+            hi: self.hi - v.hi - borrow as u64,
+            lo,
+        }
     }
-    false
 }
 
 // 2 ^ k in one word.
@@ -137,87 +112,61 @@ pub fn wide_power(k: u32) -> Wide
     requires { k < 128 }
     ensures { value_of result ≡ 2 ^ k }
 {
-    if k < 64 {
-        return Wide {
-            hi: 0,
-            lo: power(k),
-        };
-    }
-    Wide {
-        hi: power(k - 64),
-        lo: 0,
-    }
+    Wide::from(1) << k
 }
 
 // u times 2 ^ k, where no digit is lost. A shift by 64 - k is made of two, since k may be 0.
-pub fn shifted_left(u: Wide, k: u32) -> Wide
-    requires short { k < 128 }
-    requires room { value_of u < 2 ^ (128 - k) }
-    ensures { value_of result ≡ value_of u * 2 ^ k }
-{
-    if k < 64 {
-        return Wide {
-            hi: (u.hi << k) + (u.lo >> 1 >> (63 - k)),
-            lo: u.lo << k,
-        };
-    }
-    Wide {
-        hi: u.lo << (k - 64),
-        lo: 0,
+impl Shl<u32> for Wide {
+    type Output = Wide;
+
+    ghost can_shl = { λ u k. (k < 128) × (value_of u < 2 ^ (128 - k)) };
+
+    ghost shl_gives = { λ u k r. value_of r ≡ value_of u * 2 ^ k };
+
+    fn shl(self, k: u32) -> Wide {
+        if k < 64 {
+            Wide {
+                hi: (self.hi << k) + (self.lo >> 1 >> (63 - k)),
+                lo: self.lo << k,
+            }
+        } else {
+            Wide {
+                hi: self.lo << (k - 64),
+                lo: 0,
+            }
+        }
     }
 }
 
-// u over 2 ^ k, whose remainder low_digits gives.
-pub fn shifted_right(u: Wide, k: u32) -> Wide
-    requires { k < 128 }
-    ensures { value_of result ≡ value_of u / 2 ^ k }
-{
-    if k < 64 {
-        return Wide {
-            hi: u.hi >> k,
-            lo: (u.hi << 1 << (63 - k)) + (u.lo >> k),
-        };
-    }
-    Wide {
-        hi: 0,
-        lo: u.hi >> (k - 64),
+// u over 2 ^ k, whose remainder `low_digits` gives.
+impl Shr<u32> for Wide {
+    type Output = Wide;
+
+    ghost can_shr = { λ _ k. k < 128 };
+
+    ghost shr_gives = { λ u k r. value_of r ≡ value_of u / 2 ^ k };
+
+    fn shr(self, k: u32) -> Wide {
+        if k < 64 {
+            Wide {
+                hi: self.hi >> k,
+                lo: (self.hi << 1 << (63 - k)) + (self.lo >> k),
+            }
+        } else {
+            Wide {
+                hi: 0,
+                lo: self.hi >> (k - 64),
+            }
+        }
     }
 }
 
-// The k lowest digits of u: the remainder of u over 2 ^ k.
-pub fn low_digits(u: Wide, k: u32) -> Wide
-    requires { k < 128 }
-    ensures { value_of result ≡ value_of u % 2 ^ k }
-{
-    if k < 64 {
-        return Wide {
-            hi: 0,
-            lo: u.lo % power(k),
-        };
-    }
-    Wide {
-        hi: u.hi % power(k - 64),
-        lo: u.lo,
-    }
-}
-
-// How many binary digits a word has, 0 for 0. Its leading zeros give the place of its highest bit (document 01).
+// How many binary digits a word has, 0 for 0. Its leading zeros give the place of its highest bit.
 pub fn word_digits(x: u64) -> u32
     ensures count { result ≡ size x }
     ensures most { result ≤ 64 }
 {
-    64 - u64::leading_zeros(x)
-}
-
-// How many binary digits u has, 0 for 0: by these a two-word product is normalised before it is rounded.
-pub fn digits(u: Wide) -> u32
-    ensures count { result ≡ size (value_of u) }
-    ensures most { result ≤ 128 }
-{
-    if u.hi == 0 {
-        return word_digits(u.lo);
-    }
-    64 + word_digits(u.hi)
+    64 - x.leading_zeros()
 }
 
 // One step of long division, high * 2 ^ 32 + low by d, for a divisor with its highest bit set:
@@ -233,21 +182,20 @@ fn quotient_digit(high: u64, low: u64, d: u64) -> Divided
     let left = high % d1 * BASE + low;
     let taken = estimate * d0;
     if taken <= left {
-        return Divided {
+        Divided {
             quotient: estimate,
             remainder: left - taken,
-        };
-    }
-    let lack = taken - left;
-    if lack <= d {
-        return Divided {
+        }
+    } else if taken - left <= d {
+        Divided {
             quotient: estimate - 1,
-            remainder: d - lack,
-        };
-    }
-    Divided {
-        quotient: estimate - 2,
-        remainder: d - (lack - d),
+            remainder: d - (taken - left),
+        }
+    } else {
+        Divided {
+            quotient: estimate - 2,
+            remainder: d - (taken - left - d),
+        }
     }
 }
 
@@ -265,16 +213,56 @@ fn divide_normal(u: Wide, d: u64) -> Divided
     }
 }
 
-// u by d, where the quotient is one word: both are shifted until the divisor's highest bit is set.
-pub fn divide(u: Wide, d: u64) -> Divided
-    requires { u.hi < d }
-    ensures quotient { result.quotient ≡ value_of u / d }
-    ensures remainder { result.remainder ≡ value_of u % d }
-{
-    let k = u64::leading_zeros(d);
-    let divided = divide_normal(shifted_left(u, k), d << k);
-    Divided {
-        quotient: divided.quotient,
-        remainder: divided.remainder >> k,
+impl Wide {
+    // A number that one word holds, as that word.
+    pub fn to_word(self) -> u64
+        requires { value_of self < 2 ^ 64 }
+        ensures { result ≡ value_of self }
+    {
+        self.lo
+    }
+
+    // How many binary digits the number has, 0 for 0: by these a two-word product is normalised before it is rounded.
+    pub fn digits(self) -> u32
+        ensures count { result ≡ size (value_of self) }
+        ensures most { result ≤ 128 }
+    {
+        if self.hi == 0 {
+            word_digits(self.lo)
+        } else {
+            64 + word_digits(self.hi)
+        }
+    }
+
+    // The k lowest digits: the remainder over 2 ^ k.
+    pub fn low_digits(self, k: u32) -> Wide
+        requires { k < 128 }
+        ensures { value_of result ≡ value_of self % 2 ^ k }
+    {
+        if k < 64 {
+            Wide {
+                hi: 0,
+                lo: self.lo % power(k),
+            }
+        } else {
+            Wide {
+                hi: self.hi % power(k - 64),
+                lo: self.lo,
+            }
+        }
+    }
+
+    // The number by d, where the quotient is one word: both are shifted until the divisor's highest bit is set.
+    pub fn divide(self, d: u64) -> Divided
+        requires { self.hi < d }
+        ensures quotient { result.quotient ≡ value_of self / d }
+        ensures remainder { result.remainder ≡ value_of self % d }
+    {
+        let k = d.leading_zeros();
+        let divided = divide_normal(self << k, d << k);
+        Divided {
+            quotient: divided.quotient,
+            remainder: divided.remainder >> k,
+        }
     }
 }

@@ -1,9 +1,11 @@
--- What is written as a word is read back. Over a width. Assumes nothing.
-use Rattle.std.specs.Prelude.{◌≡◌, Bool, false, cond, ℕ, suc, ◌-◌, ◌*◌, ◌^◌, ◌≤◌, ◌<◌, ℤ, pos, negsuc}
-use Rattle.std.proofs.Common.{ap, ◌∙◌, arith, mod-eq_of_lt, lt-ltb, le-ltb}
+-- What is written as a word is read back, over a width; and core's words are these. Assumes nothing.
+use Rattle.std.specs.Prelude.{◌≡◌, Bool, false, cond, ltb, ℕ, suc, ◌-◌, ◌*◌, ◌^◌, ◌≤◌, ◌<◌, ℤ, pos, negsuc}
+use Rattle.std.proofs.Common.{refl, true, ap, ◌∙◌, arith, mod-eq_of_lt, lt-ltb, le-ltb, to_z, of_z}
 use Rattle.std.proofs.Math.Nat.{pow-succ'}
 use Rattle.std.specs.Int.Signed.{mag}
 use Rattle.std.proofs.lemmas.Bool.{lt-leb}
+use mir.Syntax.{Width, w8, w16, w32, w64, w128}
+use mir.Val.{bits, hbits, sel}
 use Rattle.words.specs.Words.{unsigned, signed, low32, past_half}
 
 module _ (w : ℕ) (some : 0 < w) where
@@ -23,6 +25,25 @@ module _ (w : ℕ) (some : 0 < w) where
       let least : 2 ^ (w - 1) ≤ v = omega (arith, half) in
       let e : 2 ^ w - suc v ≡ m = omega (arith, half) in
       ap (λ (t : Bool). cond t (pos v) (negsuc (2 ^ w - suc v))) (le-ltb v (2 ^ (w - 1)) least) ∙ ap negsuc e
+
+-- ---- core's `cast_unsigned` and `cast_signed`, at each width
+pub cast_unsigned_is : (w : Width) (z : ℤ) → of_z w z ≡ unsigned (bits w) z
+cast_unsigned_is w (pos m) = refl
+cast_unsigned_is w (negsuc m) = refl
+
+half_bits : (w : Width) → hbits w ≡ bits w - 1
+half_bits w8 = refl
+half_bits w16 = refl
+half_bits w32 = refl
+half_bits w64 = refl
+half_bits w128 = refl
+
+pub cast_signed_is : (w : Width) (v : ℕ) → to_z w v ≡ signed (bits w) v
+cast_signed_is w v = chosen (pos v) (negsuc (2 ^ bits w - suc v)) (ltb v (2 ^ hbits w)) ∙ ap (λ (k : ℕ). cond (ltb v (2 ^ k)) (pos v) (negsuc (2 ^ bits w - suc v))) (half_bits w)
+  where
+    chosen : (x y : ℤ) (t : Bool) → sel t x y ≡ cond t x y
+    chosen x y true = refl
+    chosen x y false = refl
 
 -- of a word below 2 ^ 32 the low half is all
 pub low_all : (v : ℕ) → v < 2 ^ 32 → low32 v ≡ v

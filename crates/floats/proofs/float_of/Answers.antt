@@ -12,9 +12,9 @@ pub returns-then-minus : goal.returns-then-minus
 returns-then-minus c =
     pattern_is binary32 true c.args.exponent c.args.m c.requires ∙ ap (λ (s : Bool). float_of binary32 s c.args.exponent c.args.m) (sym c.if-minus.true)
 
-pub float_from_bits-result-2 : goal.float_from_bits-result-2
-float_from_bits-result-2 c = pattern_number binary32 false c.args.exponent c.args.m c.requires
+pub float_from_bits-result-else-minus : goal.float_from_bits-result-else-minus
+float_from_bits-result-else-minus c = pattern_number binary32 false c.args.exponent c.args.m c.requires
 
-pub returns : goal.returns
-returns c =
+pub returns-else-minus : goal.returns-else-minus
+returns-else-minus c =
     pattern_is binary32 false c.args.exponent c.args.m c.requires ∙ ap (λ (s : Bool). float_of binary32 s c.args.exponent c.args.m) (sym c.if-minus.false)

@@ -14,8 +14,8 @@ returns c =
     let x = c.args.x in
     let d = c.args.d in
     let r = x % d in
-    let twice : value_of c.sum.result ≡ r * 2 = omega (arith, c.sum.ensures, c.from_word-rest.ensures) in
-    c.nearest_of.ensures
-    ∙ ap₂ (λ (t h : ℕ). neighbour_at rule (x / d) t (h * 2)) twice c.from_word.ensures
-    ∙ ap (λ (l : Location). record { taken = choose rule (x / d) l; direction = towards rule (x / d) l }) (location_alike (r * 2) (d * 2) r d (omega arith) c.requires.0 (omega arith))
+    let twice : value_of c.add.result ≡ r * 2 = omega (arith, c.add.ensures, c.from-rest.ensures) in
+    c.nearest.ensures
+    ∙ ap₂ (λ (t h : ℕ). neighbour_at rule (x / d) t (h * 2)) twice c.from.ensures
+    ∙ ap (λ (l : Location). record { value = choose rule (x / d) l; direction = towards rule (x / d) l }) (location_alike (r * 2) (d * 2) r d (omega arith) c.requires.0 (omega arith))
     ∙ by_division rule x d c.requires.0

@@ -17,7 +17,7 @@ below rule n zero P h = omega arith
 below rule n (suc x) P h = lt_of_lt_of_le (rounded_bits rule n P (suc x) 1 (omega arith) (omega arith)).most (pow_mono {i = n} {j = word_bits - 1} (omega arith))
 
 pub with_sign-requires : goal.with_sign-requires
-with_sign-requires c = rw c.round_word-r.ensures (below (rule_of c.args.rule) c.args.n c.magnitude.result c.requires.0 c.requires.1)
+with_sign-requires c = rw c.round_word-r.ensures (below (rule_of c.args.rule) c.args.n c.unsigned_abs.result c.requires.0 c.requires.1)
 
 pub returns : goal.returns
 unfolding rounded_signed
@@ -28,7 +28,7 @@ returns c =
     let size = c.round_word-r.result in
     let minus = negative z in
     let same = to_z-of_z {w = w64} c.ranges.z in
-    let r : size ≡ rounded rule n (nat_abs z) 1 = c.round_word-r.ensures ∙ ap (λ (m : ℕ). rounded rule n m 1) (c.magnitude.ensures ∙ ap nat_abs same) in
+    let r : size ≡ rounded rule n (nat_abs z) 1 = c.round_word-r.ensures ∙ ap (λ (m : ℕ). rounded rule n m 1) (c.unsigned_abs.ensures.value ∙ ap nat_abs same) in
     let below-is : lt_z (to_z w64 (of_z w64 z)) (pos 0) ≡ minus = ap (λ (y : ℤ). lt_z y (pos 0)) same ∙ negative_is z in
     let s : to_z w64 (of_z w64 c.with_sign.result) ≡ signed_of minus size.significand =
     to_z-of_z {w = w64} (record { sfits = c.with_sign.type_inv }) ∙ c.with_sign.ensures ∙ ap (λ (b : Bool). signed_of b size.significand) below-is in

@@ -16,12 +16,12 @@ returns-then-taken-left c =
     let right = estimate_right (known c.args.high c.args.low c.args.d c.requires.0 c.requires.1 c.requires.2) c.if-taken-left.true in
     record { quotient = right.0; remainder = right.1 }
 
-pub returns-then-lack-d : goal.returns-then-lack-d
-returns-then-lack-d c =
-    let one = one_too_large (known c.args.high c.args.low c.args.d c.requires.0 c.requires.1 c.requires.2) c.if-taken-left.false c.if-lack-d.true in
+pub returns-then-taken-left-2 : goal.returns-then-taken-left-2
+returns-then-taken-left-2 c =
+    let one = one_too_large (known c.args.high c.args.low c.args.d c.requires.0 c.requires.1 c.requires.2) c.if-taken-left.false c.if-taken-left-2.true in
     record { quotient = one.0; remainder = one.1 }
 
-pub returns : goal.returns
-returns c =
-    let two = two_too_large (known c.args.high c.args.low c.args.d c.requires.0 c.requires.1 c.requires.2) c.if-lack-d.false in
+pub returns-else-taken-left-2 : goal.returns-else-taken-left-2
+returns-else-taken-left-2 c =
+    let two = two_too_large (known c.args.high c.args.low c.args.d c.requires.0 c.requires.1 c.requires.2) c.if-taken-left-2.false in
     record { quotient = two.0; remainder = two.1 }

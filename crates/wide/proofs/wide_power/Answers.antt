@@ -1,7 +1,8 @@
--- From 64 on the power stands in the high word.
-use Rattle.std.proofs.Common.{sym, add-zero}
-use Rattle.wide.specs.ShiftLaws.{power_split}
+-- Shifted by less than 128 places, 1 stays within two words.
+use Rattle.std.proofs.Common.{pow_mono, ◌<◌, ◌-◌, ◌^◌, arith}
 use Rattle.wide.proofs.wide_power.Goals as goal
 
-pub returns : goal.returns
-returns c = rw (c.power-2.ensures, add-zero) (sym (power_split c.args.k 64 c.if-k-lt64.false))
+pub shl-requires : goal.shl-requires
+shl-requires c =
+    let room : 1 < 2 ^ (128 - c.args.k) = omega (arith, pow_mono {i = 1} {j = 128 - c.args.k} (omega arith)) in
+    (c.requires, rw c.from.ensures room)

@@ -1,7 +1,7 @@
 -- The laws of a shift to the right at the width 64.
 use Rattle.std.proofs.Common.{◌≡◌, ℕ, ◌+◌, ◌-◌, ◌*◌, ◌/◌, ◌%◌, ◌^◌, ◌≤◌, ◌<◌, zero-add, le_of_lt, arith}
 use Rattle.wide.specs.ShiftLaws.{low_at_top, right_within, right_within_lt, right_past}
-use Rattle.wide.proofs.shifted_right.Goals as goal
+use Rattle.wide.proofs.WideShrU32.shr.Goals as goal
 
 module _ (h l k : ℕ) (word : l < 2 ^ 64) where
   -- k within the low word: the digits that cross to it come by two shifts
@@ -17,15 +17,15 @@ module _ (h l k : ℕ) (word : l < 2 ^ 64) where
 
 pub overflow_add-result : goal.overflow_add-result
 overflow_add-result c =
-    let u = c.args.u in
+    let u = c.args.self in
     record { fits = low_fits u.hi u.lo c.args.k (omega arith) c.if-k-lt64.true }
 
 pub returns-then-k-lt64 : goal.returns-then-k-lt64
 returns-then-k-lt64 c =
-    let u = c.args.u in
+    let u = c.args.self in
     value_within u.hi u.lo c.args.k (omega arith) c.if-k-lt64.true
 
-pub returns : goal.returns
-returns c =
-    let u = c.args.u in
+pub returns-else-k-lt64 : goal.returns-else-k-lt64
+returns-else-k-lt64 c =
+    let u = c.args.self in
     value_past u.hi u.lo c.args.k (omega arith) c.if-k-lt64.false

@@ -1,7 +1,7 @@
 -- The laws of a shift to the left at the width 64.
 use Rattle.std.proofs.Common.{◌≡◌, ap₂, ℕ, ◌+◌, ◌-◌, ◌*◌, ◌/◌, ◌%◌, ◌^◌, ◌≤◌, ◌<◌, add-zero, mod-eq_of_lt, le_of_lt, lt_of_le_of_lt, le-add_right}
 use Rattle.wide.specs.ShiftLaws.{top_digits, left_within, left_within_lt, left_past, left_past_lt}
-use Rattle.wide.proofs.shifted_left.Goals as goal
+use Rattle.wide.proofs.WideShlU32.shl.Goals as goal
 
 module _ (h l k : ℕ) (room : h * 2 ^ 64 + l < 2 ^ (128 - k)) where
   -- k within the low word
@@ -25,15 +25,15 @@ module _ (h l k : ℕ) (room : h * 2 ^ 64 + l < 2 ^ (128 - k)) where
 
 pub overflow_add-result : goal.overflow_add-result
 overflow_add-result c =
-    let u = c.args.u in
-    record { fits = high_fits u.hi u.lo c.args.k c.requires.room c.if-k-lt64.true }
+    let u = c.args.self in
+    record { fits = high_fits u.hi u.lo c.args.k c.requires.1 c.if-k-lt64.true }
 
 pub returns-then-k-lt64 : goal.returns-then-k-lt64
 returns-then-k-lt64 c =
-    let u = c.args.u in
-    value_within u.hi u.lo c.args.k c.requires.room c.if-k-lt64.true
+    let u = c.args.self in
+    value_within u.hi u.lo c.args.k c.requires.1 c.if-k-lt64.true
 
-pub returns : goal.returns
-returns c =
-    let u = c.args.u in
-    value_past u.hi u.lo c.args.k c.requires.room c.if-k-lt64.false c.requires.short
+pub returns-else-k-lt64 : goal.returns-else-k-lt64
+returns-else-k-lt64 c =
+    let u = c.args.self in
+    value_past u.hi u.lo c.args.k c.requires.1 c.if-k-lt64.false c.requires.0

@@ -5,35 +5,35 @@ use Rattle.std.specs.Int.Count.{count_leading_zeros}
 use Rattle.wide.specs.Value.{value_of}
 use Rattle.wide.specs.DigitLaws.{normal_by_zeros}
 use Rattle.wide.specs.DivisionLaws.{divided_scaled, raised_high_lt, raised_room}
-use Rattle.wide.proofs.divide.Goals as goal
+use Rattle.wide.proofs.Wide.divide.Goals as goal
 
-pub shifted_left-requires-clause-room : goal.shifted_left-requires-clause-room
-shifted_left-requires-clause-room c =
-    let u = c.args.u in
+pub shl-requires : goal.shl-requires
+shl-requires c =
+    let u = c.args.self in
     let d = c.args.d in
     let normal = normal_by_zeros 64 d (omega arith) c.ranges.d.fits in
-    raised_room 64 u.hi u.lo d (count_leading_zeros 64 d) c.requires (omega arith) normal
+    (omega (arith, normal.shift_lt), raised_room 64 u.hi u.lo d (count_leading_zeros 64 d) c.requires (omega arith) normal)
 
 pub divide_normal-divided-requires : goal.divide_normal-divided-requires
 divide_normal-divided-requires c =
-    let u = c.args.u in
+    let u = c.args.self in
     let d = c.args.d in
     let k = count_leading_zeros 64 d in
     let normal = normal_by_zeros 64 d (omega arith) c.ranges.d.fits in
-    let raised = c.shifted_left.result in
+    let raised = c.shl.result in
     let half = normal.half in
     rw (mod-eq_of_lt normal.fits)
-    (omega arith, raised_high_lt (2 ^ 64) u.hi u.lo d (2 ^ k) raised.hi raised.lo c.requires (omega arith) (pow_pos k) c.shifted_left.ensures)
+    (omega arith, raised_high_lt (2 ^ 64) u.hi u.lo d (2 ^ k) raised.hi raised.lo c.requires (omega arith) (pow_pos k) c.shl.ensures)
 
 pub returns : goal.returns
 returns c =
-    let u = value_of c.args.u in
+    let u = value_of c.args.self in
     let d = c.args.d in
     let k = count_leading_zeros 64 d in
     let normal = normal_by_zeros 64 d (omega arith) c.ranges.d.fits in
     let divided = c.divide_normal-divided.ensures in
     let scaled = divided_scaled u d (2 ^ k) (omega arith) (pow_pos k) in
     record {
-      quotient = rw (c.shifted_left.ensures, mod-eq_of_lt normal.fits) at divided.quotient ∙ sym scaled.0;
-      remainder = ap (λ (x : ℕ). x / 2 ^ k) (rw (c.shifted_left.ensures, mod-eq_of_lt normal.fits) at divided.remainder ∙ sym scaled.1) ∙ shl-shr (u % d) k;
+      quotient = rw (c.shl.ensures, mod-eq_of_lt normal.fits) at divided.quotient ∙ sym scaled.0;
+      remainder = ap (λ (x : ℕ). x / 2 ^ k) (rw (c.shl.ensures, mod-eq_of_lt normal.fits) at divided.remainder ∙ sym scaled.1) ∙ shl-shr (u % d) k;
     }
