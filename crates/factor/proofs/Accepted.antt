@@ -1,9 +1,7 @@
 -- Laws of ends with the same parts: they are close, and every fraction between them has these parts. Assumes nothing.
-use Rattle.std.specs.Prelude.{◌≡◌, Bool, true, false, ℕ, ◌+◌, ◌-◌, ◌*◌, ◌^◌, ◌≤◌, ◌<◌}
-use Rattle.std.proofs.Math.Path.{refl, sym, ap, subst}
-use Rattle.std.proofs.Common.{◌∙◌, inl, inr, pos_of_ne-zero, eq-zero-or-pos, mul-le-mul_right, mul-lt-mul_of_pos_right, mul-pos, le_trans, le_of_eq, le_antisymm, arith, pow-add, pow_pos, pow_mono, ltb-true, ltb-false, lt-ltb, le-ltb}
+use Rattle.std.specs.Prelude.{◌≡◌, refl, Bool, true, false, ltb, ℕ, ◌+◌, ◌-◌, ◌*◌, ◌^◌, ◌≤◌, ◌<◌}
+use Rattle.std.proofs.Common.{sym, ap, ◌∙◌, subst, inl, inr, pos_of_ne-zero, eq-zero-or-pos, mul-le-mul_right, mul-lt-mul_of_pos_right, mul-pos, le_trans, le_of_eq, le_antisymm, arith, pow-add, pow_pos, pow_mono, ltb-true, ltb-false, lt-ltb, le-ltb}
 use Rattle.std.proofs.Math.Nat.{eq_of_mul-eq-mul_right}
-use Rattle.std.proofs.Math.Dec.{ltb}
 use Rattle.std.specs.Float.Ieee.{size}
 use Rattle.rounding.specs.Apart.{apart}
 use Rattle.rounding.proofs.ApartLaws.{apart_mul}

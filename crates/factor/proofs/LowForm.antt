@@ -1,19 +1,14 @@
 -- Laws of the low part as a signed whole number over a power of two, the form in which it is kept. Assumes nothing.
-use Rattle.std.specs.Prelude.{◌≡◌, refl, Bool, false, ℤ, pos, negsuc, neg_ℤ}
-use Rattle.std.proofs.Math.Path.{sym, ap}
-use Rattle.std.proofs.Common.{◌∙◌, mul-le-mul_right, mul-le-mul_left, mul-pos, mul-lt-mul_of_pos_right, le_trans, le_of_suc-le-suc, le_of_eq, lt_of_not-le, pow-add, pow_pos, pow_mono}
-use Rattle.std.proofs.Math.Bool.{true}
-use Prim.Native.Nat.{ℕ, zero, suc, ◌+◌, ◌-◌, ◌*◌, ◌/◌, ◌^◌, ◌≤◌, ◌<◌}
+use Rattle.std.specs.Prelude.{◌≡◌, refl, Bool, true, false, ℕ, zero, suc, ◌+◌, ◌-◌, ◌*◌, ◌/◌, ◌^◌, ◌≤◌, ◌<◌, ℤ, pos, negsuc, neg_ℤ, nat_abs}
+use Rattle.std.proofs.Common.{sym, ap, ◌∙◌, arith, mul-le-mul_right, mul-le-mul_left, mul-pos, mul-lt-mul_of_pos_right, le_trans, le_of_suc-le-suc, le_of_eq, lt_of_not-le, pow-add, pow_pos, pow_mono}
 use Rattle.std.proofs.Math.Nat.{mul-div_cancel, pow-succ'}
-use native.Mathlib.Omega.{arith}
-use Rattle.std.proofs.Math.IntN.{nat_abs}
 use Rattle.rounding.specs.declared.Rounded.{Rounded}
 use Rattle.rounding.specs.Unit.{rn}
 use Rattle.rounding.proofs.UnitLaws.{rn_le, rn_ge, rn_whole_small}
 use Rattle.rounding.specs.Round.{rounded, Equals, HasBits}
 use Rattle.rounding.proofs.RoundLaws.{rounded_bits, rounded_whole}
 use Rattle.rounding.specs.Signed.{negative, signed_of}
-use Rattle.rounding.proofs.Directed.{size_of}
+use Rattle.rounding.proofs.DirectedLaws.{size_of}
 use Rattle.factor.specs.declared.Parts.{Parts}
 use Rattle.factor.specs.Context.{Context, Fine}
 use Rattle.factor.specs.UnitParts.{parts_from}
@@ -48,7 +43,7 @@ module _ (K : Context) where
     width_is = ap (λ (z : ℕ). 2 ^ z) (omega arith) ∙ pow-add 2 n (E - 2 * n)
 
   -- a low part l of the unit 2 ^ - E, not zero, as s / 2 ^ places
-  pub record LowForm (l : ℕ) (r : Rounded) : Type 0 where
+  pub record LowForm (l : ℕ) (r : Rounded ℕ) : Type 0 where
     pub places : ℕ
     pub exponent : r.exponent ≡ neg_ℤ (pos places)
     pub bits : HasBits n r.significand
@@ -63,7 +58,7 @@ module _ (K : Context) where
     abbrev W : ℕ
     W = 2 ^ (E - n)
 
-    abbrev r : Rounded
+    abbrev r : Rounded ℕ
     r = rounded rule n R (2 ^ E)
 
     abbrev l : ℕ

@@ -1,13 +1,7 @@
--- The parts at one end: their bounds, how near they are to the end, and that the whole numbers are the parts of document 01. Assumes nothing.
-use Rattle.std.specs.Prelude.{◌≡◌, Bool, ℕ, ◌+◌, ◌-◌, ◌*◌, ◌/◌, ◌^◌, ◌≤◌}
-use Rattle.std.proofs.Math.Path.{refl, sym, ap, ap₂}
-use Rattle.std.proofs.Common.{◌∙◌, subst, mul-le-mul_right, le_of_eq, arith, pow_pos, pow_mono}
-use Rattle.std.proofs.Math.Bool.{true, false}
-use Rattle.std.proofs.Math.Nat.{le_trans, pow-succ', eq_of_mul-eq-mul_right, mul-div_cancel}
-use Rattle.std.proofs.Math.Dec.{ltb}
-use Rattle.std.proofs.Math.IntN.{nat_abs}
-use Rattle.std.proofs.Math.Pow.{pow-add}
-use borrow.Author.Tests.{ltb-true, ltb-false}
+-- The parts at one end: their bounds, how near they are to the end, and that the whole numbers are the parts of the definition. Assumes nothing.
+use Rattle.std.specs.Prelude.{◌≡◌, refl, Bool, true, false, ltb, ℕ, ◌+◌, ◌-◌, ◌*◌, ◌/◌, ◌^◌, ◌≤◌, nat_abs}
+use Rattle.std.proofs.Common.{sym, ap, ap₂, ◌∙◌, subst, mul-le-mul_right, le_of_eq, le_trans, arith, pow_pos, pow_mono, pow-add, ltb-true, ltb-false}
+use Rattle.std.proofs.Math.Nat.{pow-succ', eq_of_mul-eq-mul_right, mul-div_cancel}
 use Rattle.rounding.specs.Apart.{apart}
 use Rattle.rounding.specs.Grid.{nearest}
 use Rattle.rounding.proofs.GridLaws.{nearest_is, nearest_le, nearest_ge}
@@ -20,7 +14,7 @@ use Rattle.rounding.proofs.RoundLaws.{rounded_same}
 use Rattle.rounding.specs.Fraction.{over}
 use Rattle.rounding.proofs.FractionLaws.{InUnits, over_in_units, units_finer, RN_in_units, less_in_units}
 use Rattle.rounding.specs.Signed.{negative, signed_of}
-use Rattle.rounding.proofs.Directed.{size_of}
+use Rattle.rounding.proofs.DirectedLaws.{size_of}
 use Rattle.factor.specs.declared.Parts.{Parts}
 pub use Rattle.factor.proofs.LowForm.{top_is, width_is}
 use Rattle.factor.proofs.LowForm.{sign_of, keep_sign, Tells, from_tells}
@@ -106,7 +100,7 @@ module _ (K : Context) (ok : Fine K) (c : ℕ) (ce : End K c) where
           let x = low_near in
           (omega (arith, x.0, x.1), omega (arith, x.0, x.1))
 
-  -- ---- these are document 01's parts
+  -- ---- these are the parts, as fractions
   pub rn_high : rn rule n c 1 ≡ p.high * G
   unfolding unit_parts
   rn_high =
@@ -159,7 +153,7 @@ module _ (K : Context) (ok : Fine K) (c : ℕ) (ce : End K c) where
       let size : R ≡ nat_abs (signed_of p.minus R) = sym (size_of p.minus R) in
       let t : rounded rule n d.num d.den ≡ rounded rule n (nat_abs (signed_of p.minus R)) (2 ^ E) = r ∙ ap (λ (z : ℕ). rounded rule n z (2 ^ E)) size in
       let low : signed_of d.minus (rounded rule n d.num d.den).significand ≡ signed_of (negative (signed_of p.minus R)) (rounded rule n (nat_abs (signed_of p.minus R)) (2 ^ E)).significand =
-      ap₂ (λ (b : Bool) (q : Rounded). signed_of b q.significand) k.sign r
+      ap₂ (λ (b : Bool) (q : Rounded ℕ). signed_of b q.significand) k.sign r
       ∙ keep_sign K p.minus R
       ∙ ap (λ (z : ℕ). signed_of (negative (signed_of p.minus R)) (rounded rule n z (2 ^ E)).significand) size in
       λ i. record { high = high_is i; low = low i; places = nat_abs (t i).exponent }

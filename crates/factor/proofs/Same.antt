@@ -1,12 +1,9 @@
 -- Signed numbers of a word are the same exactly if their bits are. Assumes nothing.
-use mathlib.Core.Path.{◌≡◌, refl, sym, ap, ◌∙◌, subst}
-use mathlib.Core.Bool.{Bool, true, false, true≢false}
-use lib.Dec.{eqb}
-use lib.IntN.{ℤ}
+use Rattle.std.specs.Prelude.{◌≡◌, refl, Bool, true, false, eqb, ℤ}
+use Rattle.std.proofs.Common.{sym, ap, ◌∙◌, subst, true≢false, eq-eqb, ne_eqb, to_z, of_z}
+use Rattle.std.proofs.lemmas.Int.{to_z-of_z}
 use mir.Syntax.{Width}
-use mir.Val.{SFits, to_z, of_z}
-use mir.ValLaws.{to_z-of_z}
-use borrow.Author.Tests.{eq-eqb, ne_eqb}
+use mir.Val.{SFits}
 use Rattle.factor.specs.SetUp.{same_z}
 use Rattle.factor.proofs.SetUpLaws.{same_z_true, same_z_same}
 

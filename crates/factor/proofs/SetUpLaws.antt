@@ -1,10 +1,10 @@
 -- What acceptance tells of a factor: whatever set-up gave, and whatever 31 lets through, is sound. Assumes nothing.
-use Rattle.std.specs.Prelude.{◌≡◌, refl, true, false, ℕ, suc, ◌^◌, eqb, ltb, leb, ℤ, pos, negsuc}
-use Rattle.std.proofs.Common.{sym, ◌∙◌, true≢false}
-use Rattle.std.proofs.Math.Path.{ap, subst}
+use Rattle.std.specs.Prelude.{◌≡◌, refl, true, false, ℕ, suc, ◌^◌, eqb, ltb, leb, ℤ}
+use Rattle.std.proofs.Common.{sym, ap, ◌∙◌, subst, true≢false, ltb-false, eqb-true}
 use Rattle.std.specs.Float.Ieee.{binary32, to_bits}
+use Rattle.std.proofs.lemmas.Bool.Decides.{Decides-int_eq}
 use store.Seg.{eqb_same}
-use borrow.Author.Tests.{ltb-false, leb-false, eqb-true, eq-eqb, not-false}
+use borrow.Author.Tests.{leb-false, not-false}
 use Rattle.marks.specs.Answers.{NoneHolds, Outcome, refused, accepted, answer, each}
 use Rattle.marks.specs.AnswerLaws.{answer_each, only_accepted, none_refuses, or_false, and_true}
 use Rattle.floats.specs.Fields.{same_float}
@@ -21,14 +21,10 @@ use Rattle.factor.specs.SetUp.{end_out, same_high, same_z, same_low, float_in, a
 
 -- ---- tests
 pub same_z_true : (x y : ℤ) → same_z x y ≡ true → x ≡ y
-same_z_true (pos a) (pos b) e = ap pos (eqb-true a b e)
-same_z_true (pos a) (negsuc b) e = absurd (true≢false (sym e))
-same_z_true (negsuc a) (pos b) e = absurd (true≢false (sym e))
-same_z_true (negsuc a) (negsuc b) e = ap negsuc (eqb-true a b e)
+same_z_true x y e = (Decides-int_eq x y).0 e
 
 pub same_z_same : (x : ℤ) → same_z x x ≡ true
-same_z_same (pos a) = eq-eqb a a refl
-same_z_same (negsuc a) = eq-eqb a a refl
+same_z_same x = (Decides-int_eq x x).1 refl
 
 pub same_parts : (p q : Parts) → same_high p q ≡ true → same_low p q ≡ true → p ≡ q
 same_parts p q h l =

@@ -1,4 +1,4 @@
--- A factor with another sign (request W5): its conditions and its parts are those of its size, so set-up answers alike with the sign put on, and 31 lets through what it let through. Assumes nothing.
+-- A factor with another sign: its conditions and its parts are those of its size, so set-up answers alike with the sign put on, and 31 lets through what it let through. Assumes nothing.
 use Rattle.std.specs.Prelude.{◌≡◌, refl, Bool}
 use Rattle.std.proofs.Common.{sym, ap, ◌∙◌}
 use Rattle.marks.specs.Answers.{Outcome, refused, accepted, answer, each}

@@ -1,8 +1,6 @@
 -- The parts as floats: those that are stored have exactly the values Ch and Cl. Over a format and a context. Assumes nothing.
-use Rattle.std.specs.Prelude.{◌≡◌, refl, Bool, true, not, ℕ, ◌-◌, ◌*◌, ◌^◌, ◌<◌, T, ℤ, nat_abs, Float}
-use Rattle.std.proofs.Common.{sym, ◌∙◌, inl, inr, eq-zero-or-pos, le_of_lt, arith, pow_pos}
-use Rattle.std.proofs.Math.Path.{ap, subst}
-use Rattle.std.proofs.Math.Bool.{false}
+use Rattle.std.specs.Prelude.{◌≡◌, refl, Bool, true, false, not, ℕ, ◌-◌, ◌*◌, ◌^◌, ◌<◌, T, ℤ, nat_abs, Float}
+use Rattle.std.proofs.Common.{sym, ap, ◌∙◌, subst, inl, inr, eq-zero-or-pos, le_of_lt, arith, pow_pos}
 use Rattle.std.proofs.Math.Nat.{eq_of_mul-eq-mul_right}
 use Rattle.std.specs.Float.Ieee
 use Rattle.std.specs.Float.{Format}
@@ -147,14 +145,14 @@ module _ (f : Factor) (s : Sound f) where
   storable_parts : Storable (context_of f) f.parts
   storable_parts = subst (Storable (context_of f)) (sym s.parts) (storable (context_of f) (fine_at s.precision) (lower_of f) s.lower_end)
 
-  pub high_number : T (fits binary32 f.applied.high) → HasValue f.applied.high false f.parts.high (2 ^ (f.precision.bits - 1))
+  pub high_number : T (fits binary32 f.applied.high) → HasValue f.applied.high false f.parts.high (2 ^ (f.precision - 1))
   high_number h =
       let K = context_of f in
       let ok = fine_at s.precision in
       let held = valid_held s.precision in
       let x = high_part K (lower_of f) in
       let is = same_bits binary32 f.applied.high (float_in binary32 x) h (round-fits binary32 x.minus x.num x.den) (rw applied_is at s.high_stored) ∙ high_from_lem binary32 K ok held (lower_of f) s.lower_end ∙ ap (high_from binary32 K.n) (sym s.parts) in
-      subst (λ (z : Float). HasValue z false f.parts.high (2 ^ (f.precision.bits - 1))) (sym is) (high_held binary32 K ok held f.parts storable_parts)
+      subst (λ (z : Float). HasValue z false f.parts.high (2 ^ (f.precision - 1))) (sym is) (high_held binary32 K ok held f.parts storable_parts)
 
   pub low_number : T (fits binary32 f.applied.low) → HasValue f.applied.low (negative f.parts.low) (nat_abs f.parts.low) (2 ^ f.parts.places)
   low_number h =

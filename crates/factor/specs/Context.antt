@@ -27,7 +27,7 @@ abbrev pub context_for : Description → Context
 context_for d = context_at d.precision
 
 abbrev pub context_of : Factor → Context
-context_of f = context_at f.precision.bits
+context_of f = context_at f.precision
 
 abbrev pub lower_of : Factor → ℕ
 lower_of f = f.lower

@@ -16,6 +16,6 @@ pub record Between (K : Context) (L U : ℕ) (C : Fraction) : Type 0 where
   pub least : L * C.den ≤ C.num * 2 ^ K.E
   pub most : C.num * 2 ^ K.E ≤ U * C.den
 
--- with the factor's sign, as the ends describe its size (request W5): C, or - C
+-- with the factor's sign, as the ends describe its size: C, or - C
 abbrev pub signed_by : Factor → Fraction → Fraction
 signed_by f C = signed_as f.minus C

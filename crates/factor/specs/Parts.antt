@@ -1,4 +1,4 @@
--- The parts of a factor at one end (document 01, "A factor"), over a context. Definitions only. Assumes nothing.
+-- The parts of a factor at one end, over a context. Definitions only. Assumes nothing.
 use Rattle.std.specs.Prelude.{ℕ, ◌-◌, ◌*◌, ◌/◌, ◌^◌}
 use Rattle.std.proofs.Math.IntN.{nat_abs}
 use Rattle.rounding.specs.Round.{rounded}

@@ -1,9 +1,6 @@
--- What belongs to a precision n (document 01: "Limits and exponents that belong to a precision are named once, with the precision"). Definitions only. Assumes nothing.
+-- What belongs to a precision n: its limits and exponents are named here, once. Definitions only. Assumes nothing.
 use Rattle.std.specs.Prelude.{◌≡◌, Bool, ◌||◌, [], ◌∷◌, ℕ, ◌-◌, ◌^◌, ◌≤◌, ltb, leb}
-use Rattle.marks.specs.Answers.{Outcome, refused, accepted, answer}
-use Rattle.factor.specs.declared.Precision.{Precision}
-use Rattle.factor.specs.declared.PrecisionAnswer.{PrecisionAnswer}
-use Rattle.factor.specs.declared.PrecisionAnswer.TheVariants.{Accepted, Refused}
+use Rattle.marks.specs.Answers.{Outcome, answer}
 
 -- the scale E of the ends: an end c stands for c / 2 ^ E. It stays shut: its number is known from `ValidPrecision`
 unfoldable pub scale_of : ℕ → ℕ
@@ -38,18 +35,13 @@ pub record ValidPrecision (n : ℕ) : Type 0 where
   pub scale : scale_of n ≡ 62
 
 -- the precision, or refusal 11
-abbrev pub new_precision : ℕ → Outcome Precision
-new_precision n = answer ((11, precision_out n) ∷ []) (record { bits = n })
-
--- what each case of its answer says
-abbrev pub precision_says : PrecisionAnswer → Outcome Precision
-precision_says (Accepted p) = accepted p
-precision_says (Refused k) = refused k
+abbrev pub new_precision : ℕ → Outcome ℕ
+new_precision n = answer ((11, precision_out n) ∷ []) n
 
 -- refusal 17: a significand outside 2 ^ (n - 1) to 2 ^ n - 1
 abbrev pub significand_out : (n X : ℕ) → Bool
 significand_out n X = ltb X (2 ^ (n - 1)) || leb (2 ^ n) X
 
--- of a range: "a significand outside 2^(n−1) to 2^n − 1, or a range's first above its last"
+-- of a range: one of its two significands is outside, or its first is above its last
 abbrev pub range_out : (n first last : ℕ) → Bool
 range_out n first last = significand_out n first || significand_out n last || ltb last first

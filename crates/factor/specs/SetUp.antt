@@ -1,6 +1,7 @@
--- Set-up of a factor, with the refusals 11 to 16 in document 01's order, and the check behind 31. Definitions only. Assumes nothing.
+-- Set-up of a factor, with the refusals 11 to 16 in the order of their numbers, and the check behind 31. Definitions only. Assumes nothing.
 use Rattle.std.specs.Prelude.{◌≡◌, Bool, false, not, ◌&&◌, ◌||◌, List, [], ◌∷◌, ℕ, suc, ◌^◌, ◌≤◌, eqb, ltb, leb, ℤ, pos, negsuc, Float}
 use Rattle.std.specs.Int.Signed.{lt_z}
+use Rattle.std.specs.Ordering.{int_eq}
 use Rattle.std.specs.Float.Ieee
 use Rattle.std.specs.Float.{Format, binary32}
 use Rattle.std.specs.Float.Ieee.{to_bits}
@@ -11,10 +12,7 @@ use Rattle.factor.specs.declared.Description.{Description}
 use Rattle.factor.specs.declared.Parts.{Parts}
 use Rattle.factor.specs.declared.Applied.{Applied}
 use Rattle.factor.specs.declared.Stored.{Stored}
-use Rattle.factor.specs.declared.StoredAnswer.{StoredAnswer}
 use Rattle.factor.specs.declared.Factor.{Factor}
-use Rattle.factor.specs.declared.SetUp.{SetUp}
-use Rattle.factor.specs.declared.SetUp.TheVariants.{Accepted, Refused}
 use Rattle.factor.specs.Precision.{ValidPrecision, precision_out}
 use Rattle.factor.specs.Context.{Context, context_for, context_of, lower_of, upper_of}
 use Rattle.factor.specs.Parts.{high_part, low_part, parts_at}
@@ -35,16 +33,13 @@ same_high p q = eqb p.high q.high
 
 -- 16: Cl not the same at both ends
 abbrev pub same_z : ℤ → ℤ → Bool
-same_z (pos a) (pos b) = eqb a b
-same_z (pos a) (negsuc b) = false
-same_z (negsuc a) (pos b) = false
-same_z (negsuc a) (negsuc b) = eqb a b
+same_z a b = int_eq a b
 
 abbrev pub same_low : Parts → Parts → Bool
 same_low p q = same_z p.low q.low && eqb p.places q.places
 
 -- ---- the factor that is set up
--- the float of a fraction's value (which is exact for the parts: `stored_high` and `Stored-low`)
+-- the float of a fraction's value (which is exact for the parts: `stored_high` and `stored_low`)
 abbrev pub float_in : Format → Fraction → Float
 float_in f x = Ieee.round f x.minus x.num x.den
 
@@ -59,7 +54,7 @@ stored_by d = record { parts = parts_at (context_for d) d.lower; applied = appli
 
 -- the factor: sign, precision and both ends as described, and what is stored of the size
 abbrev pub factor_with : Description → Stored → Factor
-factor_with d s = record { minus = d.minus; precision = record { bits = d.precision }; lower = d.lower; upper = d.upper; parts = s.parts; applied = s.applied }
+factor_with d s = record { minus = d.minus; precision = d.precision; lower = d.lower; upper = d.upper; parts = s.parts; applied = s.applied }
 
 abbrev pub factor_of : Description → Factor
 factor_of d = factor_with d (stored_by d)
@@ -86,16 +81,6 @@ unfoldable pub set_up : Description → Outcome Factor
 unfolding parts_at applied_of
 set_up d = answer (conditions d) (factor_of d)
 
--- what each case says
-abbrev pub stored_says : StoredAnswer → Outcome Stored
-stored_says (StoredAnswer.Accepted s) = accepted s
-stored_says (StoredAnswer.Refused k) = refused k
-
--- and each case of set-up's answer
-abbrev pub outcome_of : SetUp → Outcome Factor
-outcome_of (Accepted f) = accepted f
-outcome_of (Refused k) = refused k
-
 -- ---- the check behind 31
 abbrev pub same_applied : Applied → Applied → Bool
 same_applied a b = same_float binary32 a.high b.high && (same_float binary32 a.low b.low && same_z a.scale b.scale)
@@ -111,16 +96,20 @@ given f (refused k) = false
 
 -- a factor as it would be described
 abbrev pub described : Factor → Description
-described f = record { minus = f.minus; precision = f.precision.bits; scale = f.applied.scale; lower = f.lower; upper = f.upper }
+described f = record { minus = f.minus; precision = f.precision; scale = f.applied.scale; lower = f.lower; upper = f.upper }
 
 -- 31 stands if this is false: the factor's stored parts are those that its ends, precision and scale set up, and those are not refused
 unfoldable pub intact : Factor → Bool
 unfolding stored_of
 intact f = given f (stored_of (described f))
 
+-- the factor, unless 31 stands
+abbrev pub checked : Factor → Outcome Factor
+checked f = answer ((31, not (intact f)) ∷ []) f
+
 -- ---- what is known of a factor that was accepted
 pub record Sound (f : Factor) : Type 0 where
-  pub precision : ValidPrecision f.precision.bits
+  pub precision : ValidPrecision f.precision
   pub lower_end : End (context_of f) (lower_of f)
   pub upper_end : End (context_of f) (upper_of f)
   pub ordered : lower_of f ≤ upper_of f

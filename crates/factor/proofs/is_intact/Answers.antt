@@ -1,15 +1,19 @@
 -- The factor against what its own precision, scale and ends set up.
-use Rattle.std.proofs.Common.{◌≡◌, sym, ap, ◌∙◌, rules, w32, to_z, of_z}
-use Rattle.factor.specs.SetUp.{given}
+use Rattle.std.proofs.Common.{◌≡◌, Bool, false, Result, Ok, Err, MatchResult, sym, ap, ◌∙◌, rules}
+use Rattle.marks.specs.declared.Refusal.{Refusal}
+use Rattle.marks.specs.Answers.{said}
+use Rattle.factor.specs.declared.Stored.{Stored}
+use Rattle.factor.specs.declared.Factor.{Factor}
+use Rattle.factor.specs.SetUp.{given, stored_of, stores_just}
 use Rattle.factor.proofs.SetUpLaws.{intact_is}
 use Rattle.factor.proofs.is_intact.Goals as goal
 
-pub returns-in-Accepted : goal.returns-in-Accepted
-returns-in-Accepted c =
-    let same : to_z w32 (of_z w32 c.args.f.applied.scale) ≡ c.args.f.applied.scale = search rules in
-    c.stores.ensures ∙ ap (given c.args.f) (rw same at c.in-Accepted.ensures) ∙ sym (intact_is c.args.f)
+given_by : (P : Stored → Type 0) (f : Factor) (b : Bool) (r : Result Stored Refusal) → ((s : Stored) → P s → b ≡ stores_just f s) → MatchResult r P (λ (e : Refusal). b ≡ false) → b ≡ given f (said r)
+given_by P f b (Ok s) of is = of s is
+given_by P f b (Err e) of is = is
 
-pub returns-in-Refused : goal.returns-in-Refused
-returns-in-Refused c =
-    let same : to_z w32 (of_z w32 c.args.f.applied.scale) ≡ c.args.f.applied.scale = search rules in
-    ap (given c.args.f) (rw same at c.in-Refused.ensures) ∙ sym (intact_is c.args.f)
+pub returns : goal.returns
+returns c =
+    given_by _ c.args.f c.is_ok_and.result c.stored_of.result (λ s k. search rules) c.is_ok_and.ensures
+    ∙ ap (given c.args.f) (c.stored_of.ensures ∙ ap stored_of c.from.ensures)
+    ∙ sym (intact_is c.args.f)

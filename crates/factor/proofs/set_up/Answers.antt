@@ -2,11 +2,13 @@
 use Rattle.std.proofs.Common.{sym, ap, ◌∙◌}
 use Rattle.marks.specs.Answers.{each}
 use Rattle.factor.specs.SetUp.{factor_with}
+use Rattle.marks.specs.AnswerLaws.{said_err}
 use Rattle.factor.proofs.SetUpLaws.{set_up_stores}
 use Rattle.factor.proofs.set_up.Goals as goal
 
-pub returns-in-Refused : goal.returns-in-Refused
-returns-in-Refused c = ap (each (factor_with c.args.d)) c.in-Refused.ensures ∙ sym (set_up_stores c.args.d)
+pub returns-in_err-stored : goal.returns-in_err-stored
+returns-in_err-stored c =
+    said_err _ c.from_residual.result c.from_residual.ensures.1 ∙ ap (each (factor_with c.args.d)) (c.in_err-stored.ensures) ∙ sym (set_up_stores c.args.d)
 
-pub returns-in-Accepted : goal.returns-in-Accepted
-returns-in-Accepted c = ap (each (factor_with c.args.d)) c.in-Accepted.ensures ∙ sym (set_up_stores c.args.d)
+pub returns : goal.returns
+returns c = ap (each (factor_with c.args.d)) (c.in_ok-stored.ensures) ∙ sym (set_up_stores c.args.d)

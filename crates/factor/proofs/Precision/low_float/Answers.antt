@@ -5,12 +5,12 @@ use Rattle.std.specs.Float.Ieee
 use Rattle.std.specs.Float.{binary32}
 use Rattle.rounding.specs.Signed.{negative}
 use Rattle.floats.proofs.Signs.{round_zero}
-use Rattle.factor.proofs.low_float.Goals as goal
+use Rattle.factor.proofs.Precision.low_float.Goals as goal
 
-pub returns-then-size-eq0 : goal.returns-then-size-eq0
-returns-then-size-eq0 c =
-    let size = rw (to_z-of_z w64 c.args.low c.ranges.low) at c.magnitude-size.ensures in
-    let z = c.requires.1.none (sym size ∙ c.if-size-eq0.true) in
+pub returns-in-0 : goal.returns-in-0
+returns-in-0 c =
+    let size = rw (to_z-of_z w64 c.args.low c.ranges.low) at c.unsigned_abs.ensures.value in
+    let z = c.requires.none (sym size ∙ c.in-0.is) in
     c.zero.ensures
     ∙ sym (round_zero binary32 false 0 1 refl (lit< tt))
     ∙ ap₂ (λ (l : ℤ) (q : ℕ). Ieee.round binary32 (negative l) (nat_abs l) (2 ^ q)) (sym z.0) (sym z.1)
