@@ -1,9 +1,9 @@
 -- What 31 and 17 let through: a sound factor, and a significand of its bits. Assumes nothing.
 use Rattle.std.specs.Prelude.{◌≡◌, false, ◌||◌, ℕ, ◌-◌, ◌^◌, ltb, leb}
-use Rattle.std.proofs.Common.{ltb-false, leb-false, le-ltb}
+use Rattle.std.proofs.Common.{sym, ap, ◌∙◌, ltb-false, leb-false, le-ltb}
 use Rattle.std.proofs.lemmas.Bool.{not-false, lt-leb}
-use Rattle.marks.specs.Answers.{NoneHolds}
-use Rattle.marks.specs.AnswerLaws.{or_false}
+use Rattle.marks.specs.Answers.{Outcome, NoneHolds, answer, each}
+use Rattle.marks.specs.AnswerLaws.{or_false, answer_each}
 use Rattle.rounding.specs.Round.{HasBits}
 use Rattle.factor.specs.declared.Factor.{Factor}
 use Rattle.factor.specs.Precision.{significand_out, range_out}
@@ -34,5 +34,9 @@ in_range_lem n first last q =
 pub range_in : (n first last : ℕ) → InRange n first last → range_out n first last ≡ false
 range_in n first last r = rw (bits_in n first r.first_bits, bits_in n last r.last_bits) (le-ltb last first r.ordered)
 
-pub let_through : (f : Factor) (X : ℕ) → NoneHolds (conditions f X) → Sound f × HasBits f.precision.bits X
-let_through f X h = (intact_sound f (not-false _ h.0), significand_in f.precision.bits X h.1.0)
+pub let_through : (f : Factor) (X : ℕ) → NoneHolds (conditions f X) → Sound f × HasBits f.precision X
+let_through f X h = (intact_sound f (not-false _ h.0), significand_in f.precision X h.1.0)
+
+-- what is made of a factor and a significand is answered as they are let through
+pub of_operands : {B : Type 0} (g : Factor × ℕ → B) (f : Factor) (X : ℕ) {o : Outcome (Factor × ℕ)} → o ≡ answer (conditions f X) (f, X) → each g o ≡ answer (conditions f X) (g (f, X))
+of_operands g f X e = ap (each g) e ∙ sym (answer_each g (conditions f X) (f, X))

@@ -1,5 +1,5 @@
--- Demand 2 for every factor that set-up accepted or 31 lets through and every significand in range (`demand_2`): what the parts and the two steps are, and
--- what the mark tells of every fraction between the ends, the factor's sign on it (request W5). Of readings it is said in `reading`.
+-- What a product tells, for every factor that set-up accepted or 31 lets through and every significand in range (`demand_2`): what the parts and the two steps are, and
+-- what the mark tells of every fraction between the ends, the factor's sign on it. Of readings it is said in `reading`.
 -- Assumes nothing.
 use Rattle.std.specs.Prelude.{◌≡◌, Bool, true, false, ℕ, ◌-◌, ◌*◌, ◌^◌, ◌≤◌, ◌<◌, nat_abs}
 use Rattle.std.proofs.Math.Path.{sym}
@@ -30,8 +30,8 @@ use Rattle.factor.specs.Ends.{End, Between}
 use Rattle.factor.specs.SetUp.{set_up, intact, Sound}
 use Rattle.factor.proofs.SetUpLaws.{intact_sound, accepted_intact}
 use Rattle.product.specs.declared.Product.{Product}
-use Rattle.product.specs.declared.DirectedProduct.{DirectedProduct}
-use Rattle.product.specs.declared.SignedProduct.{SignedProduct}
+use Rattle.rounding.specs.declared.Directed.{Directed}
+use Rattle.rounding.specs.declared.Signed.{Signed}
 use Rattle.product.specs.declared.Device.{Device}
 use Rattle.product.specs.Product.{argument, high, low, first, fused, second, product, value_of}
 use Rattle.product.specs.Marks.{Gives, mark_by, SaysBy}
@@ -127,12 +127,12 @@ module _ (K : Context) where
       of_zero N d e = ap (λ (z : ℕ). (rounded rule n z d).significand * up (rounded rule n z d).exponent) e ∙ unfold rounded in omega arith
 
 -- both steps of a factor's product
-pub two_steps : (f : Factor) → Sound f → (X : ℕ) → HasBits f.precision.bits X → TwoSteps (context_of f) f.parts X
+pub two_steps : (f : Factor) → Sound f → (X : ℕ) → HasBits f.precision X → TwoSteps (context_of f) f.parts X
 two_steps f s X x = let K = context_of f in subst (λ (p : Parts). TwoSteps K p X) (sym s.parts) (at_end K (fine_at s.precision) (lower_of f) s.lower_end X x)
 
 -- ---- the mark, of a value v of n bits, whoever made it
-module _ (f : Factor) (s : Sound f) (X : ℕ) (x : HasBits f.precision.bits X) (v : Product) (bits : HasBits f.precision.bits v.significand) where
-  -- it is what demand 2 has it say: right, every fraction between the ends gives v; wrong, none does; open, one does and another does not
+module _ (f : Factor) (s : Sound f) (X : ℕ) (x : HasBits f.precision X) (v : Product) (bits : HasBits f.precision v.significand) where
+  -- it says what a mark is to say: right, every fraction between the ends gives v; wrong, none does; open, one does and another does not
   pub mark_tells : SaysBy f X v (mark_by f X v)
   mark_tells = mark_says (context_of f) (sound_fine f s).some (lower_of f) (upper_of f) X v s.lower_end.from s.ordered x.least (le_of_lt bits.most)
 
@@ -140,16 +140,16 @@ module _ (f : Factor) (s : Sound f) (X : ℕ) (x : HasBits f.precision.bits X) (
   pub mark_alone : (m : Mark) → SaysBy f X v m → mark_by f X v ≡ m
   mark_alone = mark_only (context_of f) (sound_fine f s).some (lower_of f) (upper_of f) X v s.lower_end.from s.ordered x.least (le_of_lt bits.most)
 
--- ---- with the factor's sign on the value and on every fraction, it says the same (request W5)
-module _ (f : Factor) (s : Sound f) (X : ℕ) (x : HasBits f.precision.bits X) (w : DirectedProduct) (bits : HasBits f.precision.bits w.product.significand) where
-  abbrev v : SignedProduct
+-- ---- with the factor's sign on the value and on every fraction, it says the same
+module _ (f : Factor) (s : Sound f) (X : ℕ) (x : HasBits f.precision X) (w : Directed Product) (bits : HasBits f.precision w.value.significand) where
+  abbrev v : Signed Product
   v = signed_product f.minus w
 
   abbrev Ends : Fraction → Type 0
   Ends = Between (context_of f) (lower_of f) (upper_of f)
 
   abbrev size : Fraction → Type 0
-  size = Gives (context_of f) X w.product
+  size = Gives (context_of f) X w.value
 
   to : (C : Fraction) → Ends C → size C → GivesSigned f X v C
   to C k g = (unlike_plus f.minus, g.1)
@@ -157,11 +157,11 @@ module _ (f : Factor) (s : Sound f) (X : ℕ) (x : HasBits f.precision.bits X) (
   from : (C : Fraction) → Ends C → GivesSigned f X v C → size C
   from C k g = (ap (λ (m : Bool). unlike m false) k.sign, g.1)
 
-  pub signed_tells : SaysSigned f X v (mark_by f X w.product)
-  signed_tells = says_alike Ends size (GivesSigned f X v) to from (mark_by f X w.product) (mark_tells f s X x w.product bits)
+  pub signed_tells : SaysSigned f X v (mark_by f X w.value)
+  signed_tells = says_alike Ends size (GivesSigned f X v) to from (mark_by f X w.value) (mark_tells f s X x w.value bits)
 
-  pub signed_alone : (m : Mark) → SaysSigned f X v m → mark_by f X w.product ≡ m
-  signed_alone m t = mark_alone f s X x w.product bits m (says_alike Ends (GivesSigned f X v) size from to m t)
+  pub signed_alone : (m : Mark) → SaysSigned f X v m → mark_by f X w.value ≡ m
+  signed_alone m t = mark_alone f s X x w.value bits m (says_alike Ends (GivesSigned f X v) size from to m t)
 
 -- so every answer to a multiplication tells the truth, whatever the device, the factor and the significand
 pub answer_tells : (d : Device) (f : Factor) (X : ℕ) → Tells f X (multiplied d f X)
@@ -170,17 +170,17 @@ answer_tells d f X =
     let v = directed_on d f X in
     of_answer (Tells f X) (conditions f X) (answered f (marked f X v)) (λ k. tt) (λ h. let t = let_through f X h in signed_tells f t.0 X t.1 v (formed d f t.0 X t.1).bits)
 
--- ---- demand 2, from the entry points
+-- ---- from the entry points
 pub record Demand2 (f : Factor) : Type 0 where
   -- the parts are those of every fraction between the ends
   pub parts : (C : Fraction) → Between (context_of f) (lower_of f) (upper_of f) C → PartsTell (context_of f) f.parts C
   -- every significand that 17 lets through is answered with its product on the device, the factor's sign, a direction and a mark
-  pub answers : (d : Device) (X : ℕ) → significand_out f.precision.bits X ≡ false → multiplied d f X ≡ accepted (answered f (marked f X (directed_on d f X)))
+  pub answers : (d : Device) (X : ℕ) → significand_out f.precision X ≡ false → multiplied d f X ≡ accepted (answered f (marked f X (directed_on d f X)))
   -- that of the two-step device is made by both steps
-  pub steps : (X : ℕ) → significand_out f.precision.bits X ≡ false → TwoSteps (context_of f) f.parts X
+  pub steps : (X : ℕ) → significand_out f.precision X ≡ false → TwoSteps (context_of f) f.parts X
   -- the mark says what is true of every fraction between the ends, and no other mark does
-  pub marks : (d : Device) (X : ℕ) → significand_out f.precision.bits X ≡ false → SaysSigned f X (signed_product f.minus (directed_on d f X)) (mark_on d f X)
-  pub alone : (d : Device) (X : ℕ) → significand_out f.precision.bits X ≡ false → (m : Mark) → SaysSigned f X (signed_product f.minus (directed_on d f X)) m → mark_on d f X ≡ m
+  pub marks : (d : Device) (X : ℕ) → significand_out f.precision X ≡ false → SaysSigned f X (signed_product f.minus (directed_on d f X)) (mark_on d f X)
+  pub alone : (d : Device) (X : ℕ) → significand_out f.precision X ≡ false → (m : Mark) → SaysSigned f X (signed_product f.minus (directed_on d f X)) m → mark_on d f X ≡ m
 
 -- of every factor that 31 lets through
 pub demand_2 : (f : Factor) → intact f ≡ true → Demand2 f
@@ -189,9 +189,9 @@ demand_2 f i =
     record {
       parts = parts_tell f s;
       answers = λ d X h. unfold multiplied in sym (accepts (pass (ap not i) (pass h end)) (answered f (marked f X (directed_on d f X))));
-      steps = λ X h. two_steps f s X (significand_in f.precision.bits X h);
-      marks = λ d X h. let x = significand_in f.precision.bits X h in signed_tells f s X x (directed_on d f X) (formed d f s X x).bits;
-      alone = λ d X h. let x = significand_in f.precision.bits X h in signed_alone f s X x (directed_on d f X) (formed d f s X x).bits;
+      steps = λ X h. two_steps f s X (significand_in f.precision X h);
+      marks = λ d X h. let x = significand_in f.precision X h in signed_tells f s X x (directed_on d f X) (formed d f s X x).bits;
+      alone = λ d X h. let x = significand_in f.precision X h in signed_alone f s X x (directed_on d f X) (formed d f s X x).bits;
     }
 
 -- and so of every one that set-up accepted

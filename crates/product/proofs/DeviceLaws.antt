@@ -37,11 +37,11 @@ pub record Formed (n : ℕ) (v : Product) : Type 0 where
   pub bits : HasBits n v.significand
   pub binade : v.binade ≤ 1
 
-pub formed : (d : Device) (f : Factor) → Sound f → (X : ℕ) → HasBits f.precision.bits X → Formed f.precision.bits (product_on d f X)
+pub formed : (d : Device) (f : Factor) → Sound f → (X : ℕ) → HasBits f.precision X → Formed f.precision (product_on d f X)
 formed Device.TwoStep f s X x = let is = sound_product f s X x in record { bits = is.bits; binade = is.binade }
 formed Device.OneStep f s X x = let is = sound_one_step f s X x in record { bits = is.bits; binade = is.binade }
 
--- with whatever sign the factor has, it and its direction are the size's (request W5)
+-- with whatever sign the factor has, it and its direction are the size's
 pub sized : (s : Bool) (d : Device) (f : Factor) (X : ℕ) → directed_on d (factor_as s f) X ≡ directed_on d f X
 sized s Device.TwoStep f X = refl
 sized s Device.OneStep f X = refl

@@ -1,4 +1,4 @@
--- Demand 2: the mark, taken at the two ends alone, tells of every fraction between them. Assumes nothing.
+-- The mark, taken at the two ends alone, tells of every fraction between them. Assumes nothing.
 use Rattle.std.specs.Prelude.{◌≡◌, refl, Bool, true, false, ◌&&◌, ℕ, ◌+◌, ◌-◌, ◌*◌, ◌^◌, ◌≤◌, ◌<◌, ltb, eqb}
 use Rattle.std.proofs.Common.{sym, ap, ◌∙◌, subst, arith, pow-add, pow_pos, ltb-true, ltb-false, eqb-true, lt-ltb, le-ltb, eq-eqb}
 use Rattle.std.proofs.Math.Bool.{cond}

@@ -9,7 +9,7 @@ use Rattle.rounding.proofs.UnitLaws.{rn_le}
 use Rattle.rounding.specs.Round.{HasBits}
 use Rattle.rounding.specs.Fraction.{Same, direction_of}
 use Rattle.rounding.proofs.FractionLaws.{InUnits, over_in_units, times_in_units}
-use Rattle.rounding.proofs.Directed.{direction_whole}
+use Rattle.rounding.proofs.DirectedLaws.{direction_whole}
 use Rattle.factor.specs.declared.Parts.{Parts}
 use Rattle.factor.specs.declared.Factor.{Factor}
 use Rattle.factor.specs.Context.{Context, context_of}
@@ -64,5 +64,5 @@ module _ (K : Context) (P : 0 < K.n) (p : Parts) (X : ℕ) (h : HighBits K.n p.h
   one_step_value = rounded_product_value (at_step K) P N (by_high n p X) counts exact_within.from rounds_to
 
 -- of a sound factor and a significand in range: n bits, in binade 0 or 1
-pub sound_one_step : (f : Factor) → Sound f → (X : ℕ) → HasBits f.precision.bits X → IsProduct (at_step (context_of f)) (rn (context_of f).rule f.precision.bits (f.parts.high * X) 1) (one_step_by f X)
+pub sound_one_step : (f : Factor) → Sound f → (X : ℕ) → HasBits f.precision X → IsProduct (at_step (context_of f)) (rn (context_of f).rule f.precision (f.parts.high * X) 1) (one_step_by f X)
 sound_one_step f s X x = one_step_is (context_of f) (sound_fine f s).some f.parts X (sound_high f s) x

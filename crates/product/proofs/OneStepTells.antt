@@ -1,10 +1,11 @@
 -- What an answer of the one-step device tells, for every factor and every number as X (`once_tells`): its sign and form, that it is RN(Ch * x), what its mark says of every fraction between the ends, and that it is less than
--- 3/2 units in the last place from C * x for every such fraction C (request W2; source document 003, Property 2.1), all with the factor's sign on (request W5). Assumes nothing.
+-- 3/2 units in the last place from C * x for every such fraction C, all with the factor's sign on. Assumes nothing.
 use Rattle.std.specs.Prelude.{◌≡◌, refl, Bool, false, ℕ, ◌-◌, ◌≤◌}
 use Rattle.std.proofs.Common.{sym, ap, le_trans, pow_pos}
 use Rattle.std.specs.Float.Ieee.{unlike}
 use Rattle.marks.specs.declared.Mark.{Mark}
-use Rattle.marks.specs.Answers.{Outcome, refused, accepted, Marked}
+use Rattle.marks.specs.declared.Marked.{Marked}
+use Rattle.marks.specs.Answers.{Outcome, refused, accepted}
 use Rattle.marks.specs.AnswerLaws.{of_answer}
 use Rattle.rounding.specs.Grid.{Rule}
 use Rattle.rounding.specs.Round.{HasBits}
@@ -20,7 +21,7 @@ use Rattle.factor.specs.Ends.{Between, signed_by}
 use Rattle.factor.specs.SetUp.{Sound}
 use Rattle.product.specs.declared.Device.{Device}
 use Rattle.product.specs.declared.Product.{Product}
-use Rattle.product.specs.declared.SignedProduct.{SignedProduct}
+use Rattle.rounding.specs.declared.Signed.{Signed}
 use Rattle.product.specs.Product.{argument, high, value_of}
 use Rattle.product.specs.Devices.{directed_on, signed_value}
 use Rattle.product.specs.Answer.{conditions, marked, answered, multiplied, SaysSigned}
@@ -35,22 +36,22 @@ use Rattle.product.proofs.OneStepLaws.{one_step_value, sound_one_step}
 abbrev pub exact_product : (n X : ℕ) → Fraction → Fraction
 exact_product n X C = times C (argument n X)
 
-pub record Tells (f : Factor) (X : ℕ) (a : Marked SignedProduct) : Type 0 where
+pub record Tells (f : Factor) (X : ℕ) (a : Marked (Signed Product)) : Type 0 where
   -- the factor's sign, and a significand of n bits, in binade 0 or 1
   pub sign : a.value.minus ≡ f.minus
-  pub bits : HasBits f.precision.bits a.value.product.significand
-  pub binade : a.value.product.binade ≤ 1
+  pub bits : HasBits f.precision a.value.value.significand
+  pub binade : a.value.value.binade ≤ 1
   -- it is Ch * x rounded once, to nearest, with that sign
-  pub value : Same (RN (context_of f).rule f.precision.bits (signed_by f (by_high f.precision.bits f.parts X))) (signed_value f.precision.bits a.value)
-  pub nearest : ToNearest (context_of f) (by_high f.precision.bits f.parts X)
+  pub value : Same (RN (context_of f).rule f.precision (signed_by f (by_high f.precision f.parts X))) (signed_value f.precision a.value)
+  pub nearest : ToNearest (context_of f) (by_high f.precision f.parts X)
   -- its mark says what is true of every fraction between the ends, and no other mark does
   pub says : SaysSigned f X a.value a.mark
   pub alone : (m : Mark) → SaysSigned f X a.value m → a.mark ≡ m
   -- it is less than 3/2 ulp(C * x) from C * x, for every C between the ends and with the factor's sign, in whole numbers, cross-multiplied
-  pub near : (C : Fraction) → Between (context_of f) (lower_of f) (upper_of f) C → WithinThreeHalves f.precision.bits (signed_value f.precision.bits a.value) (exact_product f.precision.bits X (signed_by f C))
+  pub near : (C : Fraction) → Between (context_of f) (lower_of f) (upper_of f) C → WithinThreeHalves f.precision (signed_value f.precision a.value) (exact_product f.precision X (signed_by f C))
 
 -- of every answer: a refusal tells nothing
-abbrev pub AnswerTells : Factor → ℕ → Outcome (Marked SignedProduct) → Type 0
+abbrev pub AnswerTells : Factor → ℕ → Outcome (Marked (Signed Product)) → Type 0
 AnswerTells f X (refused k) = Unit {0}
 AnswerTells f X (accepted a) = Tells f X a
 
@@ -60,7 +61,7 @@ module _ (f : Factor) (s : Sound f) where
   K = context_of f
 
   abbrev n : ℕ
-  n = f.precision.bits
+  n = f.precision
 
   -- |RN(Ch * x) - C * x| < 3/2 ulp(C * x), of every x > 0 and by every tie rule
   pub sound_near : (rule : Rule) (x : Fraction) → Positive x → (C : Fraction) → Between K (lower_of f) (upper_of f) C → WithinThreeHalves n (RN rule n (times (high n f.parts) x)) (times C x)

@@ -95,7 +95,7 @@ module _ (K : Context) (P : 0 < K.n) (N : ℕ) (y : Fraction) (counts : InUnits 
       go zero d e D = absurd (omega (arith, mul-pos (le_trans (mul-pos (pow_pos (n - 1)) (pow_pos E)) from) D))
       go (suc a) d e D = omega arith
 
-  abbrev r : Rounded
+  abbrev r : Rounded ℕ
   r = rounded rule n y.num y.den
 
   r_at : r ≡ rounded_in rule n T N 1
@@ -112,9 +112,9 @@ module _ (K : Context) (P : 0 < K.n) (N : ℕ) (y : Fraction) (counts : InUnits 
         of : (i : ℕ) × ((rounded_in rule n T N 1).exponent ≡ minus i T) × ((rounded_in rule n T N 1).significand * 2 ^ i ≡ rn rule n N 1)
             → IsProduct K (rn rule n N 1) (record { significand = r.significand; binade = nat_abs (r.exponent +ℤ pos (n - 1)) })
         of (i, e, v) =
-            let v' : r.significand * 2 ^ i ≡ rn rule n N 1 = ap (λ (z : Rounded). z.significand * 2 ^ i) r_at ∙ v in
+            let v' : r.significand * 2 ^ i ≡ rn rule n N 1 = ap (λ (z : Rounded ℕ). z.significand * 2 ^ i) r_at ∙ v in
             let lo = exponent_from K P (rn rule n N 1) (rn_from K P N from) r.significand i bits v' in
-            let b : nat_abs (r.exponent +ℤ pos (n - 1)) ≡ i - E = ap nat_abs (ap (λ (z : ℤ). z +ℤ pos (n - 1)) (ap (λ (z : Rounded). z.exponent) r_at ∙ e) ∙ minus_shift i E (n - 1) ∙ minus_le i E lo) in
+            let b : nat_abs (r.exponent +ℤ pos (n - 1)) ≡ i - E = ap nat_abs (ap (λ (z : ℤ). z +ℤ pos (n - 1)) (ap (λ (z : Rounded ℕ). z.exponent) r_at ∙ e) ∙ minus_shift i E (n - 1) ∙ minus_le i E lo) in
             subst (λ (z : ℕ). IsProduct K (rn rule n N 1) (record { significand = r.significand; binade = z })) (sym b) (is_product K P (rn rule n N 1) (rn_from K P N from) r.significand i bits v' to)
 
     -- it is RN(y)
@@ -195,7 +195,7 @@ module _ (K : Context) (ok : Fine K) (c : ℕ) (ce : End K c) where
             let f = first_near in
             (omega (arith, f.0, f.1, v), omega (arith, f.0, f.1, v))
 
-    -- ---- the steps of document 01 are these whole numbers
+    -- ---- the steps of the product are these whole numbers
     abbrev t : ℕ
     t = E + (n - 1)
 

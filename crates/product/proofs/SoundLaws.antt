@@ -27,7 +27,7 @@ module _ (f : Factor) (s : Sound f) where
   K = context_of f
 
   abbrev n : ℕ
-  n = f.precision.bits
+  n = f.precision
 
   abbrev L : ℕ
   L = lower_of f
@@ -64,12 +64,12 @@ module _ (f : Factor) (s : Sound f) where
     sound_close_high = subst (λ (p : Parts). AtMost (distance (high n p) C) (over 1 n)) (sym s.parts) (high_close K sound_fine L U s.lower_end s.upper_end s.same C k)
 
   -- its ends are close: U * x has at most W more than L * x
-  pub sound_close : (X : ℕ) → HasBits f.precision.bits X → (upper_of f - lower_of f) * X ≤ 2 ^ ((context_of f).E - (context_of f).n)
+  pub sound_close : (X : ℕ) → HasBits f.precision X → (upper_of f - lower_of f) * X ≤ 2 ^ ((context_of f).E - (context_of f).n)
   sound_close X xb = le_trans (mul-le-mul_left (upper_of f - lower_of f) (le_of_lt xb.most)) (spread (context_of f) sound_fine (lower_of f) (upper_of f) s.lower_end s.upper_end s.same)
 
   pub sound_upper : (X : ℕ) → lower_of f * X + (upper_of f - lower_of f) * X ≡ upper_of f * X
   sound_upper X = let e : lower_of f + (upper_of f - lower_of f) ≡ upper_of f = omega (arith, s.ordered) in omega (arith, ap (λ (z : ℕ). z * X) e)
 
   -- its product of a significand in range has n bits, in binade 0 or 1
-  pub sound_product : (X : ℕ) → HasBits f.precision.bits X → IsProduct (context_of f) (second_units (context_of f) (unit_parts_of (context_of f) f.parts) X) (product_by f X)
+  pub sound_product : (X : ℕ) → HasBits f.precision X → IsProduct (context_of f) (second_units (context_of f) (unit_parts_of (context_of f) f.parts) X) (product_by f X)
   sound_product = product_of_parts (context_of f) f.parts sound_parts

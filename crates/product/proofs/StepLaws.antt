@@ -20,7 +20,7 @@ use Rattle.rounding.proofs.RoundLaws.{rounded_at, rounded_bits, rounded_in_expon
 use Rattle.rounding.specs.Signed.{signed_of}
 use Rattle.rounding.specs.Fraction.{direction_of}
 use Rattle.rounding.proofs.FractionLaws.{InUnits}
-use Rattle.rounding.proofs.Directed.{direction_whole}
+use Rattle.rounding.proofs.DirectedLaws.{direction_whole}
 use Rattle.round.specs.Cuts.{cut_at}
 use Rattle.factor.specs.declared.Parts.{Parts}
 use Rattle.factor.specs.Precision.{most_precision, ValidPrecision}
@@ -46,7 +46,7 @@ product_word n a b N p q = let t : 2 ^ n ≤ 2 ^ most_precision = pow_mono N.mos
 module _ (K : Context) (P : 0 < K.n) (N : ℕ) (from : 2 ^ (K.n - 1) * 2 ^ K.E ≤ N) where
   open K use {rule, n, E}
 
-  abbrev r : Rounded
+  abbrev r : Rounded ℕ
   r = rounded rule n N 1
 
   some : 0 < N
@@ -73,10 +73,10 @@ module _ (K : Context) (P : 0 < K.n) (N : ℕ) (from : 2 ^ (K.n - 1) * 2 ^ K.E �
 
       of : (i : ℕ) × ((rounded_in rule n 0 N 1).exponent ≡ minus i 0) × ((rounded_in rule n 0 N 1).significand * 2 ^ i ≡ rn rule n N 1) → Dropped
       of (i, e, v) =
-          let v' : r.significand * 2 ^ i ≡ rn rule n N 1 = ap (λ (z : Rounded). z.significand * 2 ^ i) at ∙ v in
+          let v' : r.significand * 2 ^ i ≡ rn rule n N 1 = ap (λ (z : Rounded ℕ). z.significand * 2 ^ i) at ∙ v in
           record {
             count = i;
-            exponent = ap (λ (z : Rounded). z.exponent) at ∙ e ∙ minus_zero i;
+            exponent = ap (λ (z : Rounded ℕ). z.exponent) at ∙ e ∙ minus_zero i;
             value = v';
             least = exponent_from K P (rn rule n N 1) (rn_from K P N from) r.significand i bits v';
           }

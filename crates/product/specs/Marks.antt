@@ -1,4 +1,4 @@
--- The mark of a value (document 01, "The product"), by comparison with both ends, and what it says of every fraction between them. Definitions only. Assumes nothing.
+-- The mark of a value, by comparison with both ends, and what it says of every fraction between them. Definitions only. Assumes nothing.
 use Rattle.std.specs.Prelude.{◌&&◌, cond, ℕ}
 use Rattle.marks.specs.declared.Mark.{Mark}
 use Rattle.marks.specs.declared.Mark.TheVariants.{Right, Open, Wrong}
@@ -25,7 +25,7 @@ module _ (K : Context) where
   unfoldable pub mark : (L U X : ℕ) → Product → Mark
   mark L U X v = compared (exact X (over L E)) (exact X (over U E)) (value_of n v)
 
-  -- ---- demand 2, in its own words
+  -- ---- what a mark tells, in its own words
   -- the fraction C, multiplied by x, rounds to v
   abbrev pub Gives : ℕ → Product → Fraction → Type 0
   Gives X v C = Same (exact X C) (value_of n v)

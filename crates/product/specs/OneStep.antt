@@ -1,4 +1,4 @@
--- The one-step product (request W2; source document 003, Property 2.1): what a handheld without a fused step gives. Over a context. Definitions only. Assumes nothing.
+-- The one-step product: what a handheld without a fused step gives. Over a context. Definitions only. Assumes nothing.
 use Rattle.std.specs.Prelude.{ℕ}
 use Rattle.rounding.specs.Fraction.{Fraction, times, RN}
 use Rattle.factor.specs.declared.Parts.{Parts}

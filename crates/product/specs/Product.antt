@@ -1,4 +1,4 @@
--- The two-step product (document 01, "The product"; source document 004, Algorithm 1), over a context. Definitions only. Assumes nothing.
+-- The two-step product, over a context. Definitions only. Assumes nothing.
 use Rattle.std.specs.Prelude.{ℕ, ◌-◌, ◌*◌, ◌^◌, ◌+ℤ◌}
 use Rattle.std.proofs.Math.IntN.{pos, nat_abs}
 use Rattle.rounding.specs.Round.{rounded}

@@ -12,7 +12,7 @@ use Rattle.factor.specs.Parts.{parts_at}
 use Rattle.factor.specs.UnitParts.{UnitParts, step, plus_or_minus}
 use Rattle.factor.specs.Ends.{End}
 use Rattle.product.specs.declared.Product.{Product}
-use Rattle.product.specs.declared.DirectedProduct.{DirectedProduct}
+use Rattle.rounding.specs.declared.Directed.{Directed}
 
 -- the mark of v by whole numbers: a and b are RN(L * x) and RN(U * x)
 abbrev pub mark_units : (a b v : ℕ) → Mark
@@ -41,8 +41,8 @@ module _ (K : Context) where
   rounded_units N = let r = rounded rule n N 1 in record { significand = r.significand; binade = nat_abs r.exponent - E }
 
   -- with the direction from N
-  abbrev pub directed_units : ℕ → DirectedProduct
-  directed_units N = record { product = rounded_units N; direction = side_of (pos N) (pos (rn rule n N 1)) }
+  abbrev pub directed_units : ℕ → Directed Product
+  directed_units N = record { value = rounded_units N; direction = side_of (pos N) (pos (rn rule n N 1)) }
 
   -- N is from 1 to below 4, and so is what it rounds to
   pub record Within (N : ℕ) : Type 0 where

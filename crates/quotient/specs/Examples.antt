@@ -1,5 +1,5 @@
--- Figures: request W1's quotients, both borders of a binade, every refusal, a negative factor's (request W5), and how near the bound of 3/2 ulp is met. All by computation. Assumes nothing.
-use Rattle.std.specs.Prelude.{◌≡◌, refl, Bool, true, false, ℕ, ◌+◌, ◌-◌, ◌*◌, ◌^◌, ◌<◌, ℤ, pos, negsuc}
+-- Figures: quotients, both borders of a binade, every refusal, a negative factor's, and how near the bound of 3/2 ulp is met. All by computation. Assumes nothing.
+use Rattle.std.specs.Prelude.{◌≡◌, refl, Bool, true, false, ℕ, ◌+◌, ◌-◌, ◌*◌, ◌^◌, ℤ, pos, negsuc}
 use Rattle.std.proofs.Common.{lit<}
 use Rattle.std.specs.Float.Ieee
 use Rattle.std.specs.Float.Ieee.{size}
@@ -14,7 +14,8 @@ use Rattle.factor.specs.SetUp.{applied_of, factor_of}
 use Rattle.rounding.specs.declared.Direction.{Direction}
 use Rattle.rounding.specs.declared.Direction.TheVariants.{Below, Equal, Above}
 use Rattle.rounding.specs.Direction.{side_of}
-use Rattle.quotient.specs.declared.SignedQuotient.{SignedQuotient}
+use Rattle.rounding.specs.declared.Signed.{Signed}
+use Rattle.quotient.specs.declared.Quotient.{Quotient}
 use Rattle.quotient.specs.Quotient.{quotient_by, value_of}
 use Rattle.quotient.specs.Answer.{divided}
 use Rattle.quotient.specs.Tells.{exact_quotient}
@@ -28,10 +29,10 @@ abbrev factor_at : (n c : ℕ) → Factor
 factor_at n c = signed_at false n c
 
 -- a quotient with a sign, and one above zero
-abbrev signed : Bool → ℕ → ℤ → Direction → Outcome SignedQuotient
-signed m s b d = accepted (record { minus = m; quotient = record { significand = s; binade = b }; direction = d })
+abbrev signed : Bool → ℕ → ℤ → Direction → Outcome (Signed Quotient)
+signed m s b d = accepted (record { minus = m; value = record { significand = s; binade = b }; direction = d })
 
-abbrev is : ℕ → ℤ → Direction → Outcome SignedQuotient
+abbrev is : ℕ → ℤ → Direction → Outcome (Signed Quotient)
 is s b d = signed false s b d
 
 -- C = 3/2, n = 4: 2/3, of which 11/16 is above, 1 and 5/4
@@ -64,7 +65,7 @@ refusals :
 unfolding signed_at divided answer judged direction_of side_of Ieee.to_bits size
 refusals = (refl, refl, refl)
 
--- C = 1 + 2 ^ -13 - 2 ^ -24 and x = 2 - 2 ^ -12 at 24 bits (source document 003, Example 2): more than 191/128 ulp
+-- C = 1 + 2 ^ -13 - 2 ^ -24 and x = 2 - 2 ^ -12 at 24 bits: more than 191/128 ulp
 nearly_met : let y = exact_quotient 24 16775168 (over (2 ^ 62 + 2 ^ 49 - 2 ^ 38) 62) in Under (times (over 191 7) (ulp 24 y)) (distance (value_of 24 (quotient_by (factor_at 24 (2 ^ 62 + 2 ^ 49 - 2 ^ 38)) 16775168)) y)
 unfolding signed_at divided ulp size
 nearly_met = lit< tt

@@ -1,8 +1,8 @@
--- The quotient of a significand by the high part (request W1; source document 003, section III), over a context, its direction (request W4), and a sign put on (request W5). Definitions only. Assumes nothing.
+-- The quotient of a significand by the high part, over a context, its direction, and a sign put on. Definitions only. Assumes nothing.
 use Rattle.std.specs.Prelude.{Bool, cond, ℕ, ◌-◌, ltb, ◌+ℤ◌}
 use Rattle.std.proofs.Math.IntN.{pos}
 use Rattle.rounding.specs.declared.Direction.{Direction}
-use Rattle.rounding.specs.Direction.{signed_direction}
+use Rattle.rounding.specs.Direction.{to_signed}
 use Rattle.rounding.specs.Round.{rounded}
 use Rattle.rounding.specs.Fraction.{Fraction, over, power, signed_as, times, ratio, RN, direction_of}
 use Rattle.factor.specs.declared.Parts.{Parts}
@@ -10,8 +10,8 @@ use Rattle.factor.specs.declared.Factor.{Factor}
 use Rattle.factor.specs.Context.{Context, context_of}
 use Rattle.product.specs.Product.{argument, high}
 use Rattle.quotient.specs.declared.Quotient.{Quotient}
-use Rattle.quotient.specs.declared.DirectedQuotient.{DirectedQuotient}
-use Rattle.quotient.specs.declared.SignedQuotient.{SignedQuotient}
+use Rattle.rounding.specs.declared.Directed.{Directed}
+use Rattle.rounding.specs.declared.Signed.{Signed}
 
 -- x / Ch
 abbrev pub by_high : (n : ℕ) → Parts → ℕ → Fraction
@@ -38,22 +38,22 @@ quotient_by f X = quotient (context_of f) f.parts X
 
 -- the direction of its rounding, from x / Ch
 abbrev pub direction_by : Factor → ℕ → Direction
-direction_by f X = direction_of (context_of f).rule f.precision.bits (by_high f.precision.bits f.parts X)
+direction_by f X = direction_of (context_of f).rule f.precision (by_high f.precision f.parts X)
 
 -- the quotient with it
-abbrev pub directed_by : Factor → ℕ → DirectedQuotient
-directed_by f X = record { quotient = quotient_by f X; direction = direction_by f X }
+abbrev pub directed_by : Factor → ℕ → Directed Quotient
+directed_by f X = record { value = quotient_by f X; direction = direction_by f X }
 
 -- with a sign put on: a negative quotient's direction is mirrored
-abbrev pub signed_quotient : Bool → DirectedQuotient → SignedQuotient
-signed_quotient s v = record { minus = s; quotient = v.quotient; direction = signed_direction s v.direction }
+abbrev pub signed_quotient : Bool → Directed Quotient → Signed Quotient
+signed_quotient s v = to_signed s v
 
 -- a quotient as a number, and with its sign
 abbrev pub value_of : (n : ℕ) → Quotient → Fraction
 value_of n v = times (power v.binade) (over v.significand (n - 1))
 
-abbrev pub signed_value : (n : ℕ) → SignedQuotient → Fraction
-signed_value n v = signed_as v.minus (value_of n v.quotient)
+abbrev pub signed_value : (n : ℕ) → Signed Quotient → Fraction
+signed_value n v = signed_as v.minus (value_of n v.value)
 
 -- how many binades below 1 it lies: one where X is below the high significand H
 abbrev pub binades_below : (X H : ℕ) → ℕ

@@ -17,7 +17,7 @@ use Rattle.rounding.specs.Round.{normalised, stepped, rounded_in, rounded, HasBi
 use Rattle.rounding.proofs.RoundLaws.{rounded_at, minus_shift}
 use Rattle.rounding.proofs.Standard.{HalfWay}
 use Rattle.rounding.specs.Fraction.{Same, direction_of}
-use Rattle.rounding.proofs.Directed.{rounded_direction}
+use Rattle.rounding.proofs.DirectedLaws.{rounded_direction}
 use Rattle.factor.specs.declared.Parts.{Parts}
 use Rattle.factor.specs.Context.{Context}
 use Rattle.product.proofs.SoundLaws.{HighBits}
@@ -109,7 +109,7 @@ module _ (K : Context) (P : 0 < K.n) (p : Parts) (X : ℕ) (h : HighBits K.n p.h
 
     -- the direction is that of the one division
     pub quotient_direction : direction_of rule n (by_high n p X) ≡ side_at N H (nearest rule N H)
-    quotient_direction = sym (rounded_direction rule n P (X * 2 ^ (n - 1)) (2 ^ (n - 1) * H) (mul-pos (pow_pos (n - 1)) some)) ∙ ap (λ (r : Rounded). r.direction) rounded_exact
+    quotient_direction = sym (rounded_direction rule n P (X * 2 ^ (n - 1)) (2 ^ (n - 1) * H) (mul-pos (pow_pos (n - 1)) some)) ∙ ap (λ (r : Rounded ℕ). r.direction) rounded_exact
 
   -- x / Ch is never half way between two numbers of n bits
   pub never_tied : (t j k : ℕ) → HalfWay n (by_high n p X).num (by_high n p X).den t j k → ⊥
@@ -135,13 +135,13 @@ module _ (K : Context) (P : 0 < K.n) (p : Parts) (X : ℕ) (h : HighBits K.n p.h
   quotient_is =
       let e : t ≡ b + (n - 1) = omega arith in
       let f : minus 0 t +ℤ pos (n - 1) ≡ minus 0 b = ap (λ (z : ℕ). minus 0 z +ℤ pos (n - 1)) e ∙ minus_shift 0 b (n - 1) in
-      ap (λ (y : Rounded). record { significand = y.significand; binade = y.exponent +ℤ pos (n - 1) }) (rounded_exact rule) ∙ ap (λ (z : ℤ). record { significand = nearest rule N H; binade = z }) f
+      ap (λ (y : Rounded ℕ). record { significand = y.significand; binade = y.exponent +ℤ pos (n - 1) }) (rounded_exact rule) ∙ ap (λ (z : ℤ). record { significand = nearest rule N H; binade = z }) f
 
   -- by whatever rule
   pub quotient_any_rule : (other : Rule) → quotient (record { rule = other; n = n; E = K.E }) p X ≡ quotient K p X
   unfolding quotient
   quotient_any_rule other =
-      ap (λ (y : Rounded). record { significand = y.significand; binade = y.exponent +ℤ pos (n - 1) })
+      ap (λ (y : Rounded ℕ). record { significand = y.significand; binade = y.exponent +ℤ pos (n - 1) })
       (rounded_exact other ∙ ap (λ (z : ℕ). record { significand = z; exponent = minus 0 t; direction = side_at N H z }) (same_taken other rule) ∙ sym (rounded_exact rule))
 
   pub quotient_bits : HasBits n (quotient K p X).significand
@@ -156,7 +156,7 @@ module _ (K : Context) (P : 0 < K.n) (p : Parts) (X : ℕ) (h : HighBits K.n p.h
             let w : 2 ^ t ≡ 2 ^ (n - 1) * 2 ^ b = pow-add 2 (n - 1) b in
             let u = up (minus 0 t) in
             let v = up (minus 0 b) in
-            subst (λ (r : Rounded). r.significand * up r.exponent * (down (minus 0 b) * 2 ^ (n - 1)) ≡ v * S * down r.exponent) (sym (rounded_exact rule))
+            subst (λ (r : Rounded ℕ). r.significand * up r.exponent * (down (minus 0 b) * 2 ^ (n - 1)) ≡ v * S * down r.exponent) (sym (rounded_exact rule))
             (omega (arith, ap (λ (z : ℕ). z * (S * v)) (minus_val 1 0 t), ap (λ (z : ℕ). z * (S * u * 2 ^ (n - 1))) (minus_val 1 0 b), ap (λ (z : ℕ). S * u * v * z) w)),
       )
 

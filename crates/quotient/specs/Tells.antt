@@ -1,5 +1,5 @@
--- What an answer to a division tells, for every factor and every number as X (`quotient_tells`): its sign and form, that it is RN(x / Ch) by every tie rule, what its direction says (request W4), and that it is less than 3/2 units in the last place from x / C for
--- every fraction C between the ends: request W1's bound, of which source document 003 (Property 3.1) has a slightly sharper one; all with the factor's sign on (request W5). Assumes nothing.
+-- What an answer to a division tells, for every factor and every number as X (`quotient_tells`): its sign and form, that it is RN(x / Ch) by every tie rule, what its direction says, and that it is less than 3/2 units in the last place from x / C for
+-- every fraction C between the ends; all with the factor's sign on. Assumes nothing.
 use Rattle.std.specs.Prelude.{◌≡◌, refl, Bool, false, ℕ, ◌-◌, ◌≤◌, ◌<◌, pos, negsuc, nat_abs}
 use Rattle.std.proofs.Common.{sym, ap, ◌∙◌, subst, mul-pos, le_trans, arith, pow_pos}
 use Rattle.std.proofs.Math.Decide.{dec_lt}
@@ -12,7 +12,7 @@ use Rattle.rounding.specs.Round.{HasBits}
 use Rattle.rounding.proofs.Standard.{HalfWay}
 use Rattle.rounding.specs.Fraction.{Fraction, over, signed_as, times, ratio, RN, Same, Positive, Directs}
 use Rattle.rounding.proofs.FractionLaws.{RN_some, unlike_plus, unlike_comm, ratio_positive, distance_same}
-use Rattle.rounding.proofs.Directed.{directs_to, directs_signed}
+use Rattle.rounding.proofs.DirectedLaws.{directs_to, directs_signed}
 use Rattle.rounding.specs.Ulp.{ulp, WithinThreeHalves}
 use Rattle.rounding.proofs.UlpLaws.{within_signed}
 use Rattle.rounding.proofs.OneRounding.{ratio_error}
@@ -25,7 +25,7 @@ use Rattle.product.specs.Answer.{conditions}
 use Rattle.product.proofs.AnswerLaws.{let_through}
 use Rattle.product.proofs.SoundLaws.{sound_fine, sound_high, sound_high_positive, sound_positive, sound_close_high}
 use Rattle.quotient.specs.declared.Quotient.{Quotient}
-use Rattle.quotient.specs.declared.SignedQuotient.{SignedQuotient}
+use Rattle.rounding.specs.declared.Signed.{Signed}
 use Rattle.quotient.specs.Quotient.{by_high, once, quotient_by, direction_by, directed_by, signed_quotient, value_of, signed_value}
 use Rattle.quotient.specs.Answer.{divided}
 use Rattle.quotient.specs.QuotientLaws.{never_tied, quotient_any_rule, quotient_bits, quotient_value, quotient_below_one, quotient_from_one}
@@ -35,21 +35,21 @@ use Rattle.quotient.specs.QuotientLaws.{never_tied, quotient_any_rule, quotient_
 abbrev pub exact_quotient : (n X : ℕ) → Fraction → Fraction
 exact_quotient n X C = ratio (argument n X) C
 
-pub record Tells (f : Factor) (X : ℕ) (v : SignedQuotient) : Type 0 where
+pub record Tells (f : Factor) (X : ℕ) (v : Signed Quotient) : Type 0 where
   -- a significand of n bits, in binade -1 below 1, where X is below the high significand, and in binade 0 from there on
-  pub bits : HasBits f.precision.bits v.quotient.significand
-  pub below_one : X < f.parts.high → v.quotient.binade ≡ negsuc 0
-  pub from_one : f.parts.high ≤ X → v.quotient.binade ≡ pos 0
+  pub bits : HasBits f.precision v.value.significand
+  pub below_one : X < f.parts.high → v.value.binade ≡ negsuc 0
+  pub from_one : f.parts.high ≤ X → v.value.binade ≡ pos 0
   -- with its sign it is RN(x / Ch), by whatever tie rule, since x / Ch is never half way between two numbers of n bits
-  pub value : (rule : Rule) → Same (RN rule f.precision.bits (signed_as v.minus (by_high f.precision.bits f.parts X))) (signed_value f.precision.bits v)
-  pub untied : let y = by_high f.precision.bits f.parts X in (t j k : ℕ) → HalfWay f.precision.bits y.num y.den t j k → ⊥
+  pub value : (rule : Rule) → Same (RN rule f.precision (signed_as v.minus (by_high f.precision f.parts X))) (signed_value f.precision v)
+  pub untied : let y = by_high f.precision f.parts X in (t j k : ℕ) → HalfWay f.precision y.num y.den t j k → ⊥
   -- its direction tells how it lies as seen from x / Ch, both with its sign
-  pub directs : Directs v.direction (signed_as v.minus (by_high f.precision.bits f.parts X)) (signed_value f.precision.bits v)
+  pub directs : Directs v.direction (signed_as v.minus (by_high f.precision f.parts X)) (signed_value f.precision v)
   -- it is less than 3/2 ulp(x / C) from x / C, for every C between the ends and with its sign, in whole numbers, cross-multiplied
-  pub near : (C : Fraction) → Between (context_of f) (lower_of f) (upper_of f) C → WithinThreeHalves f.precision.bits (signed_value f.precision.bits v) (exact_quotient f.precision.bits X (signed_as v.minus C))
+  pub near : (C : Fraction) → Between (context_of f) (lower_of f) (upper_of f) C → WithinThreeHalves f.precision (signed_value f.precision v) (exact_quotient f.precision X (signed_as v.minus C))
 
 -- of every answer: that, its sign being the factor's; a refusal tells nothing
-abbrev pub AnswerTells : Factor → ℕ → Outcome SignedQuotient → Type 0
+abbrev pub AnswerTells : Factor → ℕ → Outcome (Signed Quotient) → Type 0
 AnswerTells f X (refused k) = Unit {0}
 AnswerTells f X (accepted v) = (v.minus ≡ f.minus) × Tells f X v
 
@@ -59,7 +59,7 @@ module _ (f : Factor) (s : Sound f) where
   K = context_of f
 
   abbrev n : ℕ
-  n = f.precision.bits
+  n = f.precision
 
   abbrev L : ℕ
   L = lower_of f

@@ -1,8 +1,8 @@
 -- Readings that are let through to their product or quotient, and what they are answered with. Assumes nothing.
-use Rattle.std.specs.Prelude.{◌≡◌, refl, Bool, true, false, not, ◌&&◌, cond, [], ◌∷◌, ℕ, Float}
+use Rattle.std.specs.Prelude.{◌≡◌, refl, Bool, true, false, not, ◌&&◌, cond, [], ◌∷◌, ℕ}
 use Rattle.std.proofs.Common.{sym, ap, ◌∙◌, subst, eqb-true}
 use Rattle.std.specs.Float.{binary32}
-use Rattle.std.specs.Float.Ieee.{prec, to_bits}
+use Rattle.std.specs.Float.Ieee.{prec}
 use Rattle.std.proofs.lemmas.Bool.{not-false}
 use Rattle.marks.specs.Answers.{NoneHolds, Outcome, refused, accepted, answer}
 use Rattle.marks.specs.AnswerLaws.{pass, end, accepts, rest_answers, only_accepted, refused_first, none_apart, of_answer}
@@ -13,8 +13,8 @@ use Rattle.floats.proofs.Classes.{normal_others}
 use Rattle.factor.specs.declared.Factor.{Factor}
 use Rattle.factor.specs.SetUp.{intact, Sound}
 use Rattle.factor.proofs.SetUpLaws.{intact_sound}
-use Rattle.reading.specs.declared.Taken.{Taken}
-use Rattle.reading.specs.Reading.{unreadable, Kind, zero, normal, kind_of, exponent_out, Made, conditions, answer_to, taken_of}
+use Rattle.reading.specs.declared.Kind.{Kind}
+use Rattle.reading.specs.Reading.{unreadable, kind_of, exponent_out, Made, conditions, answer_to}
 
 -- ---- readings that are let through
 module _ (f : Factor) (b : ℕ) (h : NoneHolds (unreadable f b)) where
@@ -22,8 +22,8 @@ module _ (f : Factor) (b : ℕ) (h : NoneHolds (unreadable f b)) where
   pub is_intact : intact f ≡ true
   is_intact = not-false _ h.0
 
-  pub precision_is : f.precision.bits ≡ prec binary32
-  precision_is = eqb-true f.precision.bits (prec binary32) (not-false _ h.1.0)
+  pub precision_is : f.precision ≡ prec binary32
+  precision_is = eqb-true f.precision (prec binary32) (not-false _ h.1.0)
 
   -- a zero is answered with what is made of a zero
   pub zeros_answered : {A : Type 0} (m : Made A) → zero_bits binary32 b ≡ true → accepted m.of_zero ≡ answer_to f b m
@@ -48,58 +48,50 @@ of_reading P f b m none of_zero others =
     go true z h o = rw z (of_zero h z)
     go false z h o = let in_range_lem : exponent_out binary32 m.exponent ≡ false = rw z at o in rw z (others h z in_range_lem)
 
--- what its work asks for
+-- what the work on a reading asks for
 pub record Ready (f : Factor) (b : ℕ) : Type 0 where
   pub sound : Sound f
-  pub precision : f.precision.bits ≡ prec binary32
-  pub bits : HasBits f.precision.bits (significand_of binary32 b)
+  pub precision : f.precision ≡ prec binary32
+  pub bits : HasBits f.precision (significand_of binary32 b)
+
+pub ready : (f : Factor) (b : ℕ) → NoneHolds (unreadable f b) → Ready f b
+ready f b h =
+    let n = precision_is f b h in
+    record { sound = intact_sound f (is_intact f b h); precision = n; bits = subst (λ (n : ℕ). HasBits n (significand_of binary32 b)) (sym n) (significand_bits binary32 b) }
 
 -- ---- a reading as it was taken
--- a kind tells whether its reading is a zero, and its bits
+-- a kind tells whether its reading is a zero
 abbrev KindTells : ℕ → Kind → Type 0
-KindTells b (zero c) = (zero_bits binary32 b ≡ true) × (b ≡ c)
-KindTells b (normal c) = (zero_bits binary32 b ≡ false) × (b ≡ c)
+KindTells b Kind.Zero = zero_bits binary32 b ≡ true
+KindTells b Kind.Normal = zero_bits binary32 b ≡ false
 
 kind_tells : (b : ℕ) → KindTells b (kind_of b)
 kind_tells b = go (zero_bits binary32 b) refl
   where
-    go : (z : Bool) → zero_bits binary32 b ≡ z → KindTells b (cond z (zero b) (normal b))
-    go true e = (e, refl)
-    go false e = (e, refl)
+    go : (z : Bool) → zero_bits binary32 b ≡ z → KindTells b (cond z Kind.Zero Kind.Normal)
+    go true e = e
+    go false e = e
 
-module _ (f : Factor) (x : Float) (t : Taken) (is : taken_of t ≡ answer (unreadable f (to_bits binary32 x)) (kind_of (to_bits binary32 x))) where
-  abbrev c : ℕ
-  c = to_bits binary32 x
+-- f and the bits c, as they are judged
+abbrev taken : Factor → ℕ → Outcome (Factor × ℕ)
+taken f c = answer (unreadable f c) (f, c)
 
-  -- a normal reading is let through
-  taken_normal : {b : ℕ} → t ≡ Taken.Normal b → NoneHolds (unreadable f b) × (zero_bits binary32 b ≡ false) × (b ≡ c)
-  taken_normal {b} e =
-      let r = only_accepted (unreadable f c) (kind_of c) (normal b) (sym is ∙ ap taken_of e) in
-      let k = subst (KindTells c) r.1 (kind_tells c) in
-      (subst (λ (b : ℕ). NoneHolds (unreadable f b)) k.1 r.0, subst (λ (b : ℕ). zero_bits binary32 b ≡ false) k.1 k.0, sym k.1)
+-- a refusal before any work is the answer's
+pub refused_answered : {A : Type 0} {k : ℕ} (f : Factor) (c : ℕ) (m : Made A) → refused k ≡ taken f c → refused k ≡ answer_to f c m
+refused_answered {k = k} f c m e = refused_first (unreadable f c) _ _ _ k e
 
-  -- with a sound factor of its precision
-  pub ready : {b : ℕ} → t ≡ Taken.Normal b → Ready f b
-  ready {b} e =
-      let h = (taken_normal e).0 in
-      let n = precision_is f b h in
-      record { sound = intact_sound f (is_intact f b h); precision = n; bits = subst (λ (n : ℕ). HasBits n (significand_of binary32 b)) (sym n) (significand_bits binary32 b) }
+-- f and c, let through as g and b, g being f and b being c; and what is made of a reading by its factor and its bits
+module _ {A : Type 0} (f : Factor) (c : ℕ) (g : Factor) (b : ℕ) (is : ◌≡◌ {A = Outcome (Factor × ℕ)} (accepted (g, b)) (taken f c)) (h : NoneHolds (unreadable g b)) (made : Factor → ℕ → Made A) where
+  same : ◌≡◌ {A = Factor × ℕ} (g, b) (f, c)
+  same = sym (only_accepted (unreadable f c) (f, c) (g, b) (sym is)).1
 
-  -- ---- what it is answered with, g being what is made of a reading by its bits
-  module _ {A : Type 0} (g : ℕ → Made A) where
-    -- a normal reading with what is made of it, unless 23 refuses that
-    pub normal_answered : {b : ℕ} → t ≡ Taken.Normal b → answer ((23, exponent_out binary32 (g b).exponent) ∷ []) (g b).value ≡ answer_to f c (g c)
-    normal_answered {b} e =
-        let k = taken_normal e in
-        others_answered f b k.0 (g b) k.1 ∙ ap (λ (b : ℕ). answer_to f b (g b)) k.2
+  of_same : answer_to g b (made g b) ≡ answer_to f c (made f c)
+  of_same = ap (λ (p : Factor × ℕ). answer_to p.0 p.1 (made p.0 p.1)) same
 
-    -- a zero with what is made of it
-    pub zero_answered : {b : ℕ} → t ≡ Taken.Zero b → accepted (g b).of_zero ≡ answer_to f c (g c)
-    zero_answered {b} e =
-        let r = only_accepted (unreadable f c) (kind_of c) (zero b) (sym is ∙ ap taken_of e) in
-        let k = subst (KindTells c) r.1 (kind_tells c) in
-        ap (λ (b : ℕ). accepted (g b).of_zero) (sym k.1) ∙ zeros_answered f c r.0 (g c) k.0
+  -- a normal reading is answered with what is made of it, unless 23 refuses that
+  pub normal_answered : kind_of b ≡ Kind.Normal → answer ((23, exponent_out binary32 (made g b).exponent) ∷ []) (made g b).value ≡ answer_to f c (made f c)
+  normal_answered e = others_answered g b h (made g b) (subst (KindTells b) e (kind_tells b)) ∙ of_same
 
-    -- and a refusal before any work is the answer's
-    pub refused_answered : {k : ℕ} → t ≡ Taken.Refused k → refused k ≡ answer_to f c (g c)
-    refused_answered {k} e = refused_first (unreadable f c) _ _ _ k (sym (ap taken_of e) ∙ is)
+  -- a zero with what is made of it
+  pub zero_answered : kind_of b ≡ Kind.Zero → accepted (made g b).of_zero ≡ answer_to f c (made f c)
+  zero_answered e = zeros_answered g b h (made g b) (subst (KindTells b) e (kind_tells b)) ∙ of_same

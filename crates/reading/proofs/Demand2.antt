@@ -1,6 +1,6 @@
--- Demand 2 of readings (`reading_answered`, `reading_tells`), for every device, factor and reading: the answer is the device's product with sign and exponent put on, exactly, and its
--- mark tells of every fraction C between the ends whether C * 2 ^ k, with the factor's sign (request W5), times the reading rounds to it; its sign is that of the standard's product, which of a zero is the whole answer (`zero_multiplied`, request W3); its direction
--- tells how it lies as seen from what the device rounded last, sign and scale on (request W4). Assumes nothing.
+-- What the mark of a reading's answer tells (`reading_answered`, `reading_tells`), for every device, factor and reading: the answer is the device's product with sign and exponent put on, exactly, and its
+-- mark tells of every fraction C between the ends whether C * 2 ^ k, with the factor's sign, times the reading rounds to it; its sign is that of the standard's product, which of a zero is the whole answer (`zero_multiplied`); its direction
+-- tells how it lies as seen from what the device rounded last, sign and scale on. Assumes nothing.
 use Rattle.std.specs.Prelude.{◌≡◌, refl, Bool, true, false, cond, ◌⊎◌, ℕ, ◌+◌, ◌-◌, ◌*◌, ◌^◌, ◌<◌, T, ℤ, pos, ◌+ℤ◌, Float}
 use Rattle.std.proofs.Common.{sym, ap, subst, inl, inr, mul-pos, le_trans, arith, pow_pos}
 use Rattle.std.proofs.Math.Nat.{eq_of_mul-eq-mul_right}
@@ -10,17 +10,19 @@ use Rattle.std.specs.Float.Ieee.{prec, emax, hid, to_bits, up, down, unlike, fit
 use Rattle.std.specs.Float.Ieee.Exact.{HasValue}
 use Rattle.std.specs.Float.Ieee.Fits.{up_pos, down_pos, two, two-le_pos}
 use Rattle.marks.specs.declared.Mark.{Mark}
-use Rattle.marks.specs.Answers.{NoneHolds, Outcome, refused, accepted, Marked}
+use Rattle.marks.specs.declared.Marked.{Marked}
+use Rattle.marks.specs.Answers.{NoneHolds, Outcome, refused, accepted}
 use Rattle.marks.specs.AnswerLaws.{none_refuses}
 use Rattle.marks.specs.Says.{Says}
 use Rattle.marks.specs.SaysLaws.{says_alike}
+use Rattle.rounding.specs.declared.Directed.{Directed}
 use Rattle.rounding.specs.declared.Direction.TheVariants.{Equal}
 use Rattle.rounding.specs.Direction.{signed_direction}
 use Rattle.rounding.specs.Grid.{to_even}
 use Rattle.rounding.specs.Round.{HasBits}
 use Rattle.rounding.specs.Fraction.{Fraction, times, RN, Same, scaled_as, Directs}
 use Rattle.rounding.proofs.FractionLaws.{RN_some, Scaled, RN_scaled, same_scaled, unlike_comm}
-use Rattle.rounding.proofs.Directed.{directs_scaled}
+use Rattle.rounding.proofs.DirectedLaws.{directs_scaled}
 use Rattle.rounding.proofs.Ieee.{revalue, one_value}
 use Rattle.floats.specs.Fields.{zero_of, sign_of, zero_bits, Normal, significand_of, exponent_of}
 use Rattle.floats.proofs.Powers.{powers_add}
@@ -44,7 +46,7 @@ use Rattle.product.proofs.DeviceLaws.{formed}
 use Rattle.product.proofs.OneStepTells.{sound_value}
 use Rattle.product.proofs.Demand2.{mark_tells, mark_alone}
 use Rattle.product.proofs.DirectionTells.{last_plus, sound_directs}
-use Rattle.reading.specs.Reading.{unreadable, sign_with, exponent_out, number_of, conditions, DirectedNumber, product_exponent, put_on, product_of, product_at, directed_at, applied}
+use Rattle.reading.specs.Reading.{unreadable, sign_with, exponent_out, number_of, conditions, product_exponent, put_on, product_of, product_at, directed_at, applied}
 use Rattle.reading.proofs.Exponents.{let_through, out_none}
 use Rattle.reading.proofs.ReadingLaws.{number_value, number_normal}
 use Rattle.reading.proofs.AnswerLaws.{is_intact, precision_is, of_reading}
@@ -71,7 +73,7 @@ abbrev pub SaysOf : Factor → ℕ → Float → Mark → Type 0
 SaysOf f b y m = Says (Between (context_of f) (lower_of f) (upper_of f)) (GivesNumber f b y) m
 
 -- the number with its mark and its direction, or a zero, right
-abbrev pub numbered : Device → Factor → ℕ → Marked DirectedNumber
+abbrev pub numbered : Device → Factor → ℕ → Marked (Directed Float)
 numbered d f b = let m = product_of f b (directed_at d f b) in cond (zero_bits binary32 b) m.of_zero m.value
 
 -- sign * value * 2 ^ (e + k)
@@ -89,24 +91,24 @@ Own Device.TwoStep f b y =
 Own Device.OneStep f b y = OneOperation multiplying f b (value_of (prec binary32) (product_at Device.OneStep f b)) (answer_at Device.OneStep f b) y
 
 -- what the answer a to a reading with the bits b tells, unless it is a zero
-pub record Tells (d : Device) (f : Factor) (b : ℕ) (a : Marked DirectedNumber) : Type 0 where
+pub record Tells (d : Device) (f : Factor) (b : ℕ) (a : Marked (Directed Float)) : Type 0 where
   -- the reading is a normal number
   pub reading : (x : Float) → T (fits binary32 x) → to_bits binary32 x ≡ b → Is x (reading_at b)
   -- the answer is sign * value * 2 ^ (e + k), exactly, and a normal number
-  pub value : Is a.value.number (answer_at d f b)
-  pub normal : Normal binary32 (to_bits binary32 a.value.number)
+  pub value : Is a.value.value (answer_at d f b)
+  pub normal : Normal binary32 (to_bits binary32 a.value.value)
   -- its mark says what is true of every fraction between the ends, sign and scale on, and no other mark does
-  pub says : SaysOf f b a.value.number a.mark
-  pub alone : (m : Mark) → SaysOf f b a.value.number m → a.mark ≡ m
+  pub says : SaysOf f b a.value.value a.mark
+  pub alone : (m : Mark) → SaysOf f b a.value.value m → a.mark ≡ m
   -- and it has what is its device's own
-  pub own : Own d f b a.value.number
+  pub own : Own d f b a.value.value
   -- its direction tells how it lies as seen from what was rounded last
   pub directs : Directs a.value.direction (last_at d f b) (answer_at d f b)
 
 -- of every answer: its sign is that of the standard's product, of a zero too, which is marked right and equal; a refusal tells nothing
-abbrev pub AnswerTells : Device → Factor → ℕ → Outcome (Marked DirectedNumber) → Type 0
+abbrev pub AnswerTells : Device → Factor → ℕ → Outcome (Marked (Directed Float)) → Type 0
 AnswerTells d f b (refused k) = Unit {0}
-AnswerTells d f b (accepted a) = StandardSign multiplying f b a.value.number × (((zero_bits binary32 b ≡ true) × (a.mark ≡ Mark.Right) × (a.value.number ≡ zero_of (sign_with f b)) × (a.value.direction ≡ Equal)) ⊎ ((zero_bits binary32 b ≡ false) × Tells d f b a))
+AnswerTells d f b (accepted a) = StandardSign multiplying f b a.value.value × (((zero_bits binary32 b ≡ true) × (a.mark ≡ Mark.Right) × (a.value.value ≡ zero_of (sign_with f b)) × (a.value.direction ≡ Equal)) ⊎ ((zero_bits binary32 b ≡ false) × Tells d f b a))
 
 -- ---- sign and scale change nothing of what a mark says
 module _ (f : Factor) (b : ℕ) (v : Product) (y : Float) (is : HasValue y (sign_with f b) (v.significand * 2 ^ v.binade * up (scaled f b)) (hid binary32 * down (scaled f b))) (C : Fraction) (positive : 0 < C.num) (some : 0 < C.den) (sign : C.minus ≡ false) where
@@ -157,7 +159,7 @@ binade_apart S B H e k =
 
 -- ---- what is a device's own
 -- the one-step product is RN(Ch * x), ties to even
-one_step_rounds : (f : Factor) → Sound f → (X : ℕ) → HasBits f.precision.bits X → Same (RN to_even f.precision.bits (by_high f.precision.bits f.parts X)) (value_of f.precision.bits (one_step_by f X))
+one_step_rounds : (f : Factor) → Sound f → (X : ℕ) → HasBits f.precision X → Same (RN to_even f.precision (by_high f.precision f.parts X)) (value_of f.precision (one_step_by f X))
 unfolding tie_rule
 one_step_rounds = sound_value
 
@@ -189,10 +191,10 @@ module _ (d : Device) (f : Factor) (b : ℕ) (h : NoneHolds (unreadable f b)) (n
   sound : Sound f
   sound = intact_sound f (is_intact f b h)
 
-  n : f.precision.bits ≡ prec binary32
+  n : f.precision ≡ prec binary32
   n = precision_is f b h
 
-  x_bits : HasBits f.precision.bits X
+  x_bits : HasBits f.precision X
   x_bits = subst (λ (k : ℕ). HasBits k X) (sym n) (significand_bits binary32 b)
 
   v_bits : HasBits (prec binary32) v.significand
@@ -250,6 +252,6 @@ unfolding applied
 reading_answered d f x h = let b = to_bits binary32 x in none_refuses (conditions f b (product_exponent f b (product_at d f b))) (numbered d f b) h
 
 -- a zero of either sign is answered, right and equal, with the standard's product of it and the stored high part with the factor's sign, which as every f32 fits the format
-pub zero_multiplied : (d : Device) (f : Factor) → intact f ≡ true → f.precision.bits ≡ prec binary32 → T (fits binary32 f.applied.high) → (s : Bool) → applied d f (zero_of s) ≡ accepted (record { mark = Mark.Right; value = record { number = mul binary32 (zero_of s) (signed_high f); direction = Equal } })
+pub zero_multiplied : (d : Device) (f : Factor) → intact f ≡ true → f.precision ≡ prec binary32 → T (fits binary32 f.applied.high) → (s : Bool) → applied d f (zero_of s) ≡ accepted (record { mark = Mark.Right; value = record { value = mul binary32 (zero_of s) (signed_high f); direction = Equal } })
 unfolding applied
-zero_multiplied d f i n h s = let b = to_bits binary32 (zero_of s) in zero_is_operation multiplying multiplies f i n h s (product_of f b (directed_at d f b)) (λ y. record { mark = Mark.Right; value = record { number = y; direction = Equal } }) refl
+zero_multiplied d f i n h s = let b = to_bits binary32 (zero_of s) in zero_is_operation multiplying multiplies f i n h s (product_of f b (directed_at d f b)) (λ y. record { mark = Mark.Right; value = record { value = y; direction = Equal } }) refl

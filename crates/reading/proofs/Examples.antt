@@ -1,9 +1,11 @@
--- Figures: document 01's two readings at scale 100, one reading of every kind, one that is rounded up to the least normal number, and one on which a fused step in binary64 would fail, on both devices; a girth on which the one-step device fails (request W2); zeros of both signs where the low part is negative (request W3); request W1's girth, quotients of every kind of reading, and both limits of 23 in both binades; each with its direction, and request W4's on readings of both signs; factors below zero (request W5), with readings and zeros of both signs, multiplied and divided. All by computation. Assumes nothing.
+-- Figures: two readings at scale 100, one reading of every kind, one that is rounded up to the least normal number, and one on which a fused step in binary64 would fail, on both devices; a girth on which the one-step device fails; zeros of both signs where the low part is negative; a girth divided, quotients of every kind of reading, and both limits of 23 in both binades; each with its direction, on readings of both signs too; factors below zero, with readings and zeros of both signs, multiplied and divided. All by computation. Assumes nothing.
 use Rattle.std.specs.Prelude.{◌≡◌, refl, true, false, ℕ, ◌+◌, ◌*◌, ◌^◌, ℤ, pos, negsuc, Float}
 use Rattle.std.specs.Float.Ieee
 use Rattle.std.specs.Float.{nan, inf, fin, binary32}
 use Rattle.marks.specs.declared.Mark.{Mark}
-use Rattle.marks.specs.Answers.{judged, Outcome, refused, accepted, answer, Marked}
+use Rattle.marks.specs.declared.Marked.{Marked}
+use Rattle.marks.specs.Answers.{judged, Outcome, refused, accepted, answer}
+use Rattle.rounding.specs.declared.Directed.{Directed}
 use Rattle.rounding.specs.declared.Direction.{Direction}
 use Rattle.rounding.specs.declared.Direction.TheVariants.{Below, Equal, Above}
 use Rattle.rounding.specs.Direction.{side_of}
@@ -16,21 +18,21 @@ use Rattle.factor.specs.SetUp.{applied_of, factor_of}
 use Rattle.factor.proofs.Signs.{factor_as}
 use Rattle.factor.specs.declared.Description.{Description}
 use Rattle.product.specs.declared.Device.{Device}
-use Rattle.reading.specs.Reading.{DirectedNumber, applied}
+use Rattle.reading.specs.Reading.{applied}
 use Rattle.reading.specs.Divided.{divided_reading}
 
 -- both ends at c / 2 ^ 62, and what is right or wrong
 abbrev at : (n : ℕ) → ℤ → (c : ℕ) → Description
 at n k c = record { minus = false; precision = n; scale = k; lower = c; upper = c }
 
-abbrev right : Float → Direction → Outcome (Marked DirectedNumber)
-right y d = accepted (record { mark = Mark.Right; value = record { number = y; direction = d } })
+abbrev right : Float → Direction → Outcome (Marked (Directed Float))
+right y d = accepted (record { mark = Mark.Right; value = record { value = y; direction = d } })
 
-abbrev wrong : Float → Direction → Outcome (Marked DirectedNumber)
-wrong y d = accepted (record { mark = Mark.Wrong; value = record { number = y; direction = d } })
+abbrev wrong : Float → Direction → Outcome (Marked (Directed Float))
+wrong y d = accepted (record { mark = Mark.Wrong; value = record { value = y; direction = d } })
 
-abbrev quotient : Float → Direction → Outcome DirectedNumber
-quotient y d = accepted (record { number = y; direction = d })
+abbrev quotient : Float → Direction → Outcome (Directed Float)
+quotient y d = accepted (record { value = y; direction = d })
 
 -- C = 3/2, n = 24, at a scale
 three_halves : ℤ → Factor
@@ -44,7 +46,7 @@ by_pi = factor_of (record { minus = false; precision = 24; scale = negsuc 1; low
 
 -- ---- multiplied
 -- what a reading is answered with there, on a device: C = 3/2 has no low part, so that both answer alike
-abbrev Gives : Device → ℤ → Float → Outcome (Marked DirectedNumber) → Type 0
+abbrev Gives : Device → ℤ → Float → Outcome (Marked (Directed Float)) → Type 0
 Gives d k x o = applied d (three_halves k) x ≡ o
 
 -- 2 ^ 27 at scale 100 is accepted, 2 ^ 28 refused with 23

@@ -32,7 +32,7 @@ pub near_32 : K32.E < emax binary32
 unfolding scale_of
 near_32 = lit< tt
 
-module _ (f : Factor) (s : Sound f) (n : f.precision.bits ≡ prec binary32) where
+module _ (f : Factor) (s : Sound f) (n : f.precision ≡ prec binary32) where
   abbrev q : ℕ
   q = f.parts.places
 

@@ -1,4 +1,4 @@
--- Laws: answers are symmetric in sign (request W4, zeros by request W3, factors by request W5). A reading with its sign turned is answered, on either device and divided, with the sign turned and the direction mirrored (`reading_mirrored`, `divided_reading_mirrored`);
+-- Laws: answers are symmetric in sign, of zeros and of factors too. A reading with its sign turned is answered, on either device and divided, with the sign turned and the direction mirrored (`reading_mirrored`, `divided_reading_mirrored`);
 -- and so is whatever is asked of a negative factor answered as its size would be (`negative_mirrored`: one law for products on both devices and quotients, of significands and of readings). Marks and refusals stay. Assumes nothing.
 use Rattle.std.specs.Prelude.{◌≡◌, refl, Bool, cond, List, [], ◌∷◌, ℕ, ◌*◌, T, ℤ, pos, ◌+ℤ◌, ◌-ℤ◌, Float}
 use Rattle.std.proofs.Common.{sym, ◌∙◌, true≢false}
@@ -7,11 +7,12 @@ use Rattle.std.proofs.Math.Bool.{true, false, not}
 use Rattle.std.specs.Float.{nan, inf, fin}
 use Rattle.std.specs.Float.Ieee.{is_nan, binary32, hid, unlike, up, down, neg, fits, to_bits}
 use Rattle.marks.specs.declared.Mark.{Mark}
-use Rattle.marks.specs.Answers.{NoneHolds, Outcome, answer, each, Marked}
+use Rattle.marks.specs.declared.Marked.{Marked}
+use Rattle.marks.specs.Answers.{NoneHolds, Outcome, answer, each}
 use Rattle.marks.specs.AnswerLaws.{answer_each}
 use Rattle.rounding.specs.declared.Direction.{Direction}
 use Rattle.rounding.specs.Direction.{mirrored}
-use Rattle.rounding.proofs.Directed.{turned_again}
+use Rattle.rounding.proofs.DirectedLaws.{turned_again}
 use Rattle.rounding.proofs.FractionLaws.{unlike_comm}
 use Rattle.floats.specs.Fields.{sign_of, zero_bits, significand_of, exponent_of}
 use Rattle.floats.proofs.Signs.{Turned, round_turned, turned_bits}
@@ -20,29 +21,30 @@ use Rattle.factor.specs.declared.Factor.{Factor}
 use Rattle.factor.specs.Precision.{significand_out}
 use Rattle.factor.proofs.Signs.{factor_as, intact_signed}
 use Rattle.product.specs.declared.Device.{Device}
-use Rattle.product.specs.declared.DirectedProduct.{DirectedProduct}
-use Rattle.product.specs.declared.SignedProduct.{SignedProduct}
+use Rattle.rounding.specs.declared.Directed.{Directed}
+use Rattle.product.specs.declared.Product.{Product}
+use Rattle.rounding.specs.declared.Signed.{Signed}
 use Rattle.product.specs.Devices.{directed_on, signed_product}
 use Rattle.product.proofs.DeviceLaws.{sized}
 use Rattle.product.specs.Marks.{mark_by}
 use Rattle.product.specs.Answer.{conditions as significand_conditions, multiplied}
-use Rattle.quotient.specs.declared.SignedQuotient.{SignedQuotient}
+use Rattle.quotient.specs.declared.Quotient.{Quotient}
 use Rattle.quotient.specs.Quotient.{directed_by, signed_quotient}
 use Rattle.quotient.specs.Answer.{divided}
-use Rattle.reading.specs.Reading.{unreadable, sign_with, number_of, DirectedNumber, directed_number, directed_zero, Made, conditions, answer_to, product_of, applied}
+use Rattle.reading.specs.Reading.{unreadable, sign_with, number_of, directed_number, directed_zero, Made, conditions, answer_to, product_of, applied}
 use Rattle.reading.specs.Divided.{divided_reading}
 use Rattle.reading.proofs.AnswerLaws.{of_reading}
 
 -- ---- what is said
 -- a number with its sign turned and its direction mirrored; a product and a quotient of a significand alike
-abbrev pub turned : DirectedNumber → DirectedNumber
-turned y = record { number = neg y.number; direction = mirrored y.direction }
+abbrev pub turned : Directed Float → Directed Float
+turned y = record { value = neg y.value; direction = mirrored y.direction }
 
-abbrev pub turned_product : SignedProduct → SignedProduct
-turned_product v = record { minus = not v.minus; product = v.product; direction = mirrored v.direction }
+abbrev pub turned_product : Signed Product → Signed Product
+turned_product v = record { minus = not v.minus; value = v.value; direction = mirrored v.direction }
 
-abbrev pub turned_quotient : SignedQuotient → SignedQuotient
-turned_quotient v = record { minus = not v.minus; quotient = v.quotient; direction = mirrored v.direction }
+abbrev pub turned_quotient : Signed Quotient → Signed Quotient
+turned_quotient v = record { minus = not v.minus; value = v.value; direction = mirrored v.direction }
 
 -- a value with its mark: the mark stays
 abbrev pub under : {A : Type 0} → (A → A) → Marked A → Marked A
@@ -57,10 +59,10 @@ pub data Question : Type 0 where
 
 -- the value of its answer, the answer, and that value turned
 abbrev pub ValueOf : Question → Type 0
-ValueOf (multiply d X) = Marked SignedProduct
-ValueOf (divide X) = SignedQuotient
-ValueOf (read d x) = Marked DirectedNumber
-ValueOf (divide_reading x) = DirectedNumber
+ValueOf (multiply d X) = Marked (Signed Product)
+ValueOf (divide X) = Signed Quotient
+ValueOf (read d x) = Marked (Directed Float)
+ValueOf (divide_reading x) = Directed Float
 
 abbrev pub answer_of : (q : Question) → Factor → Outcome (ValueOf q)
 answer_of (multiply d X) f = multiplied d f X
@@ -87,7 +89,7 @@ unlike_turned false false = refl
 
 number_turned : (s : Bool) (S : ℕ) (e : ℤ) (d : Direction) → directed_number (not s) S e d ≡ turned (directed_number s S e d)
 unfolding number_of
-number_turned s S e d = λ i. record { number = round_turned binary32 s (S * up e) (hid binary32 * down e) i; direction = turned_again s d i }
+number_turned s S e d = λ i. record { value = round_turned binary32 s (S * up e) (hid binary32 * down e) i; direction = turned_again s d i }
 
 zero_turned : (s : Bool) → directed_zero (not s) ≡ turned (directed_zero s)
 unfolding neg
@@ -151,20 +153,20 @@ unfoldable product_made : Device → Factor → Symmetric (under turned)
 product_made d f =
     record {
       zero = λ s. record { mark = Mark.Right; value = directed_zero s };
-      exponent = λ X z. z +ℤ (f.applied.scale +ℤ pos (directed_on d f X).product.binade);
-      value = λ X s z. let v = directed_on d f X in record { mark = mark_by f X v.product; value = directed_number s v.product.significand z v.direction };
+      exponent = λ X z. z +ℤ (f.applied.scale +ℤ pos (directed_on d f X).value.binade);
+      value = λ X s z. let v = directed_on d f X in record { mark = mark_by f X v.value; value = directed_number s v.value.significand z v.direction };
       zero_turns = λ s i. record { mark = Mark.Right; value = zero_turned s i };
-      value_turns = λ X s z i. let v = directed_on d f X in record { mark = mark_by f X v.product; value = number_turned s v.product.significand z v.direction i };
+      value_turns = λ X s z i. let v = directed_on d f X in record { mark = mark_by f X v.value; value = number_turned s v.value.significand z v.direction i };
     }
 
 unfoldable quotient_made : Factor → Symmetric turned
 quotient_made f =
     record {
       zero = directed_zero;
-      exponent = λ X z. z +ℤ ((directed_by f X).quotient.binade -ℤ f.applied.scale);
-      value = λ X s z. let v = directed_by f X in directed_number s v.quotient.significand z v.direction;
+      exponent = λ X z. z +ℤ ((directed_by f X).value.binade -ℤ f.applied.scale);
+      value = λ X s z. let v = directed_by f X in directed_number s v.value.significand z v.direction;
       zero_turns = zero_turned;
-      value_turns = λ X s z. let v = directed_by f X in number_turned s v.quotient.significand z v.direction;
+      value_turns = λ X s z. let v = directed_by f X in number_turned s v.value.significand z v.direction;
     }
 
 -- ---- a reading with its sign turned, multiplied on either device, and divided
@@ -179,20 +181,20 @@ divided_reading_mirrored f = opposite_readings turned (quotient_made f) f
 -- ---- a negative factor's answers are its size's, the sign turned and the direction mirrored; which sign that is, each answer's own theorems tell
 module _ (s : Bool) (f : Factor) where
   -- a factor with a sign: what it answers, by its size and that sign
-  product_signed : (d : Device) (X : ℕ) → let v = directed_on d f X in multiplied d (factor_as s f) X ≡ answer (significand_conditions f X) (record { mark = mark_by f X v.product; value = signed_product s v })
+  product_signed : (d : Device) (X : ℕ) → let v = directed_on d f X in multiplied d (factor_as s f) X ≡ answer (significand_conditions f X) (record { mark = mark_by f X v.value; value = signed_product s v })
   unfolding multiplied
   product_signed d X =
-      ap₂ (λ (i : Bool) (v : DirectedProduct). answer ((31, not i) ∷ (17, significand_out f.precision.bits X) ∷ []) (record { mark = mark_by f X v.product; value = signed_product s v })) (intact_signed s f) (sized s d f X)
+      ap₂ (λ (i : Bool) (v : Directed Product). answer ((31, not i) ∷ (17, significand_out f.precision X) ∷ []) (record { mark = mark_by f X v.value; value = signed_product s v })) (intact_signed s f) (sized s d f X)
 
   -- the same of a reading, both signs making the answer's
   reading_signed : (d : Device) (x : Float) → let b = to_bits binary32 x in applied d (factor_as s f) x ≡ answer_to (factor_as s f) b (made (under turned) (product_made d f) (factor_as s f) b)
   unfolding applied product_made
-  reading_signed d x = let b = to_bits binary32 x in ap (λ (v : DirectedProduct). answer_to (factor_as s f) b (product_of (factor_as s f) b v)) (sized s d f (significand_of binary32 b))
+  reading_signed d x = let b = to_bits binary32 x in ap (λ (v : Directed Product). answer_to (factor_as s f) b (product_of (factor_as s f) b v)) (sized s d f (significand_of binary32 b))
 
 pub negative_mirrored : (q : Question) (f : Factor) → answer_of q (factor_as true f) ≡ each (turned_value q) (answer_of q (factor_as false f))
 negative_mirrored (multiply d X) f =
     let v = directed_on d f X in
-    let value : Bool → Marked SignedProduct = λ s. record { mark = mark_by f X v.product; value = signed_product s v } in
+    let value : Bool → Marked (Signed Product) = λ s. record { mark = mark_by f X v.value; value = signed_product s v } in
     product_signed true f d X ∙ by_value (under turned_product) (significand_conditions f X) (value true) (value false) refl ∙ ap (each (under turned_product)) (sym (product_signed false f d X))
 negative_mirrored (divide X) f =
     let v = directed_by f X in

@@ -52,7 +52,7 @@ pub record Lawful (o : Operation) : Type 0 where
   pub along : (p c : Fraction) (e k : ℤ) → Scaled (o.exponents e k) (o.exactly p c) (o.exactly (times p (power e)) (times c (power k)))
   pub twice : (p x y : Fraction) → o.exactly (o.exactly p x) y ≡ o.exactly p (times y x)
   -- with Ch for C it is less than 3/2 ulp off, once rounded
-  pub near : (f : Factor) → Sound f → (p : Fraction) → Positive p → (C : Fraction) → Between (context_of f) (lower_of f) (upper_of f) C → let n = f.precision.bits in WithinThreeHalves n (RN to_even n (o.exactly p (high n f.parts))) (o.exactly p C)
+  pub near : (f : Factor) → Sound f → (p : Fraction) → Positive p → (C : Fraction) → Between (context_of f) (lower_of f) (upper_of f) C → let n = f.precision in WithinThreeHalves n (RN to_even n (o.exactly p (high n f.parts))) (o.exactly p C)
 
 pub divides : Lawful dividing
 divides =
@@ -82,7 +82,7 @@ multiplies =
     turned s t a c b d = ap (λ (m : Bool). Ieee.round binary32 m (a * b) (c * d)) (unlike_comm s t) ∙ ap₂ (λ (p q : ℕ). Ieee.round binary32 (unlike t s) p q) (mul_comm a b) (mul_comm c d)
 
 -- ---- Ch and ± Ch * 2 ^ k, of a sound factor of the format's precision
-module _ (f : Factor) (sound : Sound f) (n : f.precision.bits ≡ prec binary32) where
+module _ (f : Factor) (sound : Sound f) (n : f.precision ≡ prec binary32) where
   abbrev k : ℤ
   k = f.applied.scale
 

@@ -1,5 +1,5 @@
 -- What an answer to a reading's division tells, for every factor and every reading (`divided_reading_answered`, `divided_reading_tells`): its sign is that of the standard's quotient, which of a zero is the whole answer (`zero_divided`), equal; any other is RN(x / Ch) with sign and exponent
--- put on, exactly; one division of the standard, of significands and of the reading itself by ± Ch * 2 ^ k, gives the same; it is less than 3/2 units in the last place from the reading / (± C * 2 ^ k) for every fraction C between the ends; and its direction tells how it lies as seen from x / Ch, sign and scale on (request W4). Assumes nothing.
+-- put on, exactly; one division of the standard, of significands and of the reading itself by ± Ch * 2 ^ k, gives the same; it is less than 3/2 units in the last place from the reading / (± C * 2 ^ k) for every fraction C between the ends; and its direction tells how it lies as seen from x / Ch, sign and scale on. Assumes nothing.
 use Rattle.std.specs.Prelude.{◌≡◌, refl, Bool, true, false, cond, ◌⊎◌, ℕ, ◌-◌, ◌*◌, ◌<◌, T, ℤ, neg_ℤ, ◌+ℤ◌, ◌-ℤ◌, Float}
 use Rattle.std.proofs.Common.{sym, ap, ◌∙◌, subst, inl, inr, mul-pos, arith, pow_pos}
 use Rattle.std.proofs.Math.Decide.{dec_lt}
@@ -9,12 +9,13 @@ use Rattle.std.specs.Float.Ieee.{prec, hid, to_bits, up, down, fits, div}
 use Rattle.std.specs.Float.Ieee.Fits.{down_pos}
 use Rattle.marks.specs.Answers.{NoneHolds, Outcome, refused, accepted}
 use Rattle.marks.specs.AnswerLaws.{none_refuses}
+use Rattle.rounding.specs.declared.Directed.{Directed}
 use Rattle.rounding.specs.declared.Direction.TheVariants.{Equal}
 use Rattle.rounding.specs.Direction.{signed_direction}
 use Rattle.rounding.specs.Grid.{to_even}
 use Rattle.rounding.specs.Round.{HasBits}
 use Rattle.rounding.specs.Fraction.{Fraction, signed_as, RN, Same, scaled_as, Directs}
-use Rattle.rounding.proofs.Directed.{directs_same, directs_scaled}
+use Rattle.rounding.proofs.DirectedLaws.{directs_same, directs_scaled}
 use Rattle.floats.specs.Fields.{zero_of, zero_bits, Normal, significand_of, exponent_of}
 use Rattle.floats.proofs.Powers.{powers_add}
 use Rattle.floats.proofs.Pattern.{significand_bits}
@@ -25,7 +26,7 @@ use Rattle.factor.proofs.SetUpLaws.{intact_sound}
 use Rattle.quotient.specs.declared.Quotient.{Quotient}
 use Rattle.quotient.specs.Quotient.{by_high, quotient_by, direction_by, directed_by, signed_quotient, value_of}
 use Rattle.quotient.specs.Tells.{Tells as TellsOf, sound_quotient}
-use Rattle.reading.specs.Reading.{unreadable, sign_with, exponent_out, number_of, DirectedNumber, directed_number, conditions}
+use Rattle.reading.specs.Reading.{unreadable, sign_with, exponent_out, number_of, directed_number, conditions}
 use Rattle.reading.specs.Divided.{quotient_exponent, quotient_of, divided_reading}
 use Rattle.reading.proofs.Exponents.{let_through}
 use Rattle.reading.proofs.ReadingLaws.{number_value, number_normal}
@@ -44,29 +45,29 @@ abbrev pub answer_at : Factor → ℕ → Fraction
 answer_at f b = let v = quotient_at f b in signed_as (sign_with f b) (number_at binary32 v.significand (quotient_exponent f b v))
 
 -- the number with its direction, or a zero
-abbrev pub numbered : Factor → ℕ → DirectedNumber
+abbrev pub numbered : Factor → ℕ → Directed Float
 numbered f b = cond (zero_bits binary32 b) (quotient_of f b).of_zero (quotient_of f b).value
 
 -- x / Ch with the same put on
 abbrev pub last_at : Factor → ℕ → Fraction
-last_at f b = scaled_as (sign_with f b) (exponent_of binary32 b -ℤ f.applied.scale) (by_high f.precision.bits f.parts (significand_of binary32 b))
+last_at f b = scaled_as (sign_with f b) (exponent_of binary32 b -ℤ f.applied.scale) (by_high f.precision f.parts (significand_of binary32 b))
 
 -- what the answer a to a reading with the bits b tells, unless it is a zero
-pub record Tells (f : Factor) (b : ℕ) (a : DirectedNumber) : Type 0 where
+pub record Tells (f : Factor) (b : ℕ) (a : Directed Float) : Type 0 where
   -- the reading is a normal number
   pub reading : (x : Float) → T (fits binary32 x) → to_bits binary32 x ≡ b → Is x (reading_at b)
   -- its number is sign * RN(x / Ch) * 2 ^ (e - k), exactly, and a normal number
-  pub value : Is a.number (answer_at f b)
-  pub normal : Normal binary32 (to_bits binary32 a.number)
+  pub value : Is a.value (answer_at f b)
+  pub normal : Normal binary32 (to_bits binary32 a.value)
   -- and one division of the standard: of x by Ch it is RN(x / Ch), and of the reading by ± Ch * 2 ^ k that number; it is less than 3/2 ulp from the reading / (± C * 2 ^ k) for every C between the ends
-  pub division : OneOperation dividing f b (value_of (prec binary32) (quotient_at f b)) (answer_at f b) a.number
+  pub division : OneOperation dividing f b (value_of (prec binary32) (quotient_at f b)) (answer_at f b) a.value
   -- its direction tells how it lies as seen from x / Ch
   pub directs : Directs a.direction (last_at f b) (answer_at f b)
 
 -- of every answer: its sign is that of the standard's quotient, of a zero too, which is equal; a refusal tells nothing
-abbrev pub AnswerTells : Factor → ℕ → Outcome DirectedNumber → Type 0
+abbrev pub AnswerTells : Factor → ℕ → Outcome (Directed Float) → Type 0
 AnswerTells f b (refused k) = Unit {0}
-AnswerTells f b (accepted a) = StandardSign dividing f b a.number × (((zero_bits binary32 b ≡ true) × (a.number ≡ zero_of (sign_with f b)) × (a.direction ≡ Equal)) ⊎ ((zero_bits binary32 b ≡ false) × Tells f b a))
+AnswerTells f b (accepted a) = StandardSign dividing f b a.value × (((zero_bits binary32 b ≡ true) × (a.value ≡ zero_of (sign_with f b)) × (a.direction ≡ Equal)) ⊎ ((zero_bits binary32 b ≡ false) × Tells f b a))
 
 -- ---- a reading that is let through, and not a zero
 module _ (f : Factor) (b : ℕ) (h : NoneHolds (unreadable f b)) (nonzero : zero_bits binary32 b ≡ false) (o : exponent_out binary32 (quotient_exponent f b (quotient_at f b)) ≡ false) where
@@ -91,7 +92,7 @@ module _ (f : Factor) (b : ℕ) (h : NoneHolds (unreadable f b)) (nonzero : zero
   sound : Sound f
   sound = intact_sound f (is_intact f b h)
 
-  bits_are : f.precision.bits ≡ prec binary32
+  bits_are : f.precision ≡ prec binary32
   bits_are = precision_is f b h
 
   -- of its size
@@ -131,7 +132,7 @@ module _ (f : Factor) (b : ℕ) (h : NoneHolds (unreadable f b)) (nonzero : zero
   direct : Directs (signed_direction (sign_with f b) (direction_by f X)) (last_at f b) (answer_at f b)
   direct =
       let w = value_of (prec binary32) u in
-      let x = by_high f.precision.bits f.parts X in
+      let x = by_high f.precision f.parts X in
       let s = sign_with f b in
       directs_same (signed_direction s (direction_by f X)) (last_at f b) (scaled_as s (e -ℤ k) w)
       (directs_scaled (direction_by f X) x w (subst (λ (m : ℕ). Directs (direction_by f X) x (value_of m u)) bits_are told.directs) s refl refl (e -ℤ k))
@@ -162,6 +163,6 @@ unfolding divided_reading
 divided_reading_answered f x h = let b = to_bits binary32 x in none_refuses (conditions f b (quotient_of f b).exponent) (numbered f b) h
 
 -- a zero of either sign is answered, equal, with the standard's quotient of it by the stored high part with the factor's sign, which as every f32 fits the format
-pub zero_divided : (f : Factor) → intact f ≡ true → f.precision.bits ≡ prec binary32 → T (fits binary32 f.applied.high) → (s : Bool) → divided_reading f (zero_of s) ≡ accepted (record { number = div binary32 (zero_of s) (signed_high f); direction = Equal })
+pub zero_divided : (f : Factor) → intact f ≡ true → f.precision ≡ prec binary32 → T (fits binary32 f.applied.high) → (s : Bool) → divided_reading f (zero_of s) ≡ accepted (record { value = div binary32 (zero_of s) (signed_high f); direction = Equal })
 unfolding divided_reading
-zero_divided f i n h s = zero_is_operation dividing divides f i n h s (quotient_of f (to_bits binary32 (zero_of s))) (λ y. record { number = y; direction = Equal }) refl
+zero_divided f i n h s = zero_is_operation dividing divides f i n h s (quotient_of f (to_bits binary32 (zero_of s))) (λ y. record { value = y; direction = Equal }) refl

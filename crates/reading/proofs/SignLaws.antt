@@ -1,4 +1,4 @@
--- Laws: the sign of an answer is the one that the standard's operation gives the reading and any number with the factor's sign, and a zero is answered with what it gives (requests W3 and W5). Assumes nothing.
+-- Laws: the sign of an answer is the one that the standard's operation gives the reading and any number with the factor's sign, and a zero is answered with what it gives. Assumes nothing.
 use Rattle.std.specs.Prelude.{◌≡◌, refl, Bool, true, false, not, cond, ℕ, ◌*◌, ◌^◌, ◌<◌, T, ℤ, Float}
 use Rattle.std.proofs.Common.{sym, ap, ap₂, ◌∙◌, subst, true≢false, pow_pos, eq-eqb}
 use Rattle.std.specs.Float.Ieee.{binary32, prec, low, hid, unlike, up, down, neg, to_bits, fits}
@@ -72,7 +72,7 @@ module _ (o : Operation) (lawful : Lawful o) (f : Factor) (b : ℕ) (h : NoneHol
   stored : T (fits binary32 f.applied.high) → LikeFactor f (signed_high f)
   stored i =
       let C = sound_high_positive f sound in
-      let c = high f.precision.bits f.parts in
+      let c = high f.precision f.parts in
       record { value = signed_by f c; is = with_sign_lem f.minus f.applied.high c (high_number f sound i); sign = refl; above = C.above; some = C.some }
 
   scaled : LikeFactor f (float_in binary32 (applied_high f))
@@ -102,13 +102,13 @@ zero_fits : (s : Bool) → T (fits binary32 (zero_of s))
 unfolding fits
 zero_fits s = tt
 
-zero_through : (f : Factor) → intact f ≡ true → f.precision.bits ≡ prec binary32 → (s : Bool) → NoneHolds (unreadable f (to_bits binary32 (zero_of s)))
+zero_through : (f : Factor) → intact f ≡ true → f.precision ≡ prec binary32 → (s : Bool) → NoneHolds (unreadable f (to_bits binary32 (zero_of s)))
 unfolding to_bits
 zero_through f i n true = (ap not i, (ap not (eq-eqb _ _ n), (refl, (refl, tt))))
 zero_through f i n false = (ap not i, (ap not (eq-eqb _ _ n), (refl, (refl, tt))))
 
 -- where g of a zero with the answer's sign is made of it, it is answered with g of what the operation gives it and the stored high part with the factor's sign
-pub zero_is_operation : {A : Type 0} (o : Operation) → Lawful o → (f : Factor) → intact f ≡ true → f.precision.bits ≡ prec binary32 → T (fits binary32 f.applied.high) → (s : Bool) (m : Made A) (g : Float → A)
+pub zero_is_operation : {A : Type 0} (o : Operation) → Lawful o → (f : Factor) → intact f ≡ true → f.precision ≡ prec binary32 → T (fits binary32 f.applied.high) → (s : Bool) (m : Made A) (g : Float → A)
     → m.of_zero ≡ g (zero_of (sign_with f (to_bits binary32 (zero_of s)))) → answer_to f (to_bits binary32 (zero_of s)) m ≡ accepted (g (o.in_format (zero_of s) (signed_high f)))
 zero_is_operation o lawful f i n high_fits s m g e =
     let b = to_bits binary32 (zero_of s) in

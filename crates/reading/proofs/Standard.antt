@@ -74,14 +74,14 @@ module _ (c : ℕ) (ce : End K32 c) (X : ℕ) (xb : HasBits (prec binary32) X) w
       (k.some, k.count ∙ ap (λ (w : UnitParts). first_units K32 w X * u.den) (units_of_parts K32 fine_32 c ce))
 
 -- ---- of a factor that was accepted, with the format's precision
-module _ (f : Factor) (s : Sound f) (n : f.precision.bits ≡ prec binary32) (X : ℕ) (xb : HasBits (prec binary32) X) where
+module _ (f : Factor) (s : Sound f) (n : f.precision ≡ prec binary32) (X : ℕ) (xb : HasBits (prec binary32) X) where
   parts_32 : f.parts ≡ parts_at K32 f.lower
   parts_32 = s.parts ∙ ap (λ (b : ℕ). parts_at (context_at b) (lower_of f)) n
 
   end_32 : End K32 (lower_of f)
   end_32 = subst (λ (b : ℕ). End (context_at b) (lower_of f)) n s.lower_end
 
-  -- u1 as document 01 has it is what one binary32 multiplication gives
+  -- u1, RN(Cl * x), is what one binary32 multiplication gives
   pub first_is : (y : Float) → T (fits binary32 f.applied.low) → HasValue y false X (hid binary32) → let u1 = first K32 f.parts X in HasValue (mul binary32 f.applied.low y) u1.minus u1.num u1.den
   first_is y h v =
       let u1 = first K32 f.parts X in
@@ -140,5 +140,5 @@ module _ (f : Factor) (s : Sound f) (n : f.precision.bits ≡ prec binary32) (X 
     stored_steps = record { high_is = stored_high; low_is = low_number f s low_fits; first_is = first_is y low_fits x_is; second_is = second }
 
 -- of every factor that set-up accepted
-pub accepted_steps : (d : Description) (f : Factor) → set_up d ≡ accepted f → f.precision.bits ≡ prec binary32 → (X : ℕ) → HasBits (prec binary32) X → (y : Float) → HasValue y false X (hid binary32) → StoredSteps f X y
+pub accepted_steps : (d : Description) (f : Factor) → set_up d ≡ accepted f → f.precision ≡ prec binary32 → (X : ℕ) → HasBits (prec binary32) X → (y : Float) → HasValue y false X (hid binary32) → StoredSteps f X y
 accepted_steps d f e n X xb y v = let h = accepted_fits d f e in stored_steps f (intact_sound f (accepted_intact d f e)) n X xb h.0 h.1 y v

@@ -1,4 +1,4 @@
--- One operation of the standard on a reading and Ch * 2 ^ k with the factor's sign (request W5), a division (request W1) or a multiplication (request W2), and what the answer is by it; and the sign that it gives, zeros included (request W3). Definitions only. Assumes nothing.
+-- One operation of the standard on a reading and Ch * 2 ^ k with the factor's sign, a division or a multiplication, and what the answer is by it; and the sign that it gives, zeros included. Definitions only. Assumes nothing.
 use Rattle.std.specs.Prelude.{◌≡◌, true, cond, ℕ, ◌*◌, ◌<◌, T, ℤ, ◌+ℤ◌, ◌-ℤ◌, Float}
 use Rattle.std.specs.Float.{binary32}
 use Rattle.std.specs.Float.Ieee.{prec, hid, up, down, to_bits, fits, neg, mul, div}

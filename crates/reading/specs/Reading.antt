@@ -1,11 +1,12 @@
--- Readings: what refuses one, and a binary32 reading times a factor (document 01, "Binary32" and the refusals 31, 20, 21, 22, 23), with the sign of zeros by request W3, directions by request W4 and the factor's sign by request W5. Definitions only. Assumes nothing.
+-- Readings: what refuses one (31, 20, 21, 22, 23), and a binary32 reading times a factor, with the sign of both, of a zero too, and the direction of the last rounding. Definitions only. Assumes nothing.
 use Rattle.std.specs.Prelude.{Bool, not, ◌&&◌, ◌||◌, cond, List, [], ◌∷◌, ◌++◌, ℕ, ◌-◌, ◌*◌, eqb, ℤ, pos, negsuc, ◌+ℤ◌, Float}
 use Rattle.std.specs.Int.Signed.{lt_z}
 use Rattle.std.specs.Float.Ieee
 use Rattle.std.specs.Float.{Format, binary32}
 use Rattle.std.specs.Float.Ieee.{prec, emax, hid, unlike, to_bits, up, down}
 use Rattle.marks.specs.declared.Mark.{Mark}
-use Rattle.marks.specs.Answers.{Outcome, refused, accepted, answer, Marked}
+use Rattle.marks.specs.declared.Marked.{Marked}
+use Rattle.marks.specs.Answers.{Outcome, refused, accepted, answer}
 use Rattle.rounding.specs.declared.Direction.{Direction}
 use Rattle.rounding.specs.declared.Direction.TheVariants.{Equal}
 use Rattle.rounding.specs.Direction.{signed_direction}
@@ -14,30 +15,25 @@ use Rattle.factor.specs.declared.Factor.{Factor}
 use Rattle.factor.specs.SetUp.{intact}
 use Rattle.product.specs.declared.Device.{Device}
 use Rattle.product.specs.declared.Product.{Product}
-use Rattle.product.specs.declared.DirectedProduct.{DirectedProduct}
+use Rattle.rounding.specs.declared.Directed.{Directed}
 use Rattle.product.specs.Product.{product}
 use Rattle.product.specs.Marks.{mark}
 use Rattle.product.specs.Answer.{marked}
 use Rattle.product.specs.OneStep.{one_step}
 use Rattle.product.specs.Devices.{product_on, directed_on}
 use Rattle.reading.specs.declared.ReadingAnswer.{ReadingAnswer}
-use Rattle.reading.specs.declared.NumberAnswer.{NumberAnswer}
-use Rattle.reading.specs.declared.Taken.{Taken}
+use Rattle.reading.specs.declared.Kind.{Kind}
 
 -- ---- a reading by its bit pattern b
 -- the conditions that refuse it before any work: state comes before input
 abbrev pub unreadable : Factor → ℕ → List (ℕ × Bool)
-unreadable f b = (31, not (intact f)) ∷ (20, not (eqb f.precision.bits (prec binary32))) ∷ (21, infinite_or_na_n binary32 b) ∷ (22, subnormal binary32 b) ∷ []
+unreadable f b = (31, not (intact f)) ∷ (20, not (eqb f.precision (prec binary32))) ∷ (21, infinite_or_na_n binary32 b) ∷ (22, subnormal binary32 b) ∷ []
 
--- what it is if it is let through: a zero or a normal number, by its bits
-pub data Kind : Type 0 where
-  zero : ℕ → Kind
-  normal : ℕ → Kind
-
+-- what it is if it is let through: a zero or a normal number
 abbrev pub kind_of : ℕ → Kind
-kind_of b = cond (zero_bits binary32 b) (zero b) (normal b)
+kind_of b = cond (zero_bits binary32 b) Kind.Zero Kind.Normal
 
--- the sign of its product or quotient by a factor, of a zero too: minus where one of the two has it and the other has not (IEEE 754-2019, 6.3; requests W3 and W5)
+-- the sign of its product or quotient by a factor, of a zero too: minus where one of the two has it and the other has not (IEEE 754-2019, 6.3)
 abbrev pub sign_with : Factor → ℕ → Bool
 sign_with f b = unlike (sign_of binary32 b) f.minus
 
@@ -51,22 +47,17 @@ unfoldable pub number_of : Format → Bool → (S : ℕ) → ℤ → Float
 unfolding Ieee.round
 number_of f s S e = Ieee.round f s (S * up e) (hid f * down e)
 
--- a number with the direction of the rounding that gave it, sign included
-pub record DirectedNumber : Type 0 where
-  pub number : Float
-  pub direction : Direction
-
--- a size as a binary32 number: a negative one's direction is mirrored
-abbrev pub directed_number : Bool → (S : ℕ) → ℤ → Direction → DirectedNumber
-directed_number s S e d = record { number = number_of binary32 s S e; direction = signed_direction s d }
+-- a size as a binary32 number with a sign, and with the direction of the rounding that gave it, sign included: a negative one's is mirrored
+abbrev pub directed_number : Bool → (S : ℕ) → ℤ → Direction → Directed Float
+directed_number s S e d = record { value = number_of binary32 s S e; direction = signed_direction s d }
 
 -- or 23
-abbrev pub placed : Bool → (S : ℕ) → ℤ → Direction → Outcome DirectedNumber
+abbrev pub placed : Bool → (S : ℕ) → ℤ → Direction → Outcome (Directed Float)
 placed s S e d = answer ((23, exponent_out binary32 e) ∷ []) (directed_number s S e d)
 
 -- a zero is equal to what was rounded
-abbrev pub directed_zero : Bool → DirectedNumber
-directed_zero s = record { number = zero_of s; direction = Equal }
+abbrev pub directed_zero : Bool → Directed Float
+directed_zero s = record { value = zero_of s; direction = Equal }
 
 -- ---- an answer to a reading, whatever is made of it
 -- what is made of a zero, and of any other reading, with the exponent that this gets
@@ -88,48 +79,37 @@ abbrev pub product_exponent : Factor → ℕ → Product → ℤ
 product_exponent f b v = exponent_of binary32 b +ℤ (f.applied.scale +ℤ pos v.binade)
 
 -- sign and exponent put on a value with its mark
-abbrev pub put_on : Factor → ℕ → Marked DirectedProduct → Marked DirectedNumber
-put_on f b a = let v = a.value in record { mark = a.mark; value = directed_number (sign_with f b) v.product.significand (product_exponent f b v.product) v.direction }
+abbrev pub put_on : Factor → ℕ → Marked (Directed Product) → Marked (Directed Float)
+put_on f b a = let v = a.value in record { mark = a.mark; value = directed_number (sign_with f b) v.value.significand (product_exponent f b v.value) v.direction }
 
 -- unless 23 refuses it
-abbrev pub ranged : Factor → ℕ → Marked DirectedProduct → Outcome (Marked DirectedNumber)
-ranged f b a = answer ((23, exponent_out binary32 (product_exponent f b a.value.product)) ∷ []) (put_on f b a)
+abbrev pub ranged : Factor → ℕ → Marked (Directed Product) → Outcome (Marked (Directed Float))
+ranged f b a = answer ((23, exponent_out binary32 (product_exponent f b a.value.value)) ∷ []) (put_on f b a)
 
 -- what becomes of a normal reading's value: 23, or the number with its mark
-unfoldable pub finished : Factor → ℕ → DirectedProduct → Outcome (Marked DirectedNumber)
+unfoldable pub finished : Factor → ℕ → Directed Product → Outcome (Marked (Directed Float))
 unfolding mark number_of
 finished f b v = ranged f b (marked f (significand_of binary32 b) v)
 
--- a zero gives a zero with the product's sign (request W3, in place of document 01's plus zero), right; any other reading the number with its mark
-abbrev pub product_of : Factor → ℕ → DirectedProduct → Made (Marked DirectedNumber)
-product_of f b v = record { of_zero = record { mark = Mark.Right; value = directed_zero (sign_with f b) }; exponent = product_exponent f b v.product; value = put_on f b (marked f (significand_of binary32 b) v) }
+-- a zero gives a zero with the product's sign, right; any other reading the number with its mark
+abbrev pub product_of : Factor → ℕ → Directed Product → Made (Marked (Directed Float))
+product_of f b v = record { of_zero = record { mark = Mark.Right; value = directed_zero (sign_with f b) }; exponent = product_exponent f b v.value; value = put_on f b (marked f (significand_of binary32 b) v) }
 
 -- the product of a reading's significand on a device, and the same with its direction
 abbrev pub product_at : Device → Factor → ℕ → Product
 product_at d f b = product_on d f (significand_of binary32 b)
 
-abbrev pub directed_at : Device → Factor → ℕ → DirectedProduct
+abbrev pub directed_at : Device → Factor → ℕ → Directed Product
 directed_at d f b = directed_on d f (significand_of binary32 b)
 
 -- the answer to a reading x on a device
-unfoldable pub applied : Device → Factor → Float → Outcome (Marked DirectedNumber)
+unfoldable pub applied : Device → Factor → Float → Outcome (Marked (Directed Float))
 unfolding intact product one_step mark number_of
 applied d f x = let b = to_bits binary32 x in answer_to f b (product_of f b (directed_at d f b))
 
 -- what each case of the answer says: a refusal its number; any other its mark, the product as a binary32 number and its direction
-abbrev pub outcome_of : ReadingAnswer → Outcome (Marked DirectedNumber)
-outcome_of (ReadingAnswer.Right y d) = accepted (record { mark = Mark.Right; value = record { number = y; direction = d } })
-outcome_of (ReadingAnswer.Open y d) = accepted (record { mark = Mark.Open; value = record { number = y; direction = d } })
-outcome_of (ReadingAnswer.Wrong y d) = accepted (record { mark = Mark.Wrong; value = record { number = y; direction = d } })
+abbrev pub outcome_of : ReadingAnswer → Outcome (Marked (Directed Float))
+outcome_of (ReadingAnswer.Right y d) = accepted (record { mark = Mark.Right; value = record { value = y; direction = d } })
+outcome_of (ReadingAnswer.Open y d) = accepted (record { mark = Mark.Open; value = record { value = y; direction = d } })
+outcome_of (ReadingAnswer.Wrong y d) = accepted (record { mark = Mark.Wrong; value = record { value = y; direction = d } })
 outcome_of (ReadingAnswer.Refused k) = refused k
-
--- of an answer without a mark: a refusal its number, or the float and its direction
-abbrev pub number_says : NumberAnswer → Outcome DirectedNumber
-number_says (NumberAnswer.Number y d) = accepted (record { number = y; direction = d })
-number_says (NumberAnswer.Refused k) = refused k
-
--- and of a reading that is judged before any work: a refusal its number, or its kind
-abbrev pub taken_of : Taken → Outcome Kind
-taken_of (Taken.Zero b) = accepted (zero b)
-taken_of (Taken.Normal b) = accepted (normal b)
-taken_of (Taken.Refused k) = refused k

@@ -1,10 +1,11 @@
--- Figures: request W2's tallies at 4 bits and of π up to 8, the products that they count, a tie, every refusal, how near the bound of 3/2 ulp is met, and products and tally of a negative factor (request W5). All by computation. Assumes nothing.
+-- Figures: tallies at 4 bits and of π up to 8, the products that they count, a tie, every refusal, how near the bound of 3/2 ulp is met, and products and tally of a negative factor. All by computation. Assumes nothing.
 use Rattle.std.specs.Prelude.{◌≡◌, refl, Bool, true, false, ℕ, ◌+◌, ◌-◌, ◌*◌, ◌^◌, pos}
 use Rattle.std.specs.Float.Ieee
 use Rattle.std.specs.Float.Ieee.{size}
 use Rattle.marks.specs.declared.Mark.{Mark}
 use Rattle.marks.specs.declared.Mark.TheVariants.{Right, Open, Wrong}
-use Rattle.marks.specs.Answers.{judged, Outcome, refused, accepted, answer, Marked}
+use Rattle.marks.specs.declared.Marked.{Marked}
+use Rattle.marks.specs.Answers.{judged, Outcome, refused, accepted, answer}
 use Rattle.rounding.specs.declared.Direction.{Direction}
 use Rattle.rounding.specs.declared.Direction.TheVariants.{Below, Above}
 use Rattle.rounding.specs.Direction.{side_of}
@@ -16,7 +17,8 @@ use Rattle.factor.specs.Context.{tie_rule}
 use Rattle.factor.specs.Parts.{parts_at}
 use Rattle.factor.specs.SetUp.{applied_of, factor_of}
 use Rattle.product.specs.declared.Device.{Device}
-use Rattle.product.specs.declared.SignedProduct.{SignedProduct}
+use Rattle.rounding.specs.declared.Signed.{Signed}
+use Rattle.product.specs.declared.Product.{Product}
 use Rattle.product.specs.Product.{value_of}
 use Rattle.tally.specs.declared.Counts.{Counts}
 use Rattle.product.specs.OneStep.{one_step_by}
@@ -36,13 +38,13 @@ abbrev counts : (rights wrongs opens : ℕ) → Outcome Counts
 counts r w o = accepted (record { rights = r; wrongs = w; opens = o })
 
 -- a product with a sign, and one above zero
-abbrev signed : Bool → Mark → (S b : ℕ) → Direction → Outcome (Marked SignedProduct)
-signed s m S b d = accepted (record { mark = m; value = record { minus = s; product = record { significand = S; binade = b }; direction = d } })
+abbrev signed : Bool → Mark → (S b : ℕ) → Direction → Outcome (Marked (Signed Product))
+signed s m S b d = accepted (record { mark = m; value = record { minus = s; value = record { significand = S; binade = b }; direction = d } })
 
-abbrev is : Mark → (S b : ℕ) → Direction → Outcome (Marked SignedProduct)
+abbrev is : Mark → (S b : ℕ) → Direction → Outcome (Marked (Signed Product))
 is m S b d = signed false m S b d
 
--- all significands of 4 bits: 3/2, document 01's P2, 4/3 and 23/18
+-- all significands of 4 bits: 3/2, P2, which is 19/16 - 2 ^ -20, 4/3 and 23/18
 four_bits :
     (tallied (factor_at 4 (3 * 2 ^ 61) (3 * 2 ^ 61)) 8 15 ≡ counts 8 0 0)
     × (tallied (factor_at 4 0x4BFFFC0000000000 0x4BFFFC0000000000) 8 15 ≡ counts 4 4 0)
@@ -68,7 +70,7 @@ below_zero :
 unfolding signed_at multiplied tallied answer judged direction_of side_of Ieee.to_bits size
 below_zero = (refl, refl, refl, refl)
 
--- source document 004, Table 1, for π at 4 to 8 bits: 5, 15, 25, 38 and 124 right
+-- π at 4 to 8 bits: 5, 15, 25, 38 and 124 right
 pi_at : (n : ℕ) → Factor
 unfolding signed_at
 pi_at n = factor_at n 0x6487ED5110B4611A 0x6487ED5110B4611B
@@ -95,7 +97,7 @@ refusals :
 unfolding signed_at multiplied tallied answer judged Ieee.to_bits size
 refusals = (refl, refl, refl, refl, refl, refl, refl, refl)
 
--- source document 003, Example 1: C = 1 + 2 ^ -13 - 2 ^ -24 and x = 2 - 2 ^ -11 at 24 bits are 3/2 - 2 ^ -12 ulp apart; and C = 1 + 2 ^ -3 - 2 ^ -5 and x = 7/4 at 5 bits, where RN(Ch * x) = 2 is in the binade above C * x, 3/2 - 2 ^ -3
+-- how near 3/2 ulp is met: C = 1 + 2 ^ -13 - 2 ^ -24 and x = 2 - 2 ^ -11 at 24 bits are 3/2 - 2 ^ -12 ulp apart; and C = 1 + 2 ^ -3 - 2 ^ -5 and x = 7/4 at 5 bits, where RN(Ch * x) = 2 is in the binade above C * x, 3/2 - 2 ^ -3
 nearly_met :
     (let y = exact_product 24 16773120 (over (2 ^ 62 + 2 ^ 49 - 2 ^ 38) 62) in Same (distance (value_of 24 (one_step_by (factor_at 24 (2 ^ 62 + 2 ^ 49 - 2 ^ 38) (2 ^ 62 + 2 ^ 49 - 2 ^ 38)) 16773120)) y) (times (over 6143 12) (ulp 24 y)))
     × (let y = exact_product 5 28 (over (2 ^ 62 + 2 ^ 59 - 2 ^ 57) 62) in Same (distance (value_of 5 (one_step_by (factor_at 5 (2 ^ 62 + 2 ^ 59 - 2 ^ 57) (2 ^ 62 + 2 ^ 59 - 2 ^ 57)) 28)) y) (times (over 11 3) (ulp 5 y)))

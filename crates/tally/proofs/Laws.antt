@@ -14,14 +14,14 @@ use Rattle.factor.specs.Ends.{End}
 use Rattle.factor.specs.SetUp.{Sound}
 use Rattle.product.proofs.StepLaws.{end_within, kept_bits}
 
-module _ (f : Factor) (s : Sound f) (L : ℕ) (end : End (context_of f) L) (e : ℕ) (at : e ≡ scale_of f.precision.bits) where
+module _ (f : Factor) (s : Sound f) (L : ℕ) (end : End (context_of f) L) (e : ℕ) (at : e ≡ scale_of f.precision) where
   abbrev n : ℕ
-  n = f.precision.bits
+  n = f.precision
 
   abbrev E : ℕ
   E = scale_of n
 
-  module _ (X : ℕ) (x : HasBits f.precision.bits X) where
+  module _ (X : ℕ) (x : HasBits f.precision X) where
     -- one word holds what is kept of it
     pub kept_word : L * X < 2 ^ (word_bits + e)
     kept_word =

@@ -1,17 +1,17 @@
 -- Laws of the tally: its counts add up to the length of the span, and those of adjoining spans to the whole's, for any list of adjoining calls; and a factor's sign does not matter to it. Assumes nothing.
 use Rattle.std.specs.Prelude.{◌≡◌, refl, Bool, true, false, [], ◌∷◌, ℕ, zero, suc, ◌+◌, ◌-◌, ◌≤◌, ◌<◌, ltb}
 use Rattle.std.proofs.Math.Path.{sym}
-use Rattle.std.proofs.Common.{ap, ap₂, ◌∙◌, add-zero, add_assoc, lt_of_not-le, arith, ltb-false, le-ltb}
+use Rattle.std.proofs.Common.{ap, ap₂, ◌∙◌, add-zero, add_assoc, lt_of_not-le, arith, ltb-false, lt-ltb, le-ltb}
 use Rattle.std.proofs.Math.Bool.{not}
 use Rattle.std.proofs.Math.Decide.{dec_le}
 use Rattle.std.proofs.lemmas.Bool.{not-false}
 use Rattle.marks.specs.declared.Mark.{Mark}
 use Rattle.marks.specs.declared.Mark.TheVariants.{Right, Open, Wrong}
-use Rattle.marks.specs.Answers.{NoneHolds, accepted, answer}
-use Rattle.marks.specs.AnswerLaws.{pass, end, accepts, only_accepted}
+use Rattle.marks.specs.Answers.{NoneHolds, refused, accepted, answer}
+use Rattle.marks.specs.AnswerLaws.{pass, stop, end, refuses, accepts, only_accepted, refused_first}
 use Rattle.factor.specs.declared.Factor.{Factor}
 use Rattle.factor.specs.Precision.{range_out}
-use Rattle.factor.specs.SetUp.{intact, Sound}
+use Rattle.factor.specs.SetUp.{intact, checked, Sound}
 use Rattle.factor.proofs.SetUpLaws.{intact_sound}
 use Rattle.factor.proofs.Signs.{factor_as, intact_signed}
 use Rattle.product.specs.Answer.{InRange}
@@ -44,13 +44,33 @@ module _ (marks : ℕ → Mark) where
 
 -- ---- calls
 -- what 31 and 17 let through: a sound factor, and a range of its significands
-pub range_through : (f : Factor) (first last : ℕ) → NoneHolds (conditions f first last) → Sound f × InRange f.precision.bits first last
-range_through f first last h = (intact_sound f (not-false _ h.0), in_range_lem f.precision.bits first last h.1.0)
+pub range_through : (f : Factor) (first last : ℕ) → NoneHolds (conditions f first last) → Sound f × InRange f.precision first last
+range_through f first last h = (intact_sound f (not-false _ h.0), in_range_lem f.precision first last h.1.0)
+
+-- what a call answers, by its three tests: 31 by the factor alone, then 17, then 41, and else the counts
+module _ (f : Factor) (first last : ℕ) where
+  pub damaged : {k : ℕ} → refused k ≡ checked f → refused k ≡ tallied f first last
+  unfolding tallied
+  damaged {k} e = refused_first ((31, not (intact f)) ∷ []) _ f _ k e
+
+  module _ (sound : not (intact f) ≡ false) where
+    pub out_of_range : range_out f.precision first last ≡ true → refused 17 ≡ tallied f first last
+    unfolding tallied
+    out_of_range e = refuses (pass sound (stop e)) (counts_of (mark_once f) first (span_length first last))
+
+    module _ (within : range_out f.precision first last ≡ false) where
+      pub too_long : most_tallied < span_length first last → refused 41 ≡ tallied f first last
+      unfolding tallied
+      too_long h = refuses (pass sound (pass within (stop (lt-ltb most_tallied (span_length first last) h)))) (counts_of (mark_once f) first (span_length first last))
+
+      pub counted : span_length first last ≤ most_tallied → accepted (counts_of (mark_once f) first (span_length first last)) ≡ tallied f first last
+      unfolding tallied
+      counted h = accepts (pass sound (pass within (pass (le-ltb most_tallied (span_length first last) h) end))) (counts_of (mark_once f) first (span_length first last))
 
 -- an accepted one is the counts of its range, which has at most 65,536 significands
 pub record Told (f : Factor) (first last : ℕ) (t : Counts) : Type 0 where
   pub sound : Sound f
-  pub range : InRange f.precision.bits first last
+  pub range : InRange f.precision first last
   pub short : span_length first last ≤ most_tallied
   pub counts : t ≡ counts_of (mark_once f) first (span_length first last)
   -- which add up to its length
@@ -88,40 +108,38 @@ module _ (f : Factor) (good : intact f ≡ true) (last : ℕ) where
   abbrev Covered : ℕ → Type 0
   Covered first = (t : Counts) × Adjoining f first (suc last) t
 
-  one_call : (first to : ℕ) → InRange f.precision.bits first to → span_length first to ≤ most_tallied → tallied f first to ≡ accepted (counts_of (mark_once f) first (span_length first to))
-  unfolding tallied
-  one_call first to r short =
-      sym (accepts (pass (ap not good) (pass (range_in f.precision.bits first to r) (pass (le-ltb most_tallied (span_length first to) short) end))) (counts_of (mark_once f) first (span_length first to)))
+  one_call : (first to : ℕ) → InRange f.precision first to → span_length first to ≤ most_tallied → tallied f first to ≡ accepted (counts_of (mark_once f) first (span_length first to))
+  one_call first to r short = sym (counted f first to (ap not good) (range_in f.precision first to r) short)
 
-  last_call : (first : ℕ) → InRange f.precision.bits first last → span_length first last ≤ most_tallied → Covered first
+  last_call : (first : ℕ) → InRange f.precision first last → span_length first last ≤ most_tallied → Covered first
   last_call first r short = (_, call first last (suc last) _ nothing (one_call first last r short) (none_left (suc last)))
 
-  full_call : (first : ℕ) → InRange f.precision.bits first last → most_tallied < span_length first last → Covered (suc (first + (most_tallied - 1))) → Covered first
+  full_call : (first : ℕ) → InRange f.precision first last → most_tallied < span_length first last → Covered (suc (first + (most_tallied - 1))) → Covered first
   full_call first r long (t, rest) =
       let to = first + (most_tallied - 1) in
-      let r' : InRange f.precision.bits first to = record { first_bits = r.first_bits; last_bits = record { least = omega (arith, r.first_bits.least); most = omega (arith, r.last_bits.most) }; ordered = omega arith } in
+      let r' : InRange f.precision first to = record { first_bits = r.first_bits; last_bits = record { least = omega (arith, r.first_bits.least); most = omega (arith, r.last_bits.most) }; ordered = omega arith } in
       (_, call first to (suc last) _ t (one_call first to r' (omega arith)) rest)
 
   -- from `first` on, where so many calls are enough
-  covered : (calls first : ℕ) → InRange f.precision.bits first last → last ≤ calls + first → Covered first
+  covered : (calls first : ℕ) → InRange f.precision first last → last ≤ calls + first → Covered first
   covered zero first r enough = last_call first r (omega arith)
   covered (suc calls) first r enough = by (dec_le (span_length first last) most_tallied) (λ long. covered calls (suc (first + (most_tallied - 1))) (after long) (omega arith))
     where
-      after : most_tallied < span_length first last → InRange f.precision.bits (suc (first + (most_tallied - 1))) last
+      after : most_tallied < span_length first last → InRange f.precision (suc (first + (most_tallied - 1))) last
       after long = record { first_bits = record { least = omega (arith, r.first_bits.least); most = omega (arith, r.last_bits.most) }; last_bits = r.last_bits; ordered = omega arith }
 
       by : Dec (span_length first last ≤ most_tallied) → (most_tallied < span_length first last → Covered (suc (first + (most_tallied - 1)))) → Covered first
       by (yes short) rest = last_call first r short
       by (no long) rest = full_call first r (lt_of_not-le long) (rest (lt_of_not-le long))
 
-  pub tallies_reach : (first : ℕ) → range_out f.precision.bits first last ≡ false → Covered first
-  tallies_reach first e = covered last first (in_range_lem f.precision.bits first last e) (omega arith)
+  pub tallies_reach : (first : ℕ) → range_out f.precision first last ≡ false → Covered first
+  tallies_reach first e = covered last first (in_range_lem f.precision first last e) (omega arith)
 
   -- where one call may take the whole, it answers the same
-  pub tallies_whole : (first : ℕ) (t : Counts) → Adjoining f first (suc last) t → range_out f.precision.bits first last ≡ false → span_length first last ≤ most_tallied → tallied f first last ≡ accepted t
-  tallies_whole first t calls e short = one_call first last (in_range_lem f.precision.bits first last e) short ∙ ap accepted (sym (tallies_add f first (suc last) t calls).1)
+  pub tallies_whole : (first : ℕ) (t : Counts) → Adjoining f first (suc last) t → range_out f.precision first last ≡ false → span_length first last ≤ most_tallied → tallied f first last ≡ accepted t
+  tallies_whole first t calls e short = one_call first last (in_range_lem f.precision first last e) short ∙ ap accepted (sym (tallies_add f first (suc last) t calls).1)
 
--- a factor with another sign is tallied alike (request W5)
+-- a factor with another sign is tallied alike
 pub tally_signed : (s : Bool) (f : Factor) (first last : ℕ) → tallied (factor_as s f) first last ≡ tallied f first last
 unfolding tallied
-tally_signed s f first last = ap (λ (i : Bool). answer ((31, not i) ∷ (17, range_out f.precision.bits first last) ∷ (41, ltb most_tallied (span_length first last)) ∷ []) (counts_of (mark_once f) first (span_length first last))) (intact_signed s f)
+tally_signed s f first last = ap (λ (i : Bool). answer ((31, not i) ∷ (17, range_out f.precision first last) ∷ (41, ltb most_tallied (span_length first last)) ∷ []) (counts_of (mark_once f) first (span_length first last))) (intact_signed s f)

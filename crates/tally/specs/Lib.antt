@@ -1,2 +1,2 @@
--- The tally of a range, its laws, and request W2's figures.
+-- The tally of a range.
 pub mod Tally

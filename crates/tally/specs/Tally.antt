@@ -1,15 +1,14 @@
--- The tally of a range (request W2): how many of its significands are right, wrong and open on the one-step device. Definitions only. Assumes nothing.
+-- The tally of a range: how many of its significands are right, wrong and open on the one-step device. Definitions only. Assumes nothing.
 use Rattle.std.specs.Prelude.{Bool, not, List, [], ◌∷◌, ℕ, zero, suc, ◌+◌, ◌-◌, ltb}
 use Rattle.marks.specs.declared.Mark.{Mark}
 use Rattle.marks.specs.declared.Mark.TheVariants.{Right, Open, Wrong}
-use Rattle.marks.specs.Answers.{Outcome, refused, accepted, answer}
+use Rattle.marks.specs.Answers.{Outcome, answer}
 use Rattle.factor.specs.declared.Factor.{Factor}
 use Rattle.factor.specs.Precision.{range_out}
 use Rattle.factor.specs.SetUp.{intact}
 use Rattle.product.specs.declared.Device.{Device}
 use Rattle.product.specs.Marks.{mark}
 use Rattle.tally.specs.declared.Counts.{Counts}
-use Rattle.tally.specs.declared.TallyAnswer.{TallyAnswer}
 use Rattle.product.specs.OneStep.{one_step}
 use Rattle.product.specs.Devices.{mark_on}
 
@@ -63,14 +62,9 @@ span_length first last = suc last - first
 
 -- 31 by the factor, then 17 by the range, then 41: "tally range longer than 65,536"
 abbrev pub conditions : Factor → (first last : ℕ) → List (ℕ × Bool)
-conditions f first last = (31, not (intact f)) ∷ (17, range_out f.precision.bits first last) ∷ (41, ltb most_tallied (span_length first last)) ∷ []
+conditions f first last = (31, not (intact f)) ∷ (17, range_out f.precision first last) ∷ (41, ltb most_tallied (span_length first last)) ∷ []
 
 -- the tally of a range, unless one of them holds
 unfoldable pub tallied : Factor → (first last : ℕ) → Outcome Counts
 unfolding intact mark_once
 tallied f first last = answer (conditions f first last) (counts_of (mark_once f) first (span_length first last))
-
--- what each case of the answer says
-abbrev pub tally_says : TallyAnswer → Outcome Counts
-tally_says (TallyAnswer.Accepted t) = accepted t
-tally_says (TallyAnswer.Refused k) = refused k

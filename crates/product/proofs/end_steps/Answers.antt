@@ -5,16 +5,17 @@ use Rattle.wide.specs.Value.{value_of}
 use Rattle.factor.specs.Context.{context_at}
 use Rattle.factor.specs.Precision.{scale_of}
 use Rattle.product.specs.Product.{steps_of}
-use Rattle.product.specs.declared.DirectedProduct.{DirectedProduct}
+use Rattle.rounding.specs.declared.Directed.{Directed}
+use Rattle.product.specs.declared.Product.{Product}
 use Rattle.product.proofs.StepLaws.{within_is}
 use Rattle.product.proofs.Laws.{steps_word}
 use Rattle.product.proofs.end_steps.Goals as goal
 
-pub steps_of-requires : goal.steps_of-requires
-steps_of-requires c =
+pub steps-requires : goal.steps-requires
+steps-requires c =
     let n = c.args.p.bits in
-    let v = within_is (context_at n) (omega (arith, c.requires.0.least)) (value_of c.args.y) c.requires.1 in
-    rw c.rounded_units.ensures (v.binade, steps_word n _ _ c.requires.0 v.bits.most v.binade)
+    let v = within_is (context_at n) (omega (arith, c.args.p.valid.least)) (value_of c.args.y) c.requires in
+    rw c.rounded_units.ensures (v.binade, steps_word n _ _ c.args.p.valid v.bits.most v.binade)
 
 -- S * 2 ^ b in the finer unit
 finer : (s b E : ℕ) → s * 2 ^ b * 2 ^ E ≡ s * 2 ^ (E + b)
@@ -24,6 +25,6 @@ pub returns : goal.returns
 returns c =
     let n = c.args.p.bits in
     let E = scale_of n in
-    let v = within_is (context_at n) (omega (arith, c.requires.0.least)) (value_of c.args.y) c.requires.1 in
-    ap (λ (z : ℕ). z * 2 ^ E) (c.steps_of.ensures ∙ ap (λ (r : DirectedProduct). steps_of r.product) c.rounded_units.ensures)
+    let v = within_is (context_at n) (omega (arith, c.args.p.valid.least)) (value_of c.args.y) c.requires in
+    ap (λ (z : ℕ). z * 2 ^ E) (c.steps.ensures ∙ ap (λ (r : Directed Product). steps_of r.value) c.rounded_units.ensures)
     ∙ finer _ _ E ∙ v.value

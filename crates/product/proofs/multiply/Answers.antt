@@ -1,31 +1,37 @@
 -- Refused, or the product of what 31 and 17 let through.
-use Rattle.std.proofs.Common.{sym, ap, ◌∙◌}
+use Rattle.std.specs.Prelude.{ℕ}
+use Rattle.std.proofs.Common.{ap, ◌∙◌}
+use Rattle.marks.specs.declared.Marked.{Marked}
 use Rattle.marks.specs.Answers.{accepted}
-use Rattle.marks.specs.AnswerLaws.{judged_passed, judged_refused, none_refuses}
-use Rattle.product.specs.declared.DirectedProduct.{DirectedProduct}
-use Rattle.product.specs.Answer.{conditions, marked, answered, multiplied}
+use Rattle.rounding.specs.declared.Directed.{Directed}
+use Rattle.rounding.specs.declared.Signed.{Signed}
+use Rattle.factor.specs.declared.Factor.{Factor}
+use Rattle.marks.specs.AnswerLaws.{said_err}
+use Rattle.product.specs.declared.Device.{Device}
+use Rattle.product.specs.declared.Product.{Product}
+use Rattle.product.specs.Devices.{directed_on}
+use Rattle.product.specs.Answer.{marked, answered, multiplied}
 use Rattle.product.proofs.DeviceLaws.{formed}
-use Rattle.product.proofs.AnswerLaws.{let_through}
+use Rattle.product.proofs.AnswerLaws.{of_operands}
 use Rattle.product.proofs.multiply.Goals as goal
 
-pub product_of-requires : goal.product_of-requires
-product_of-requires c = let_through c.args.f c.args.x (judged_passed c.refusal_of.ensures c.in-Passed.is)
+-- what is made of what they let through
+abbrev made : Device → Factor × ℕ → Marked (Signed Product)
+made d p = answered p.0 (marked p.0 p.1 (directed_on d p.0 p.1))
+
+pub returns-in_err-o : goal.returns-in_err-o
+unfolding multiplied
+returns-in_err-o c = said_err _ c.from_residual.result c.from_residual.ensures.1 ∙ of_operands (made c.args.d) c.args.f c.args.x c.in_err-o.ensures
 
 pub marked-requires : goal.marked-requires
 marked-requires c =
-    let t = let_through c.args.f c.args.x (judged_passed c.refusal_of.ensures c.in-Passed.is) in
-    let is = formed c.args.d c.args.f t.0 c.args.x t.1 in
-    (t.0, t.1, rw c.product_of.ensures is.bits, rw c.product_of.ensures is.binade)
+    let o = c.in_ok-o.o in
+    let is = formed c.args.d o.factor o.sound o.significand o.in_range in
+    (rw c.product_on.ensures is.bits, rw c.product_on.ensures is.binade)
 
-pub returns-in-Refused : goal.returns-in-Refused
+pub returns : goal.returns
 unfolding multiplied
-returns-in-Refused c = judged_refused c.refusal_of.ensures c.in-Refused.is _
-
-pub returns-in-Passed : goal.returns-in-Passed
-unfolding multiplied
-returns-in-Passed c =
-    let f = c.args.f in
-    let none = judged_passed c.refusal_of.ensures c.in-Passed.is in
-    c.marked.ensures
-    ∙ ap (λ (v : DirectedProduct). accepted (answered f (marked f c.args.x v))) c.product_of.ensures
-    ∙ sym (none_refuses (conditions f c.args.x) _ none)
+returns c =
+    let o = c.in_ok-o.o in
+    ap accepted (c.marked.ensures ∙ ap (λ (v : Directed Product). answered o.factor (marked o.factor o.significand v)) c.product_on.ensures)
+    ∙ of_operands (made c.args.d) c.args.f c.args.x c.in_ok-o.ensures

@@ -1,22 +1,26 @@
 -- Refused, or the quotient of what 31 and 17 let through.
-use Rattle.std.proofs.Common.{sym, ap, ◌∙◌}
+use Rattle.std.specs.Prelude.{ℕ}
+use Rattle.std.proofs.Common.{ap, ◌∙◌}
 use Rattle.marks.specs.Answers.{accepted}
-use Rattle.marks.specs.AnswerLaws.{judged_passed, judged_refused, none_refuses}
-use Rattle.product.specs.Answer.{conditions}
-use Rattle.product.proofs.AnswerLaws.{let_through}
-use Rattle.quotient.specs.Quotient.{signed_quotient}
+use Rattle.rounding.specs.declared.Signed.{Signed}
+use Rattle.factor.specs.declared.Factor.{Factor}
+use Rattle.marks.specs.AnswerLaws.{said_err}
+use Rattle.product.proofs.AnswerLaws.{of_operands}
+use Rattle.quotient.specs.declared.Quotient.{Quotient}
+use Rattle.quotient.specs.Quotient.{directed_by, signed_quotient}
 use Rattle.quotient.specs.Answer.{divided}
 use Rattle.quotient.proofs.divide.Goals as goal
 
-pub quotient_of-requires : goal.quotient_of-requires
-quotient_of-requires c = let_through c.args.f c.args.x (judged_passed c.refusal_of.ensures c.in-Passed.is)
+-- what is made of what they let through
+abbrev made : Factor × ℕ → Signed Quotient
+made p = signed_quotient p.0.minus (directed_by p.0 p.1)
 
-pub returns-in-Refused : goal.returns-in-Refused
+pub returns-in_err-o : goal.returns-in_err-o
 unfolding divided
-returns-in-Refused c = judged_refused c.refusal_of.ensures c.in-Refused.is _
+returns-in_err-o c = said_err _ c.from_residual.result c.from_residual.ensures.1 ∙ of_operands made c.args.f c.args.x c.in_err-o.ensures
 
-pub returns-in-Passed : goal.returns-in-Passed
+pub returns : goal.returns
 unfolding divided
-returns-in-Passed c =
-    let f = c.args.f in
-    ap accepted (c.signed.ensures ∙ ap (signed_quotient f.minus) c.quotient_of.ensures) ∙ sym (none_refuses (conditions f c.args.x) _ (judged_passed c.refusal_of.ensures c.in-Passed.is))
+returns c =
+    let o = c.in_ok-o.o in
+    ap accepted (c.to_signed.ensures ∙ ap (signed_quotient o.factor.minus) c.quotient_of.ensures) ∙ of_operands made c.args.f c.args.x c.in_ok-o.ensures
