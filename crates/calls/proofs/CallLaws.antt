@@ -1,10 +1,8 @@
 -- Laws of one call, on every state: it is the one read off the row of suspects; what it does to the list; its searches and rounds; how many it tries at most and at least. Assumes nothing.
-use Rattle.std.specs.Prelude.{◌≡◌, Bool, ℕ, ◌+◌, ◌≤◌, min, length, drop}
+use Rattle.std.specs.Prelude.{◌≡◌, Bool, ℕ, ◌+◌, ◌≤◌, min, length, drop, Option, Some, None}
 use Rattle.std.proofs.Math.Path.{refl, ap}
 use Rattle.std.proofs.Common.{sym, ◌∙◌, arith, le_trans, mul-le-mul_left}
-use Rattle.marks.specs.Answers.{Refusal, number, none, judged, Outcome, refused, accepted}
-use Rattle.search.specs.declared.Place.{Place}
-use Rattle.search.specs.declared.Place.TheVariants.{At, Nowhere}
+use Rattle.marks.specs.Answers.{Judgement, number, none, judged, Outcome, refused, accepted}
 use Rattle.calls.specs.State.{State, Call, terms_of, Listing, entries, room_in}
 use Rattle.calls.specs.Engine.{stops_at, once, passed, Engine, handed, Laws, Lawful}
 use Rattle.calls.specs.Call.{conditions, Reply, Run, run_of, replied, sweep_call}
@@ -23,9 +21,9 @@ if_accepted f (refused n) p = tt
 if_accepted f (accepted a) p = f a p
 
 -- The state that is handed back tells where a call stopped.
-pub stop_is : {U : Type 0} (e : Engine U) (s : State U) (p : Place) → stop_of (handed e s p) ≡ p
-stop_is e s (At X) = refl
-stop_is e s Nowhere = refl
+pub stop_is : {U : Type 0} (e : Engine U) (s : State U) (p : Option ℕ) → stop_of (handed e s p) ≡ p
+stop_is e s (Some X) = refl
+stop_is e s None = refl
 
 module _ {U : Type 0} {suspect : U → ℕ → Bool} {e : Engine U} {B : U → ℕ} (lawful : Lawful suspect e B) (s : State U) (c : Call) where
   abbrev l : Listing
@@ -44,7 +42,7 @@ module _ {U : Type 0} {suspect : U → ℕ → Bool} {e : Engine U} {B : U → �
   laws_of r = lawful.laws s.over r.stands.sound
 
   -- the suspect that it stops at, or none
-  abbrev stop : Place
+  abbrev stop : Option ℕ
   stop = head_of (drop trials (row_ahead suspect e s))
 
   -- A sweep call by searches is the call read off the row of suspects: answer, state, list and counts.
@@ -52,7 +50,7 @@ module _ {U : Type 0} {suspect : U → ℕ → Bool} {e : Engine U} {B : U → �
   unfolding sweep_call
   by_row_lem = go (judged (conditions e s (terms_of c))) refl
     where
-      go : (v : Refusal) → judged (conditions e s (terms_of c)) ≡ v → replied e s c v (run_of e s c) ≡ replied e s c v by_row
+      go : (v : Judgement) → judged (conditions e s (terms_of c)) ≡ v → replied e s c v (run_of e s c) ≡ replied e s c v by_row
       go (number n) q = refl
       go none q =
           let r = ready lawful s (terms_of c) q in
@@ -62,7 +60,7 @@ module _ {U : Type 0} {suspect : U → ℕ → Bool} {e : Engine U} {B : U → �
   reply : (P : Reply U → Type 0) → ((n : ℕ) → P (replied e s c (number n) by_row)) → (Ready e s (terms_of c) → P (replied e s c none by_row)) → P (sweep_call e s c)
   reply P refuses accepts = rw by_row_lem (go (judged (conditions e s (terms_of c))) refl)
     where
-      go : (v : Refusal) → judged (conditions e s (terms_of c)) ≡ v → P (replied e s c v by_row)
+      go : (v : Judgement) → judged (conditions e s (terms_of c)) ≡ v → P (replied e s c v by_row)
       go (number n) q = refuses n
       go none q = accepts (ready lawful s (terms_of c) q)
 
@@ -77,7 +75,7 @@ module _ {U : Type 0} {suspect : U → ℕ → Bool} {e : Engine U} {B : U → �
   within : trials ≤ length (row_ahead suspect e s)
   within = tries_within (e.mark s.over) c.cap room (row_ahead suspect e s)
 
-  -- An accepted call's searches are as many as document 01 has it.
+  -- How many searches an accepted call makes.
   pub searches_right : IfAccepted (SearchesRight suspect e s (sweep_call e s c).state) (sweep_call e s c).answer
   searches_right =
       reply (λ r. IfAccepted (SearchesRight suspect e s r.state) r.answer) (λ n. tt)

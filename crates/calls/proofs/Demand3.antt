@@ -1,4 +1,4 @@
--- Demand 3, for every list of sweep calls from a new state. Assumes nothing.
+-- What whole sweeps owe, for every list of sweep calls from a new state. Assumes nothing.
 use Rattle.std.specs.Prelude.{◌≡◌, refl, Bool, false, ◌≢◌, ℕ, suc, ◌+◌, ◌*◌, ◌≤◌, length, take, drop}
 use Rattle.std.proofs.Common.{sym, ap, ◌∙◌, true≢false, arith, zero-add, mul-one}
 use Rattle.std.proofs.Math.Bool.{true}
@@ -104,7 +104,7 @@ module _ {U : Type 0} {suspect : U → ℕ → Bool} {e : Engine U} {B : U → �
           ample = each (λ s c r. IfAccepted (Ample suspect e s c) r.answer) (sweep_call e) (ample lawful) s calls;
         }
 
-  -- Demand 3: the list begins with a new state, over what is not refused.
+  -- What whole sweeps owe: the list begins with a new state, over what is not refused.
   pub whole_sweep : (u : U) (s : State U) → new_state e u ≡ accepted s → (calls : List Call) → Whole suspect e B (sweep_call e) s calls
   whole_sweep u s q calls =
       let good = only_accepted (e.new_faults u) (fresh e u) s q in

@@ -1,9 +1,7 @@
 -- Laws of the two halves as sections of a range: they are searched one after the other, every significand lies in one, and a call completes two at most. Assumes nothing.
-use Rattle.std.specs.Prelude.{Bool, ℕ, suc, ◌+◌, ◌≤◌, ◌<◌}
+use Rattle.std.specs.Prelude.{Bool, ℕ, suc, ◌+◌, ◌≤◌, ◌<◌, Option, Some, None}
 use Rattle.std.proofs.Common.{inl, inr, arith}
 use Rattle.std.proofs.Math.Decide.{dec_lt}
-use Rattle.search.specs.declared.Place.{Place}
-use Rattle.search.specs.declared.Place.TheVariants.{At, Nowhere}
 use Rattle.search.specs.declared.Found.{Found}
 use Rattle.search.specs.Finds.{LeastFrom}
 use Rattle.calls.specs.Engine.{Half, low, high, low_end, halves, stops_at, once, passed, AllOf, Chain, InSome, Finds, AtSuspect}
@@ -23,9 +21,9 @@ module _ (first_high first last : ℕ) (ordered : first ≤ last) (find : Half �
       go (no u) = inr (inl (omega arith, omega arith))
 
   -- A call completes at most both, or the low one where it stops at a suspect.
-  pub halves_span : (suspect : ℕ → Bool) (a : ℕ) (p : Place) → first ≤ a → AtSuspect suspect a last p → once (stops_at p) + passed (halves first_high first last find) a p ≤ 2
-  halves_span suspect a (At X) h q = omega (arith, passed_in (halves first_high first last find) a X (halves_tiled X (omega (arith, q.0)) q.1))
-  halves_span suspect a Nowhere h q = omega (arith, passed_few (halves first_high first last find) a Nowhere)
+  pub halves_span : (suspect : ℕ → Bool) (a : ℕ) (p : Option ℕ) → first ≤ a → AtSuspect suspect a last p → once (stops_at p) + passed (halves first_high first last find) a p ≤ 2
+  halves_span suspect a (Some X) h q = omega (arith, passed_in (halves first_high first last find) a X (halves_tiled X (omega (arith, q.0)) q.1))
+  halves_span suspect a None h q = omega (arith, passed_few (halves first_high first last find) a None)
 
   -- Each is searched as it must be, where the search in the low half finds the least suspect before the first high significand, and that in the high half from there on.
   pub halves_finds : (suspect : ℕ → Bool) (B : ℕ)

@@ -1,4 +1,4 @@
--- What request W6 demands of kits, as one record: demand 3, by the theorem of sweeps, and what it says of the factors in a kit. What stands in quotes is the request's. Assumes nothing.
+-- What whole sweeps of kits owe, as one record: what all whole sweeps do, by the theorem of sweeps, and what it says of the factors in a kit. Assumes nothing.
 use Rattle.std.specs.Prelude.{◌≡◌, Bool, true, ◌↔◌, List, [], ℕ, suc, ◌-◌, length}
 use Rattle.std.proofs.Common.{sym, ap, ◌∙◌}
 use Rattle.marks.specs.Answers.{accepted}
@@ -15,20 +15,20 @@ use Rattle.calls.proofs.KitRows.{joined_rows, list_of, lists_from, CleanKit, row
 
 -- For every list of kit calls from a new state, refused ones included, whatever their caps, lists and free places.
 pub record WholeKit {F U : Type 0} (suspect : U → ℕ → Bool) (d : Factors F U) (M : ℕ) (s : State (Kit F)) (calls : List Call) : Type 0 where
-  -- demand 3: of kits as it is of sweeps. An accepted call's rounds are at most "64 × (its trials + 2 × the number of those factors)", by the engine's `beyond`
+  -- what all whole sweeps owe. An accepted call's rounds are at most 64 × (its trials + 2 × the number of factors searched in), by the engine's `beyond`
   pub whole : Whole (suspect_in suspect d) (kit_engine d) (λ k. M) (sweep_call (kit_engine d)) s calls
   -- the plain kit sweep goes by the rows of the factors, joined in kit order
   pub rows : (fed_by (suspect_in suspect d) (kit_engine d) s.over).suspects ≡ joined_rows suspect d 0 (in_kit s.over)
-  -- "From a new state to the finish, .. joined calls list exactly what the separate sweeps list, in kit order"
+  -- from a new state to the finish, joined calls list exactly what the separate sweeps list, in kit order
   pub joins : (state_after (sweep_call (kit_engine d)) s calls).finished ≡ true → words_in (sweeps (sweep_call (kit_engine d)) s calls) ≡ lists_from d 0 (in_kit s.over)
-  -- "The kit is clean exactly if they list nothing, which is so exactly if every factor in it is."
+  -- the kit is clean exactly if they list nothing, which is so exactly if every factor in it is
   pub clean : (state_after (sweep_call (kit_engine d)) s calls).finished ≡ true → (words_in (sweeps (sweep_call (kit_engine d)) s calls) ≡ []) ↔ CleanKit d s.over
-  -- finished, "it then stands at the last factor and its last significand"
+  -- finished, it stands at the last factor and its last significand
   pub stands : (state_after (sweep_call (kit_engine d)) s calls).finished ≡ true
       → let t = state_after (sweep_call (kit_engine d)) s calls in (place_in t.next ≡ length (in_kit s.over) - 1) × (significand_in t.next ≡ last_in d (in_kit s.over))
 
 module _ {F U : Type 0} {suspect : U → ℕ → Bool} {d : Factors F U} {B : U → ℕ} {M : ℕ} (laws : FactorLaws suspect d B M) where
-  -- W6: the list begins with a new state, over a kit that is not refused.
+  -- The list begins with a new state, over a kit that is not refused.
   pub whole_kit : (k : Kit F) (s : State (Kit F)) → new_state (kit_engine d) k ≡ accepted s → (calls : List Call) → WholeKit suspect d M s calls
   whole_kit k s q calls =
       let good = only_accepted (kit_faults d.faulty d.alike k) (fresh (kit_engine d) k) s q in

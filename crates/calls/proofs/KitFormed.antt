@@ -1,20 +1,19 @@
 -- Laws of kits as they are formed: what 43 means, place by place, and that what stands past the number counts for nothing. Assumes nothing.
-use Rattle.std.specs.Prelude.{◌≡◌, Bool, false, ◌||◌, ◌↔◌, eqb, ltb, drop}
+use Rattle.std.specs.Prelude.{◌≡◌, Bool, false, ◌||◌, ◌↔◌, eqb, ltb, drop, Option, Some, None}
 use Rattle.std.proofs.Math.Path.{refl, ap, ap₂}
 use Rattle.std.proofs.Common.{◌∙◌, arith}
 use Rattle.std.proofs.Math.Bool.{true, not}
 use mathlib.Core.List.{List, [], ◌∷◌, ◌++◌}
 use Prim.Native.Nat.{ℕ, zero, suc, ◌-◌, ◌<◌}
 use Rattle.std.proofs.Math.ListN.{length}
-use Rattle.marks.specs.Answers.{Refusal, number, none, judged}
+use Rattle.marks.specs.Answers.{Judgement, number, none, judged}
 use Rattle.marks.specs.AnswerLaws.{or_false}
 use Rattle.marks.specs.declared.Mark.{Mark}
-use Rattle.search.specs.declared.Place.{Place}
-use Rattle.search.specs.declared.Place.TheVariants.{At, Nowhere}
 use Rattle.calls.specs.State.{State, Call, terms_of, listed, room_in}
 use Rattle.calls.specs.Engine.{Section, Engine, fresh, handed}
 use Rattle.calls.specs.Call.{Reply, Run, tried, searched, seek, stopped, run, conditions, replied, run_of, sweep_call}
-use Rattle.calls.specs.Kit.{Kit, in_kit, any_of, two_alike, kit_faults, position, place_in, significand_in, Factors, first_in, last_in, has_at, has_in, mark_at, mark_in, sections_from, entry_list, kit_engine}
+use Rattle.std.specs.List.{list_any}
+use Rattle.calls.specs.Kit.{Kit, in_kit, two_alike, kit_faults, position, place_in, significand_in, Factors, first_in, last_in, has_at, has_in, mark_at, mark_in, sections_from, entry_list, kit_engine}
 use Rattle.calls.proofs.KitLaws.{all_at, none_of}
 
 -- ---- 43
@@ -24,8 +23,7 @@ abbrev pub Apart : {F : Type 0} → (F → F → Type 0) → List F → Type 0
 Apart R l = (i j : ℕ) → i < j → (f g : _) (p q : List _) → drop i l ≡ f ∷ p → drop j l ≡ g ∷ q → R f g
 
 -- None of a list passes a test, where what stands at a place never does.
-none_placed : {F : Type 0} (t : F → Bool) (l : List F) → ((j : ℕ) (g : F) (q : List F) → drop j l ≡ g ∷ q → t g ≡ false) → any_of t l ≡ false
-unfolding any_of
+none_placed : {F : Type 0} (t : F → Bool) (l : List F) → ((j : ℕ) (g : F) (q : List F) → drop j l ≡ g ∷ q → t g ≡ false) → list_any t l ≡ false
 none_placed t [] h = refl
 none_placed t (f ∷ l) h = rw (h 0 f l refl) (none_placed t l (λ j. h (suc j)))
 
@@ -37,8 +35,8 @@ none_alike {F} alike l = (there l, back l)
     there : (l : List F) → two_alike alike l ≡ false → Apart (λ f g. alike f g ≡ false) l
     there (h ∷ l) n zero (suc j) k f g p q a b =
         let same : h ≡ f = cc in
-        rw (← same) (all_at (λ g. alike h g ≡ false) j l q g (none_of (alike h) l (or_false (any_of (alike h) l) (two_alike alike l) n).0) b)
-    there (h ∷ l) n (suc i) (suc j) k f g p q a b = there l (or_false (any_of (alike h) l) (two_alike alike l) n).1 i j (omega (arith, k)) f g p q a b
+        rw (← same) (all_at (λ g. alike h g ≡ false) j l q g (none_of (alike h) l (or_false (list_any (alike h) l) (two_alike alike l) n).0) b)
+    there (h ∷ l) n (suc i) (suc j) k f g p q a b = there l (or_false (list_any (alike h) l) (two_alike alike l) n).1 i j (omega (arith, k)) f g p q a b
     there l n i zero k f g p q a b = absurd (omega (arith, k))
     there [] n zero (suc j) k f g p q a b = let z : ◌≡◌ {A = ℕ} 0 1 = cc in absurd (omega arith)
     there [] n (suc i) (suc j) k f g p q a b = let z : ◌≡◌ {A = ℕ} 0 1 = cc in absurd (omega arith)
@@ -70,7 +68,7 @@ handing k r = record { answer = r.answer; state = state_over r.state.next r.stat
 module _ {F U : Type 0} (d : Factors F U) (k m : Kit F) (same : in_kit k ≡ in_kit m) (number_same : k.count ≡ m.count) where
   -- They are refused alike when they are formed,
   pub formed_same : kit_faults d.faulty d.alike k ≡ kit_faults d.faulty d.alike m
-  formed_same = λ i. (42, eqb (length (same i)) 0 || ltb 96 (number_same i)) ∷ (31, any_of d.faulty (same i)) ∷ (43, two_alike d.alike (same i)) ∷ []
+  formed_same = λ i. (42, eqb (length (same i)) 0 || ltb 96 (number_same i)) ∷ (31, list_any d.faulty (same i)) ∷ (43, two_alike d.alike (same i)) ∷ []
 
   -- a new state over either begins at the same position,
   pub begun_same : fresh (kit_engine d) k ≡ state_over ((kit_engine d).first m) false k
@@ -98,10 +96,10 @@ module _ {F U : Type 0} (d : Factors F U) (k m : Kit F) (same : in_kit k ≡ in_
         ap₂ (replied (kit_engine d) (on k) c) (ap (λ (l : List (ℕ × Bool)). judged (l ++ (33, finished) ∷ entry_list.refuses (terms_of c))) faults_same) (done_same c)
         ∙ go (judged (conditions (kit_engine d) (on m) (terms_of c))) (run_of (kit_engine d) (on m) c)
       where
-        stands : (p : Place) → let t = handed (kit_engine d) (on m) p in handed (kit_engine d) (on k) p ≡ state_over t.next t.finished k
-        stands (At X) = refl
-        stands Nowhere = ap (λ (l : List F). state_over (position (length l - 1) (last_in d l)) true k) same
+        stands : (p : Option ℕ) → let t = handed (kit_engine d) (on m) p in handed (kit_engine d) (on k) p ≡ state_over t.next t.finished k
+        stands (Some X) = refl
+        stands None = ap (λ (l : List F). state_over (position (length l - 1) (last_in d l)) true k) same
 
-        go : (v : Refusal) (r : Run) → replied (kit_engine d) (on k) c v r ≡ handing k (replied (kit_engine d) (on m) c v r)
+        go : (v : Judgement) (r : Run) → replied (kit_engine d) (on k) c v r ≡ handing k (replied (kit_engine d) (on m) c v r)
         go (number n) r = refl
         go none r = let other = replied (kit_engine d) (on m) c none r in ap (λ (s : State (Kit F)). record { answer = other.answer; state = s; list = other.list }) (stands r.left)

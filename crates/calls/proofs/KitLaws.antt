@@ -1,5 +1,5 @@
--- The engine of kits is lawful where that of its factors is: so demand 3 holds of kits by the theorem of sweeps. Assumes nothing.
-use Rattle.std.specs.Prelude.{◌≡◌, Bool, true, false, cond, not, ◌&&◌, ◌≢◌, eqb, ltb}
+-- The engine of kits is lawful where that of its factors is: so what whole sweeps owe holds of kits by the theorem of sweeps. Assumes nothing.
+use Rattle.std.specs.Prelude.{◌≡◌, Bool, true, false, cond, not, ◌&&◌, ◌≢◌, eqb, ltb, Option, Some, None}
 use Rattle.std.proofs.Math.Path.{refl, ap, subst}
 use Rattle.std.proofs.Common.{sym, ◌∙◌, true≢false, inl, inr, add-zero, ltb-false, le-ltb}
 use Rattle.std.proofs.Math.Bool.{and-false}
@@ -14,13 +14,12 @@ use Rattle.std.proofs.Math.Seq.{drop-drop}
 use Rattle.marks.specs.declared.Mark.TheVariants.{Right}
 use Rattle.marks.specs.Answers.{NoneHolds}
 use Rattle.marks.specs.AnswerLaws.{and_true, or_false}
-use Rattle.search.specs.declared.Place.{Place}
-use Rattle.search.specs.declared.Place.TheVariants.{At, Nowhere}
 use Rattle.search.specs.Finds.{LeastFrom}
 use Rattle.calls.specs.State.{State}
 use Rattle.calls.specs.Engine.{Section, start_in, past, stops_at, once, passed, Engine, handed, ListingLaws, AllOf, Chain, InSome, Finds, Laws, AtSuspect, Standing, Lawful}
 use Rattle.calls.proofs.SearchLaws.{passed_few, passed_in, chain_ends}
-use Rattle.calls.specs.Kit.{Kit, in_kit, any_of, kit_faults, place_size, position, place_in, significand_in, Factors, first_in, last_of, last_in, has_at, suspect_at, mark_at, has_in, suspect_in, mark_in, place_at, section_at, sections_from, entry_list, searched_in, kit_engine}
+use Rattle.std.specs.List.{list_any}
+use Rattle.calls.specs.Kit.{Kit, in_kit, kit_faults, place_size, position, place_in, significand_in, Factors, first_in, last_of, last_in, has_at, suspect_at, mark_at, has_in, suspect_in, mark_in, place_at, section_at, sections_from, entry_list, searched_in, kit_engine}
 
 -- ---- positions
 
@@ -44,10 +43,9 @@ all_at P (suc i) (g ∷ l) r f a e = all_at P i l r f a.1 e
 all_at P (suc i) [] r f a e = let z : ◌≡◌ {A = ℕ} 0 1 = cc in absurd (omega arith)
 
 -- Where none of a list passes a test, each fails it.
-pub none_of : {F : Type 0} (t : F → Bool) (l : List F) → any_of t l ≡ false → AllOf (λ f. t f ≡ false) l
-unfolding any_of
+pub none_of : {F : Type 0} (t : F → Bool) (l : List F) → list_any t l ≡ false → AllOf (λ f. t f ≡ false) l
 none_of t [] q = tt
-none_of t (f ∷ l) q = let o = or_false (t f) (any_of t l) q in (o.0, none_of t l o.1)
+none_of t (f ∷ l) q = let o = or_false (t f) (list_any t l) q in (o.0, none_of t l o.1)
 
 -- The last of a list stands at its last place.
 pub drop_last : {F : Type 0} (f : F) (l : List F) → drop (length l) (f ∷ l) ≡ last_of f l ∷ []
@@ -112,12 +110,12 @@ chain_within a b (s ∷ l) q =
     ((q.0, chain_ends l s.end b q.2), chain_within a b l (chain_from a b s.end l (omega (arith, q.0, q.1)) q.2))
 
 -- A section past the stop is not passed.
-passed_after : (c b a z : ℕ) (l : List Section) → Chain c b l → z < c → passed l a (At z) ≡ 0
+passed_after : (c b a z : ℕ) (l : List Section) → Chain c b l → z < c → passed l a (Some z) ≡ 0
 unfolding passed
 passed_after c b a z [] q h = refl
 passed_after c b a z (s ∷ l) q h = rw (lt-leb s.end z (omega (arith, q.0, q.1)), passed_after s.end b a z l q.2 (omega (arith, q.0, q.1)))
 
-passed_join : (k l : List Section) (a : ℕ) (p : Place) → passed (k ++ l) a p ≡ passed k a p + passed l a p
+passed_join : (k l : List Section) (a : ℕ) (p : Option ℕ) → passed (k ++ l) a p ≡ passed k a p + passed l a p
 unfolding passed
 passed_join [] l a p = omega arith
 passed_join (s ∷ k) l a p = omega (arith, passed_join k l a p)
@@ -135,7 +133,7 @@ module _ (i : ℕ) where
   at_some X (s ∷ l) (inr q) = inr (at_some X l q)
 
   -- one that a is past is not passed again
-  at_passed : (first b a : ℕ) (p : Place) (l : List Section) → AllOf (λ s. (first ≤ s.from) × (s.end ≤ b)) l → position i b ≤ a → passed (map (section_at i) l) a p ≡ 0
+  at_passed : (first b a : ℕ) (p : Option ℕ) (l : List Section) → AllOf (λ s. (first ≤ s.from) × (s.end ≤ b)) l → position i b ≤ a → passed (map (section_at i) l) a p ≡ 0
   unfolding passed
   at_passed first b a p [] w h = refl
   at_passed first b a p (s ∷ l) w h =
@@ -153,9 +151,9 @@ module _ (i : ℕ) where
         let e : position i Y ≡ Z = omega arith in
         subst (λ (z : ℕ). all z ≡ false) e (same Y (omega arith) (omega arith) ∙ q Y (omega arith) (omega arith))
 
-    at_least : (X end : ℕ) (p : Place) → first ≤ X → end ≤ suc last → LeastFrom own end X p → LeastFrom all (position i end) (position i X) (place_at i p)
-    at_least X end Nowhere h k q = clear X end h k q
-    at_least X end (At Y) h k q = (
+    at_least : (X end : ℕ) (p : Option ℕ) → first ≤ X → end ≤ suc last → LeastFrom own end X p → LeastFrom all (position i end) (position i X) (place_at i p)
+    at_least X end None h k q = clear X end h k q
+    at_least X end (Some Y) h k q = (
       omega (arith, q.0),
       (λ u. same Y (omega (arith, q.0)) (omega arith) ∙ q.1 (omega arith)),
       (λ Z u v w.
@@ -242,7 +240,7 @@ module _ {F U : Type 0} {suspect : U → ℕ → Bool} {d : Factors F U} {B : U 
       (subst (λ (z : ℕ). InSome (position z X) (sections_from d (suc i) l)) (omega arith) (sections_some j (suc i) l r f X q s))
 
   -- those of later places lie past a stop
-  passed_later : (i : ℕ) (l : List F) (a z : ℕ) → AllOf Passed l → z < position i 0 → passed (sections_from d i l) a (At z) ≡ 0
+  passed_later : (i : ℕ) (l : List F) (a z : ℕ) → AllOf Passed l → z < position i 0 → passed (sections_from d i l) a (Some z) ≡ 0
   unfolding sections_from passed
   passed_later i [] a z t h = refl
   passed_later i (f ∷ l) a z t h = passed_after _ _ a z (sections_from d i (f ∷ l)) (sections_chain i f l t) (omega arith)
@@ -344,7 +342,7 @@ module _ {F U : Type 0} {suspect : U → ℕ → Bool} {d : Factors F U} {B : U 
     -- ---- how many sections are passed
 
     -- those before the place of a
-    passed_from : (j i : ℕ) (l : List F) (a : ℕ) (p : Place) → AllOf Passed l → position (i + j) 0 ≤ a → passed (sections_from d i l) a p ≡ passed (sections_from d (i + j) (drop j l)) a p
+    passed_from : (j i : ℕ) (l : List F) (a : ℕ) (p : Option ℕ) → AllOf Passed l → position (i + j) 0 ≤ a → passed (sections_from d i l) a p ≡ passed (sections_from d (i + j) (drop j l)) a p
     unfolding sections_from passed
     passed_from zero i l a p t h = rw (add-zero i)
     passed_from (suc j) i [] a p t h = refl
@@ -360,7 +358,7 @@ module _ {F U : Type 0} {suspect : U → ℕ → Bool} {d : Factors F U} {B : U 
 
     -- up to a stop in the factor m places on
     passed_to : (m i : ℕ) (l r : List F) (g : F) (a X : ℕ) → AllOf Passed l → drop m l ≡ g ∷ r → X ≤ e.last (d.whole g) → InSome X (e.sections (d.whole g))
-        → suc (passed (sections_from d i l) a (At (position (i + m) X))) ≤ 2 * suc m
+        → suc (passed (sections_from d i l) a (Some (position (i + m) X))) ≤ 2 * suc m
     unfolding sections_from
     passed_to m i [] r g a X t q k s = absurd (omega (arith, drop_short m [] r g q))
     passed_to zero i (f ∷ l) r g a X t q k s =
@@ -371,7 +369,7 @@ module _ {F U : Type 0} {suspect : U → ℕ → Bool} {d : Factors F U} {B : U 
         let short = laws.short g (subst Passed same t.0) in
         omega (
           arith,
-          passed_join own (sections_from d (suc i) l) a (At z),
+          passed_join own (sections_from d (suc i) l) a (Some z),
           passed_in own a z inside,
           at_length i (e.sections (d.whole f)),
           laws.halved f,
@@ -381,8 +379,8 @@ module _ {F U : Type 0} {suspect : U → ℕ → Bool} {d : Factors F U} {B : U 
         let own : List Section = map (section_at i) (e.sections (d.whole f)) in
         let past : position (suc i + m) X ≡ position (i + suc m) X = omega arith in
         let z : ℕ = position (i + suc m) X in
-        let rest : suc (passed (sections_from d (suc i) l) a (At z)) ≤ 2 * suc m = subst (λ (y : ℕ). suc (passed (sections_from d (suc i) l) a (At y)) ≤ 2 * suc m) past (passed_to m (suc i) l r g a X t.1 q k s) in
-        omega (arith, passed_join own (sections_from d (suc i) l) a (At z), passed_few own a (At z), at_length i (e.sections (d.whole f)), laws.halved f)
+        let rest : suc (passed (sections_from d (suc i) l) a (Some z)) ≤ 2 * suc m = subst (λ (y : ℕ). suc (passed (sections_from d (suc i) l) a (Some y)) ≤ 2 * suc m) past (passed_to m (suc i) l r g a X t.1 q k s) in
+        omega (arith, passed_join own (sections_from d (suc i) l) a (Some z), passed_few own a (Some z), at_length i (e.sections (d.whole f)), laws.halved f)
 
     -- ---- first and last
 
@@ -499,30 +497,30 @@ module _ {F U : Type 0} {suspect : U → ℕ → Bool} {d : Factors F U} {B : U 
         finds = sections_find fs through 0 fs refl;
       }
 
-  kit_spans : (s : State (Kit F)) → Standing (kit_engine d) s → (p : Place) → AtSuspect (suspect_in suspect d s.over) s.next ((kit_engine d).last s.over) p
+  kit_spans : (s : State (Kit F)) → Standing (kit_engine d) s → (p : Option ℕ) → AtSuspect (suspect_in suspect d s.over) s.next ((kit_engine d).last s.over) p
       → once (stops_at p) + passed (sections_from d 0 (in_kit s.over)) s.next p ≤ 2 * searched_in s (handed (kit_engine d) s p)
   unfolding has_in suspect_in
-  kit_spans s stands (At z) q =
+  kit_spans s stands (Some z) q =
       let fs = in_kit s.over in
       let through = kit_through s.over stands.sound in
       let i : ℕ = place_in s.next in
       let p = (suspect_placed fs through z q.2).0 in
-      let before = passed_from fs through i 0 fs s.next (At z) through (omega arith) in
+      let before = passed_from fs through i 0 fs s.next (Some z) through (omega arith) in
       let m : ℕ = place_in z - i in
       let sum : i + m ≡ place_in z = omega (arith, q.0) in
       let at : drop m (drop i fs) ≡ p.factor ∷ p.rest = drop-drop m i fs ∙ ap (λ (n : ℕ). drop n fs) sum ∙ p.at in
       let inside = (laws_of p.factor p.passes).tiled (significand_in z) p.from p.upto (own_suspect fs through z p q.2) in
       let to = passed_to fs through m (0 + i) (drop i fs) p.rest p.factor s.next (significand_in z) (all_drop Passed i fs through) at p.upto inside in
       let same : position (0 + i + m) (significand_in z) ≡ z = omega (arith, q.0) in
-      let few : suc (passed (sections_from d (0 + i) (drop i fs)) s.next (At z)) ≤ 2 * suc m = subst (λ (y : ℕ). suc (passed (sections_from d (0 + i) (drop i fs)) s.next (At y)) ≤ 2 * suc m) same to in
+      let few : suc (passed (sections_from d (0 + i) (drop i fs)) s.next (Some z)) ≤ 2 * suc m = subst (λ (y : ℕ). suc (passed (sections_from d (0 + i) (drop i fs)) s.next (Some y)) ≤ 2 * suc m) same to in
       omega (arith, before, q.0)
-  kit_spans s stands Nowhere q =
+  kit_spans s stands None q =
       let fs = in_kit s.over in
       let through = kit_through s.over stands.sound in
       let some = kit_some s.over stands.sound in
       let i : ℕ = place_in s.next in
-      let before = passed_from fs through i 0 fs s.next Nowhere through (omega arith) in
-      let rest = passed_few (sections_from d (0 + i) (drop i fs)) s.next Nowhere in
+      let before = passed_from fs through i 0 fs s.next None through (omega arith) in
+      let rest = passed_few (sections_from d (0 + i) (drop i fs)) s.next None in
       let last = last_place fs through some in
       omega (arith, before, rest, sections_few (0 + i) (drop i fs), length-drop i fs)
 

@@ -1,5 +1,5 @@
 -- Laws for a loop over the factors of a kit: what the search in a factor finds is what the kit's search finds, and where it finds none, the kit's goes on in the next. Assumes nothing.
-use Rattle.std.specs.Prelude.{◌≡◌, Bool, cond, ◌⊎◌, ltb, drop}
+use Rattle.std.specs.Prelude.{◌≡◌, Bool, cond, ◌⊎◌, ltb, drop, Option, Some, None}
 use Rattle.std.proofs.Math.Path.{refl, sym, ap, ap₂, subst}
 use Rattle.std.proofs.Common.{◌∙◌, inl, inr, add_assoc, lt-ltb, le-ltb}
 use mathlib.Core.List.{List, [], ◌∷◌, ◌++◌, map, append_assoc, append-nil}
@@ -11,8 +11,6 @@ use Rattle.std.proofs.Math.ListN.{length, length-append}
 use Rattle.marks.specs.declared.Mark.{Mark}
 use Rattle.marks.specs.declared.Mark.TheVariants.{Right, Open, Wrong}
 use Rattle.marks.specs.Answers.{NoneHolds}
-use Rattle.search.specs.declared.Place.{Place}
-use Rattle.search.specs.declared.Place.TheVariants.{At, Nowhere}
 use Rattle.search.specs.declared.Found.{Found}
 use Rattle.calls.specs.State.{listed}
 use Rattle.calls.specs.Engine.{Section, start_in, Engine, AllOf, Chain}
@@ -28,12 +26,12 @@ use Rattle.calls.proofs.KitRows.{same_marks}
 -- ---- searches in lists of sections
 
 -- One search, or else another, or else a third.
-or_else_lem : (p : Place) (m : ℕ) (q : Place) (n : ℕ) (x : Found)
+or_else_lem : (p : Option ℕ) (m : ℕ) (q : Option ℕ) (n : ℕ) (x : Found)
     → let v : Found = record { place = p; rounds = m } in let w : Found = record { place = q; rounds = n } in
     or_else p v (or_else q w x) ≡ or_else (or_else p v w).place (or_else p v w) x
-or_else_lem (At X) m q n x = refl
-or_else_lem Nowhere m (At Y) n x = refl
-or_else_lem Nowhere m Nowhere n x = λ i. record { place = x.place; rounds = sym (add_assoc m n x.rounds) i }
+or_else_lem (Some X) m q n x = refl
+or_else_lem None m (Some Y) n x = refl
+or_else_lem None m None n x = λ i. record { place = x.place; rounds = sym (add_assoc m n x.rounds) i }
 
 -- The search in joined sections is that in the first ones, or else that in the others.
 seek_join : (k l : List Section) (a : ℕ) → seek (k ++ l) a ≡ or_else (seek k a).place (seek k a) (seek l a)
@@ -62,17 +60,17 @@ seek_before c b a x (s ∷ l) q h k =
 -- ---- at a place
 
 module _ (i : ℕ) where
-  within_at : (end : ℕ) (p : Place) → within (position i end) (place_at i p) ≡ place_at i (within end p)
-  within_at end Nowhere = refl
-  within_at end (At X) = go (dec_lt X end)
+  within_at : (end : ℕ) (p : Option ℕ) → within (position i end) (place_at i p) ≡ place_at i (within end p)
+  within_at end None = refl
+  within_at end (Some X) = go (dec_lt X end)
     where
-      go : Dec (X < end) → within (position i end) (At (position i X)) ≡ place_at i (within end (At X))
+      go : Dec (X < end) → within (position i end) (Some (position i X)) ≡ place_at i (within end (Some X))
       go (yes k) = rw (lt-ltb X end k, lt-ltb (position i X) (position i end) (omega arith))
       go (no k) = rw (le-ltb X end (omega arith), le-ltb (position i X) (position i end) (omega arith))
 
-  or_else_at : (p : Place) (m : ℕ) (x : Found) → or_else (place_at i p) (record { place = place_at i p; rounds = m }) (found_at i x) ≡ found_at i (or_else p (record { place = p; rounds = m }) x)
-  or_else_at (At X) m x = refl
-  or_else_at Nowhere m x = refl
+  or_else_at : (p : Option ℕ) (m : ℕ) (x : Found) → or_else (place_at i p) (record { place = place_at i p; rounds = m }) (found_at i x) ≡ found_at i (or_else p (record { place = p; rounds = m }) x)
+  or_else_at (Some X) m x = refl
+  or_else_at None m x = refl
 
   sought_at : (s : Section) (a : ℕ) → s.end ≤ place_size → sought (section_at i s) (position i a) ≡ found_at i (sought s a)
   sought_at s a h = go (dec_lt (start_in s a) s.end)
@@ -153,26 +151,26 @@ module _ {F U : Type 0} {suspect : U → ℕ → Bool} {d : Factors F U} {B : U 
     pub own_rounds : own.rounds ≤ (ahead (kit_engine d) k (position i a)).rounds
     own_rounds = rw ahead_at (go own.place own.rounds)
       where
-        go : (p : Place) (n : ℕ) → n ≤ (or_else (place_at i p) (record { place = place_at i p; rounds = n }) others).rounds
-        go (At X) n = omega arith
-        go Nowhere n = omega arith
+        go : (p : Option ℕ) (n : ℕ) → n ≤ (or_else (place_at i p) (record { place = place_at i p; rounds = n }) others).rounds
+        go (Some X) n = omega arith
+        go None n = omega arith
 
     -- A suspect that the factor's search finds is the one that the kit's finds.
-    pub kit_found : (X : ℕ) → own.place ≡ At X → ahead (kit_engine d) k (position i a) ≡ record { place = At (position i X); rounds = own.rounds }
+    pub kit_found : (X : ℕ) → own.place ≡ Some X → ahead (kit_engine d) k (position i a) ≡ record { place = Some (position i X); rounds = own.rounds }
     kit_found X q = ahead_at ∙ rw q refl
 
-    none_here : own.place ≡ Nowhere → ahead (kit_engine d) k (position i a) ≡ record { place = others.place; rounds = own.rounds + others.rounds }
+    none_here : own.place ≡ None → ahead (kit_engine d) k (position i a) ≡ record { place = others.place; rounds = own.rounds + others.rounds }
     none_here q = ahead_at ∙ rw q refl
 
   module _ (k : Kit F) (good : NoneHolds (kit_faults d.faulty d.alike k)) where
     -- Where the last factor's search finds none, neither does the kit's.
-    pub kit_over : (i : ℕ) (f : F) → drop i (in_kit k) ≡ f ∷ [] → (a : ℕ) → (ahead e (d.whole f) a).place ≡ Nowhere
+    pub kit_over : (i : ℕ) (f : F) → drop i (in_kit k) ≡ f ∷ [] → (a : ℕ) → (ahead e (d.whole f) a).place ≡ None
         → ahead (kit_engine d) k (position i a) ≡ none_after (ahead e (d.whole f) a).rounds
     unfolding sections_from seek
-    kit_over i f at a q = none_here k good i f [] at a q ∙ (λ j. record { place = Nowhere; rounds = add-zero (ahead e (d.whole f) a).rounds j })
+    kit_over i f at a q = none_here k good i f [] at a q ∙ (λ j. record { place = None; rounds = add-zero (ahead e (d.whole f) a).rounds j })
 
     -- Where another's finds none, the kit's goes on from the first significand of the next one.
-    pub kit_next : (i : ℕ) (f g : F) (r : List F) → drop i (in_kit k) ≡ f ∷ g ∷ r → (a : ℕ) → a ≤ suc (e.last (d.whole f)) → (ahead e (d.whole f) a).place ≡ Nowhere
+    pub kit_next : (i : ℕ) (f g : F) (r : List F) → drop i (in_kit k) ≡ f ∷ g ∷ r → (a : ℕ) → a ≤ suc (e.last (d.whole f)) → (ahead e (d.whole f) a).place ≡ None
         → let b = position (suc i) (e.first (d.whole g)) in
         ahead (kit_engine d) k (position i a) ≡ record { place = (ahead (kit_engine d) k b).place; rounds = (ahead e (d.whole f) a).rounds + (ahead (kit_engine d) k b).rounds }
     unfolding sections_from
@@ -194,17 +192,17 @@ abbrev pub word_at : (i w : ℕ) → ℕ
 word_at i w = i * (2 * place_size) + w
 
 -- What is done in a factor at a place, and, where no suspect is left there, what is done past it.
-abbrev pub join_at : (i : ℕ) → Run → Place → Run → Run
-join_at i r (At X) q = record { trials = r.trials; rounds = r.rounds; words = map (word_at i) r.words; left = At (position i X) }
-join_at i r Nowhere q = record { trials = r.trials + q.trials; rounds = r.rounds + q.rounds; words = map (word_at i) r.words ++ q.words; left = q.left }
+abbrev pub join_at : (i : ℕ) → Run → Option ℕ → Run → Run
+join_at i r (Some X) q = record { trials = r.trials; rounds = r.rounds; words = map (word_at i) r.words; left = Some (position i X) }
+join_at i r None q = record { trials = r.trials + q.trials; rounds = r.rounds + q.rounds; words = map (word_at i) r.words ++ q.words; left = q.left }
 
 -- What is left to do past a factor: nothing, where the call stops at a suspect.
-abbrev pub after_at : (i : ℕ) → Place → Run → Run
-after_at i (At X) q = stopped (position i X)
-after_at i Nowhere q = q
+abbrev pub after_at : (i : ℕ) → Option ℕ → Run → Run
+after_at i (Some X) q = stopped (position i X)
+after_at i None q = q
 
 -- What is done in the factor comes first.
-pub join_adds : (i : ℕ) (r : Run) (p : Place) (q : Run)
+pub join_adds : (i : ℕ) (r : Run) (p : Option ℕ) (q : Run)
     → join_at i r p q
     ≡ record {
       trials = r.trials + (after_at i p q).trials;
@@ -212,13 +210,13 @@ pub join_adds : (i : ℕ) (r : Run) (p : Place) (q : Run)
       words = map (word_at i) r.words ++ (after_at i p q).words;
       left = (after_at i p q).left;
     }
-join_adds i r Nowhere q = refl
-join_adds i r (At X) q =
+join_adds i r None q = refl
+join_adds i r (Some X) q =
     λ j. record {
       trials = sym (add-zero r.trials) j;
       rounds = sym (add-zero r.rounds) j;
       words = sym (append-nil (map (word_at i) r.words)) j;
-      left = At (position i X);
+      left = Some (position i X);
     }
 
 -- The listed word of a position is that of its significand, at the place.
@@ -232,7 +230,7 @@ map_join i [] l = refl
 map_join i (x ∷ k) l = ap (λ (m : List ℕ). word_at i x ∷ m) (map_join i k l)
 
 -- One more is tried before what is joined.
-join_tried : (i X n : ℕ) (m : Mark) (r q : Run) (p : Place)
+join_tried : (i X n : ℕ) (m : Mark) (r q : Run) (p : Option ℕ)
     → record {
       trials = suc (join_at i r p q).trials;
       rounds = n + (join_at i r p q).rounds;
@@ -240,8 +238,8 @@ join_tried : (i X n : ℕ) (m : Mark) (r q : Run) (p : Place)
       left = (join_at i r p q).left;
     }
     ≡ join_at i (record { trials = suc r.trials; rounds = n + r.rounds; words = listed m X ++ r.words; left = r.left }) p q
-join_tried i X n m r q (At Y) = rw (listed_at i X m, map_join i (listed m X) r.words)
-join_tried i X n m r q Nowhere =
+join_tried i X n m r q (Some Y) = rw (listed_at i X m, map_join i (listed m X) r.words)
+join_tried i X n m r q None =
     λ j. record { trials = sums j; rounds = sym (add_assoc n r.rounds q.rounds) j; words = words j; left = q.left }
   where
     sums : suc (r.trials + q.trials) ≡ suc r.trials + q.trials
@@ -265,16 +263,16 @@ module _ {F U : Type 0} {suspect : U → ℕ → Bool} {d : Factors F U} {B : U 
   past_it (g ∷ l) cap room = run (kit_engine d) k cap room (position (suc i) (d.engine.first (d.whole g)))
 
   -- where the search in the factor finds none, whatever cap and room are
-  passed_on : (cap room a : ℕ) → a ≤ suc (d.engine.last (d.whole f)) → (ahead d.engine (d.whole f) a).place ≡ Nowhere
+  passed_on : (cap room a : ℕ) → a ≤ suc (d.engine.last (d.whole f)) → (ahead d.engine (d.whole f) a).place ≡ None
       → run (kit_engine d) k cap room (position i a)
-      ≡ join_at i (record { trials = 0; rounds = (ahead d.engine (d.whole f) a).rounds + 0; words = []; left = Nowhere }) Nowhere (past_it r cap room)
+      ≡ join_at i (record { trials = 0; rounds = (ahead d.engine (d.whole f) a).rounds + 0; words = []; left = None }) None (past_it r cap room)
   passed_on cap room a upto q = go r at
     where
       n : ℕ
       n = (ahead d.engine (d.whole f) a).rounds
 
       go : (l : List F) → drop i (in_kit k) ≡ f ∷ l
-          → run (kit_engine d) k cap room (position i a) ≡ join_at i (record { trials = 0; rounds = n + 0; words = []; left = Nowhere }) Nowhere (past_it l cap room)
+          → run (kit_engine d) k cap room (position i a) ≡ join_at i (record { trials = 0; rounds = n + 0; words = []; left = None }) None (past_it l cap room)
       go [] e =
           let none = kit_over laws k good i f e a q in
           run_halts (kit_engine d) k cap room (position i a) (inl (ap (λ (w : Found). w.place) none))
@@ -300,20 +298,20 @@ module _ {F U : Type 0} {suspect : U → ℕ → Bool} {d : Factors F U} {B : U 
   Joined cap room a x = run (kit_engine d) k cap room (position i a) ≡ join_at i x x.left (past_it r (cap - x.trials) (room - length x.words))
 
   -- nothing is tried in the factor
-  halted_at : (cap room a : ℕ) → a ≤ suc (d.engine.last (d.whole f)) → ((found_here a).place ≡ Nowhere) ⊎ (cap ≡ 0) ⊎ (room ≡ 0) → Joined cap room a (here cap room a)
+  halted_at : (cap room a : ℕ) → a ≤ suc (d.engine.last (d.whole f)) → ((found_here a).place ≡ None) ⊎ (cap ≡ 0) ⊎ (room ≡ 0) → Joined cap room a (here cap room a)
   halted_at cap room a upto h = subst (Joined cap room a) (sym (run_halts d.engine (d.whole f) cap room a h)) (go (found_here a).place refl h)
     where
-      go : (p : Place) → (found_here a).place ≡ p → ((found_here a).place ≡ Nowhere) ⊎ (cap ≡ 0) ⊎ (room ≡ 0) → Joined cap room a (record { trials = 0; rounds = (found_here a).rounds + 0; words = []; left = p })
-      go (At X) q (inl e) = let z : ◌≡◌ {A = ℕ} 0 1 = cc in absurd (omega arith)
-      go (At X) q (inr e) =
+      go : (p : Option ℕ) → (found_here a).place ≡ p → ((found_here a).place ≡ None) ⊎ (cap ≡ 0) ⊎ (room ≡ 0) → Joined cap room a (record { trials = 0; rounds = (found_here a).rounds + 0; words = []; left = p })
+      go (Some X) q (inl e) = let z : ◌≡◌ {A = ℕ} 0 1 = cc in absurd (omega arith)
+      go (Some X) q (inr e) =
           let there = kit_found laws k good i f r at a X q in
           run_halts (kit_engine d) k cap room (position i a) (inr e) ∙ (λ j. record { trials = 0; rounds = (there j).rounds + 0; words = []; left = (there j).place })
-      go Nowhere q e =
+      go None q e =
           passed_on cap room a upto q
-          ∙ ap₂ (λ (c m : ℕ). join_at i (record { trials = 0; rounds = (found_here a).rounds + 0; words = []; left = Nowhere }) Nowhere (past_it r c m)) (sym (sub-zero cap)) (sym (sub-zero room))
+          ∙ ap₂ (λ (c m : ℕ). join_at i (record { trials = 0; rounds = (found_here a).rounds + 0; words = []; left = None }) None (past_it r c m)) (sym (sub-zero cap)) (sym (sub-zero room))
 
   -- a suspect of the factor is tried
-  tried_at : (cap room a X : ℕ) → d.engine.first (d.whole f) ≤ a → a ≤ suc (d.engine.last (d.whole f)) → (found_here a).place ≡ At X
+  tried_at : (cap room a X : ℕ) → d.engine.first (d.whole f) ≤ a → a ≤ suc (d.engine.last (d.whole f)) → (found_here a).place ≡ Some X
       → ((room b : ℕ) → d.engine.first (d.whole f) ≤ b → b ≤ suc (d.engine.last (d.whole f)) → Joined cap room b (here cap room b)) → Joined (suc cap) (suc room) a (here (suc cap) (suc room) a)
   unfolding mark_in
   tried_at cap room a X from upto q ih =
@@ -344,7 +342,7 @@ module _ {F U : Type 0} {suspect : U → ℕ → Bool} {d : Factors F U} {B : U 
   run_at (suc cap) zero a from upto = halted_at (suc cap) zero a upto (inr (inr refl))
   run_at (suc cap) (suc room) a from upto = go (found_here a).place refl (λ room b i j. run_at cap room b i j)
     where
-      go : (p : Place) → (found_here a).place ≡ p → ((room b : ℕ) → d.engine.first (d.whole f) ≤ b → b ≤ suc (d.engine.last (d.whole f)) → Joined cap room b (here cap room b))
+      go : (p : Option ℕ) → (found_here a).place ≡ p → ((room b : ℕ) → d.engine.first (d.whole f) ≤ b → b ≤ suc (d.engine.last (d.whole f)) → Joined cap room b (here cap room b))
           → Joined (suc cap) (suc room) a (here (suc cap) (suc room) a)
-      go Nowhere q ih = halted_at (suc cap) (suc room) a upto (inl q)
-      go (At X) q ih = tried_at cap room a X from upto q ih
+      go None q ih = halted_at (suc cap) (suc room) a upto (inl q)
+      go (Some X) q ih = tried_at cap room a X from upto q ih

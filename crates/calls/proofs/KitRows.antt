@@ -44,7 +44,7 @@ pairs_at i (w ∷ l) = i ∷ w ∷ pairs_at i l
 abbrev pub list_of : {F U : Type 0} → Factors F U → F → List ℕ
 list_of d f = words_of (d.engine.mark (d.whole f)) (span (d.engine.first (d.whole f)) (suc (d.engine.last (d.whole f))))
 
--- "what the separate sweeps list, in kit order", from a place on
+-- what the separate sweeps list, in kit order, from a place on
 unfoldable pub lists_from : {F U : Type 0} → Factors F U → (i : ℕ) → List F → List ℕ
 unfolding words_of span
 lists_from d i [] = []

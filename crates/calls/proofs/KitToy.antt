@@ -1,4 +1,4 @@
--- Examples: kits of the small engine's factors, of which what W6 demands holds, and calls of one worked out. Assumes nothing.
+-- Examples: kits of the small engine's factors, of which what whole sweeps of kits owe holds, and calls of one worked out. Assumes nothing.
 use Rattle.std.specs.Prelude.{◌≡◌, refl, true, false, List, [], ◌∷◌, ◌++◌, map, ℕ, eqb, leb}
 use Rattle.std.proofs.Common.{ap, ◌∙◌, arith}
 use Rattle.marks.specs.Answers.{refused, accepted, answer}
@@ -8,7 +8,7 @@ use Rattle.calls.specs.Call.{new_state, Reply, seek, run, sweep_call}
 use Rattle.calls.specs.Plain.{tries, words_of, Fed, begun, plain_call, Seen, state_of, plains}
 use Rattle.calls.specs.Whole.{fed_by, plainly}
 use Rattle.calls.proofs.ListLaws.{word_laws}
-use Rattle.calls.specs.Kit.{Kit, any_of, two_alike, position, Factors, suspect_in, has_in, mark_in, sections_from, entry_list, kit_engine}
+use Rattle.calls.specs.Kit.{Kit, two_alike, position, Factors, suspect_in, has_in, mark_in, sections_from, entry_list, kit_engine}
 use Rattle.calls.proofs.KitLaws.{FactorLaws}
 use Rattle.calls.proofs.KitRows.{joined_rows, lists_from}
 use Rattle.calls.proofs.KitDemand.{WholeKit, whole_kit}
@@ -33,7 +33,7 @@ toys_laws =
       few = λ f q. omega arith;
     }
 
--- So what W6 demands holds of their kits.
+-- So what whole sweeps of kits owe holds of their kits.
 pub toy_kit_whole : (k : Kit ℕ) (s : State (Kit ℕ)) → new_state toy_kits k ≡ accepted s → (calls : List Call) → WholeKit toy.suspect_in toys 4 s calls
 toy_kit_whole = whole_kit toys_laws
 
@@ -50,20 +50,20 @@ abbrev end : State (Kit ℕ)
 end = record { over = three; next = position 2 127; finished = true }
 
 new : new_state toy_kits three ≡ accepted (at 0 64)
-unfolding answer any_of two_alike
+unfolding answer two_alike
 new = refl
 
 -- 31 comes before 43, and 43 looks at every two.
 refused_31 : new_state toy_kits (record { factors = 7 ∷ 7 ∷ []; count = 2 }) ≡ refused 31
-unfolding answer any_of two_alike
+unfolding answer two_alike
 refused_31 = refl
 
 refused_43 : new_state toy_kits (record { factors = 2 ∷ 6 ∷ 6 ∷ []; count = 3 }) ≡ refused 43
-unfolding answer any_of two_alike
+unfolding answer two_alike
 refused_43 = refl
 
 called : State (Kit ℕ) → (cap : ℕ) → List ℕ → (free : ℕ) → Reply (Kit ℕ)
-unfolding sweep_call run seek any_of two_alike has_in mark_in sections_from
+unfolding sweep_call run seek two_alike has_in mark_in sections_from
 called s cap list free = sweep_call toy_kits s (asked cap list free)
 
 -- The cap stops the first call in the second factor, at 78.

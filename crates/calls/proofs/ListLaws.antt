@@ -60,7 +60,7 @@ unfolding entries
 entries_map l m g [] a = refl
 entries_map l m g (w ∷ words) a = ap₂ (λ (x y : List ℕ). x ++ y) a.0 (entries_map l m g words a.1)
 
--- Document 01's entries are the listed words themselves.
+-- A sweep's entries are the listed words themselves.
 pub entries_are : (w : List ℕ) → entries word_list w ≡ w
 unfolding entries
 entries_are [] = refl
@@ -70,8 +70,8 @@ entries_are (x ∷ w) = ap (λ (z : List ℕ). x ∷ z) (entries_are w)
 pub room_is : (size place : ℕ) → room_in word_list size place ≡ size - place
 room_is size place = div-one (size - place)
 
--- The plain sweep with these lists, in document 01's words: "If it is finished, a call is refused with 33; otherwise cap 0 with 18; otherwise a first free place at or past the list's end with 19";
--- "f free places, f being the list's length less the first free place".
+-- The plain sweep with these lists: if it is finished, a call is refused with 33; otherwise cap 0 with 18; otherwise a first free place at or past the list's end with 19;
+-- it has f free places, f being the list's length less the first free place.
 pub plain_call_lem : {U : Type 0} (w : Fed U) → w.listing ≡ word_list → (p : Plain) (t : Terms)
     → plain_call w p t
     ≡ plain_replied w p t.free (judged ((33, p.finished) ∷ (18, eqb t.cap 0) ∷ (19, leb t.size t.free) ∷ [])) (tries w.mark t.cap (t.size - t.free) (untried w p))

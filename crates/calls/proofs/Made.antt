@@ -1,4 +1,4 @@
--- Calls that were made, as whoever made them keeps them: what they kept to of an account of calls, and that demand 3 of what was asked then speaks of what was answered. Assumes nothing.
+-- Calls that were made, as whoever made them keeps them: what they kept to of an account of calls, and that what whole sweeps owe of what was asked then speaks of what was answered. Assumes nothing.
 use Rattle.std.specs.Prelude.{◌≡◌}
 use Rattle.std.proofs.Math.Path.{refl, ap}
 use Rattle.std.proofs.Common.{◌∙◌}

@@ -1,10 +1,8 @@
 -- Laws of the refusals: what a call and its state have where none is judged. Assumes nothing.
 use Rattle.std.proofs.Math.Path.{◌≡◌, refl}
-use Rattle.std.specs.Prelude.{Bool, true, false, ◌||◌, ◌↔◌, [], ◌∷◌, ℕ, ◌-◌, ◌≤◌, ◌<◌, leb, ltb, length}
+use Rattle.std.specs.Prelude.{Bool, true, false, ◌||◌, ◌↔◌, [], ◌∷◌, ℕ, ◌-◌, ◌≤◌, ◌<◌, leb, ltb, length, Option, Some, None}
 use Rattle.std.proofs.Common.{arith, one-mul, le-div_iff_mul-le, le-leb, le-ltb, leb-true, ltb-false}
-use Rattle.marks.specs.Answers.{Refusal, number, none, judged, refused}
-use Rattle.search.specs.declared.Place.{Place}
-use Rattle.search.specs.declared.Place.TheVariants.{At, Nowhere}
+use Rattle.marks.specs.Answers.{Judgement, number, none, judged, refused}
 use Rattle.marks.specs.AnswerLaws.{judged_none, none_holds, and_true, or_false}
 use Rattle.calls.specs.State.{Range, State, in_range, out_of_range, Call, Terms, terms_of, Listing, room_in}
 use Rattle.calls.specs.Engine.{Engine, handed, ListingLaws, Standing, Lawful}
@@ -35,7 +33,7 @@ pub plain_reply : {U : Type 0} (w : Fed U) (p : Plain) (c : Call) (P : PlainRepl
 unfolding plain_call
 plain_reply w p c P refuses takes = go (plain_refusal w.listing p.finished (terms_of c)) refl
   where
-    go : (v : Refusal) → plain_refusal w.listing p.finished (terms_of c) ≡ v → P (plain_replied w p c.free v (tried_by w p c))
+    go : (v : Judgement) → plain_refusal w.listing p.finished (terms_of c) ≡ v → P (plain_replied w p c.free v (tried_by w p c))
     go (number n) q = refuses n
     go none q = takes q
 
@@ -85,7 +83,7 @@ module _ {U : Type 0} (e : Engine U) (s : State U) (c : Call) where
   unfolding sweep_call
   refused_same n = go (judged (conditions e s (terms_of c))) (run_of e s c)
     where
-      go : (v : Refusal) (r : Run) → (replied e s c v r).answer ≡ refused n → ((replied e s c v r).state ≡ s) × ((replied e s c v r).list ≡ c.list)
+      go : (v : Judgement) (r : Run) → (replied e s c v r).answer ≡ refused n → ((replied e s c v r).state ≡ s) × ((replied e s c v r).list ≡ c.list)
       go (number m) r q = (refl, refl)
       go none r q = let z : ◌≡◌ {A = ℕ} 0 1 = cc in absurd (omega arith)
 
@@ -94,10 +92,10 @@ module _ {U : Type 0} (e : Engine U) (s : State U) (c : Call) where
   unfolding sweep_call
   over_kept = go (judged (conditions e s (terms_of c))) (run_of e s c)
     where
-      over : (p : Place) → (handed e s p).over ≡ s.over
-      over (At X) = refl
-      over Nowhere = refl
+      over : (p : Option ℕ) → (handed e s p).over ≡ s.over
+      over (Some X) = refl
+      over None = refl
 
-      go : (v : Refusal) (r : Run) → (replied e s c v r).state.over ≡ s.over
+      go : (v : Judgement) (r : Run) → (replied e s c v r).state.over ≡ s.over
       go (number n) r = refl
       go none r = over r.left

@@ -1,12 +1,11 @@
 -- Laws: what a call does by searches is what the row of suspects says, and its rounds are few. Assumes nothing.
-use Rattle.std.specs.Prelude.{◌≡◌, Bool, drop}
+use Rattle.std.specs.Prelude.{◌≡◌, Bool, drop, Some}
 use Rattle.std.proofs.Math.Path.{refl}
 use Rattle.std.proofs.Common.{sym, ap, ◌∙◌, arith, mul-le-mul_left}
 use mathlib.Core.List.{List, [], ◌∷◌}
 use Prim.Native.Nat.{ℕ, zero, suc, ◌+◌, ◌-◌, ◌*◌, ◌≤◌}
 use Rattle.std.proofs.Math.Nat.{add-zero}
 use Rattle.std.proofs.Math.ListN.{length}
-use Rattle.search.specs.declared.Place.TheVariants.{At}
 use Rattle.search.specs.declared.Found.{Found}
 use Rattle.calls.specs.Engine.{stops_at, once, passed, Engine, Laws, AtSuspect}
 use Rattle.calls.specs.State.{listed}
@@ -41,10 +40,10 @@ module _ {U : Type 0} {suspect : ℕ → Bool} {e : Engine U} {u : U} {B : ℕ} 
       ∙ ap (to a) (rows_whole suspect (e.sections u) first last laws.chain laws.tiled a h k)
 
   -- A suspect that is found lies from a on, up to the last.
-  pub ahead_found : (a : ℕ) → first ≤ a → a ≤ suc last → (X : ℕ) → (ahead e u a).place ≡ At X → (a ≤ X) × (X ≤ last)
+  pub ahead_found : (a : ℕ) → first ≤ a → a ≤ suc last → (X : ℕ) → (ahead e u a).place ≡ Some X → (a ≤ X) × (X ≤ last)
   ahead_found a h k X q = go (row_from a) refl (sym (ap (λ (w : Found). w.place) (ahead_is a h k)) ∙ q)
     where
-      go : (l : List ℕ) → row_from a ≡ l → head_of l ≡ At X → (a ≤ X) × (X ≤ last)
+      go : (l : List ℕ) → row_from a ≡ l → head_of l ≡ Some X → (a ≤ X) × (X ≤ last)
       go [] r q = let z : ◌≡◌ {A = ℕ} 0 1 = cc in absurd (omega arith)
       go (x ∷ l) r q = let z = begins suspect a (suc last) 0 x l r in let e : x ≡ X = cc in (omega arith, omega arith)
 
@@ -76,7 +75,7 @@ module _ {U : Type 0} {suspect : ℕ → Bool} {e : Engine U} {u : U} {B : ℕ} 
             listed_length (e.mark u x) x,
             ih (suc free - not_right (e.mark u x)) (suc x) (omega (arith, z.from)) z.below,
             ← z.rest,
-            rounds_append (legs (e.sections u) a (At x)) (trail (e.sections u) (suc x) (tries (e.mark u) c (suc free - not_right (e.mark u x)) l) l),
+            rounds_append (legs (e.sections u) a (Some x)) (trail (e.sections u) (suc x) (tries (e.mark u) c (suc free - not_right (e.mark u x)) l) l),
           )
 
   -- ---- the rounds

@@ -4,7 +4,7 @@ use Rattle.std.proofs.Math.Path.{refl, ap}
 use Rattle.std.proofs.Common.{sym, ◌∙◌, true≢false, arith, drop-drop}
 use mathlib.Core.List.{List, [], ◌∷◌}
 use Prim.Native.Nat.{ℕ, suc, ◌+◌}
-use Rattle.marks.specs.Answers.{Refusal, number, none, judged, NoneHolds}
+use Rattle.marks.specs.Answers.{Judgement, number, none, judged, NoneHolds}
 use Rattle.marks.specs.AnswerLaws.{pass_all}
 use Rattle.calls.specs.State.{State, Call, terms_of, entries, room_in}
 use Rattle.calls.specs.Engine.{Engine, fresh, handed, Laws, Standing, Lawful}
@@ -56,7 +56,7 @@ module _ {U : Type 0} {suspect : U → ℕ → Bool} {e : Engine U} {B : U → �
       room : ℕ
       room = room_in w.listing (length c.list) c.free
 
-      go : (v : Refusal) → judged (conditions e (state_of w p) (terms_of c)) ≡ v
+      go : (v : Judgement) → judged (conditions e (state_of w p) (terms_of c)) ≡ v
           → seen c (replied e (state_of w p) c v (row_run e u p.next (tries (e.mark u) c.cap room (row (suspect u) p.next (suc w.last))) (row (suspect u) p.next (suc w.last))))
           ≡ record {
             told = (plain_replied w p c.free v (tries (e.mark u) c.cap room (untried w p))).told;

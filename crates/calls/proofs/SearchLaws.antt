@@ -1,5 +1,5 @@
 -- Laws of sections: the row of suspects is made of theirs, the searches in them lead to its first, and how many searches a call makes. Assumes nothing.
-use Rattle.std.specs.Prelude.{◌≡◌, Bool, cond, ◌&&◌, ltb, drop}
+use Rattle.std.specs.Prelude.{◌≡◌, Bool, cond, ◌&&◌, ltb, drop, Option, Some, None}
 use Rattle.std.proofs.Math.Path.{refl, sym, ap}
 use Rattle.std.proofs.Common.{◌∙◌, subst, inl, inr, zero-add, mul-add, mul-suc}
 use Rattle.std.proofs.Math.Bool.{true, false, not, not-eq-not}
@@ -10,8 +10,6 @@ use Rattle.std.proofs.Math.Nat.{add-zero}
 use Rattle.std.proofs.Math.Decide.{dec_le, dec_lt}
 use borrow.Author.Tests.{lt-ltb, le-ltb, le-leb, lt-leb, leb-true}
 use Rattle.std.proofs.Math.ListN.{length, length-append}
-use Rattle.search.specs.declared.Place.{Place}
-use Rattle.search.specs.declared.Place.TheVariants.{At, Nowhere}
 use Rattle.search.specs.declared.Found.{Found}
 use Rattle.search.specs.Finds.{LeastFrom}
 use Rattle.calls.specs.Engine.{Section, start_in, past, stops_at, once, passed, AllOf, Chain, InSome, Finds}
@@ -23,9 +21,9 @@ use Rattle.calls.proofs.RowLaws.{row_empty, row_at, row_none, row_skip, row_spli
 -- ---- places and ends
 
 -- What lies past an end lies past an earlier one.
-past_before : (c d : ℕ) (p : Place) → c ≤ d → past d p ≡ true → past c p ≡ true
-past_before c d (At X) h q = le-leb c X (omega (arith, leb-true d X q))
-past_before c d Nowhere h q = refl
+past_before : (c d : ℕ) (p : Option ℕ) → c ≤ d → past d p ≡ true → past c p ≡ true
+past_before c d (Some X) h q = le-leb c X (omega (arith, leb-true d X q))
+past_before c d None h q = refl
 
 -- ---- counts
 
@@ -34,17 +32,17 @@ pub once_few : (t : Bool) → once t ≤ 1
 once_few true = omega arith
 once_few false = omega arith
 
-pub passed_few : (l : List Section) (a : ℕ) (p : Place) → passed l a p ≤ length l
+pub passed_few : (l : List Section) (a : ℕ) (p : Option ℕ) → passed l a p ≤ length l
 unfolding passed
 passed_few [] a p = omega arith
 passed_few (s ∷ l) a p = omega (arith, passed_few l a p, once_few (past s.end p && ltb (start_in s a) s.end))
 
 -- The section that the stop lies in is not passed.
-pub passed_in : (l : List Section) (a X : ℕ) → InSome X l → suc (passed l a (At X)) ≤ length l
+pub passed_in : (l : List Section) (a X : ℕ) → InSome X l → suc (passed l a (Some X)) ≤ length l
 unfolding passed
 passed_in [] a X i = absurd i
-passed_in (s ∷ l) a X (inl i) = rw (lt-leb s.end X i.1) (omega (arith, passed_few l a (At X)))
-passed_in (s ∷ l) a X (inr i) = omega (arith, passed_in l a X i, once_few (past s.end (At X) && ltb (start_in s a) s.end))
+passed_in (s ∷ l) a X (inl i) = rw (lt-leb s.end X i.1) (omega (arith, passed_few l a (Some X)))
+passed_in (s ∷ l) a X (inr i) = omega (arith, passed_in l a X i, once_few (past s.end (Some X) && ltb (start_in s a) s.end))
 
 -- ---- sections that follow one another
 
@@ -108,11 +106,11 @@ module _ (suspect : ℕ → Bool) where
   -- ---- the searches
 
   -- The least suspect is the head of the row.
-  within_head : (end a : ℕ) (p : Place) → LeastFrom suspect end a p → within end p ≡ head_of (row suspect a end)
-  within_head end a Nowhere l = rw (row_none suspect a end l)
-  within_head end a (At X) l = go (dec_lt X end)
+  within_head : (end a : ℕ) (p : Option ℕ) → LeastFrom suspect end a p → within end p ≡ head_of (row suspect a end)
+  within_head end a None l = rw (row_none suspect a end l)
+  within_head end a (Some X) l = go (dec_lt X end)
     where
-      go : Dec (X < end) → within end (At X) ≡ head_of (row suspect a end)
+      go : Dec (X < end) → within end (Some X) ≡ head_of (row suspect a end)
       go (yes k) =
           rw (
             lt-ltb X end k,
@@ -185,7 +183,7 @@ module _ (suspect : ℕ → Bool) where
           rw (lt-ltb a end (omega arith), le-ltb (suc x) end (omega arith), e, s)
 
   -- Sections past the stop are not completed.
-  closings_later : (l : List Section) (c b a x : ℕ) → Chain c b l → x < c → closings suspect l a (At x) ≡ 0
+  closings_later : (l : List Section) (c b a x : ℕ) → Chain c b l → x < c → closings suspect l a (Some x) ≡ 0
   unfolding closings
   closings_later [] c b a x q h = refl
   closings_later (s ∷ l) c b a x q h =
@@ -219,8 +217,8 @@ module _ (suspect : ℕ → Bool) where
           rw (lt-ltb (start_in s a) s.end k, lt-leb s.end x z, closings_later l s.end b a x q.2 z)
 
   -- Where x is a suspect from a on and the call stops past it, the sections that are completed are those before x, and those from past x on.
-  closings_split : (l : List Section) (a x : ℕ) (stop : Place) → a ≤ x → suspect x ≡ true → past (suc x) stop ≡ true
-      → closings suspect l a (At x) + closings suspect l (suc x) stop ≡ closings suspect l a stop
+  closings_split : (l : List Section) (a x : ℕ) (stop : Option ℕ) → a ≤ x → suspect x ≡ true → past (suc x) stop ≡ true
+      → closings suspect l a (Some x) + closings suspect l (suc x) stop ≡ closings suspect l a stop
   unfolding closings
   closings_split [] a x stop h t q = refl
   closings_split (s ∷ l) a x stop h t q =
@@ -228,7 +226,7 @@ module _ (suspect : ℕ → Bool) where
     where
       -- this section's part
       one : Dec (s.end ≤ x) → Dec (s.from ≤ x)
-          → once (past s.end (At x) && closing suspect (start_in s a) s.end) + once (past s.end stop && closing suspect (start_in s (suc x)) s.end)
+          → once (past s.end (Some x) && closing suspect (start_in s a) s.end) + once (past s.end stop && closing suspect (start_in s (suc x)) s.end)
           ≡ once (past s.end stop && closing suspect (start_in s a) s.end)
       one (yes k) d =
           rw (
@@ -251,7 +249,7 @@ module _ (suspect : ℕ → Bool) where
           rw (lt-leb s.end x (omega arith), e, g) (zero-add (once (past s.end stop && closing suspect s.from s.end)))
 
   -- No more are completed than are passed.
-  closings_few : (l : List Section) (a : ℕ) (stop : Place) → closings suspect l a stop ≤ passed l a stop
+  closings_few : (l : List Section) (a : ℕ) (stop : Option ℕ) → closings suspect l a stop ≤ passed l a stop
   unfolding closings passed
   closings_few [] a stop = omega arith
   closings_few (s ∷ l) a stop = omega (arith, closings_few l a stop, go (past s.end stop) (ltb (start_in s a) s.end) (suspect (s.end - 1)))
@@ -293,7 +291,7 @@ module _ (suspect : ℕ → Bool) (sections : List Section) (first last : ℕ) (
       go [] q = refl
       go (y ∷ l) q = le-leb (suc x) y (begins suspect (suc x) (suc last) k y l q).from
 
-  -- A call from a on that tries k suspects makes as many searches as document 01 has it.
+  -- How many searches a call from a on makes that tries k suspects.
   pub searches_are : (k a : ℕ) → first ≤ a → a ≤ suc last → k ≤ length (row_from a) → Counted a k (row_from a)
   unfolding trail
   searches_are zero a h u fits = go (row_from a) (none_tried a h u)
@@ -312,13 +310,13 @@ module _ (suspect : ℕ → Bool) (sections : List Section) (first last : ℕ) (
           let later : Counted (suc x) k l = rw rest (ih (suc x) (omega (arith, z.from)) z.below (rw (← rest) (omega arith))) in
           let stops : past (suc x) (head_of (drop k l)) ≡ true = rw rest (rest_past x k) in
           let split = closings_split suspect sections a x (head_of (drop k l)) z.from (first_suspect suspect a (suc last) x l e) stops in
-          omega (arith, length-append (legs sections a (At x)) (trail sections (suc x) k l))
+          omega (arith, length-append (legs sections a (Some x)) (trail sections (suc x) k l))
 
   -- They are at most one for each trial, for the suspect stopped at and for each section passed.
   pub searches_few : (k a : ℕ) → first ≤ a → a ≤ suc last → k ≤ length (row_from a)
       → length (trail sections a k (row_from a)) ≤ k + (once (stops_at (head_of (drop k (row_from a)))) + passed sections a (head_of (drop k (row_from a))))
   searches_few k a h u fits =
-      let stop : Place = head_of (drop k (row_from a)) in
+      let stop : Option ℕ = head_of (drop k (row_from a)) in
       omega (arith, searches_are k a h u fits, closings_few suspect sections a stop)
 
 -- ---- the rounds
@@ -332,7 +330,7 @@ unfolding rounds_in
 rounds_append [] l = sym (zero-add (rounds_in l))
 rounds_append (w ∷ k) l = omega (arith, rounds_append k l)
 
-legs_few : (suspect : ℕ → Bool) (B : ℕ) (l : List Section) (a : ℕ) (p : Place) → AllOf (Finds suspect B) l → Few B (legs l a p)
+legs_few : (suspect : ℕ → Bool) (B : ℕ) (l : List Section) (a : ℕ) (p : Option ℕ) → AllOf (Finds suspect B) l → Few B (legs l a p)
 unfolding legs rounds_in
 legs_few suspect B [] a p f = omega arith
 legs_few suspect B (s ∷ l) a p f = go (dec_lt (start_in s a) s.end) (past s.end p) (legs_few suspect B l a p f.1)
@@ -352,8 +350,8 @@ legs_few suspect B (s ∷ l) a p f = go (dec_lt (start_in s a) s.end) (past s.en
 -- They are few of all searches of a call too.
 pub trail_few : (suspect : ℕ → Bool) (B : ℕ) (l : List Section) (a k : ℕ) (r : List ℕ) → AllOf (Finds suspect B) l → Few B (trail l a k r)
 unfolding trail
-trail_few suspect B l a k [] f = legs_few suspect B l a Nowhere f
-trail_few suspect B l a zero (x ∷ r) f = legs_few suspect B l a (At x) f
+trail_few suspect B l a k [] f = legs_few suspect B l a None f
+trail_few suspect B l a zero (x ∷ r) f = legs_few suspect B l a (Some x) f
 trail_few suspect B l a (suc k) (x ∷ r) f =
-    rw (rounds_append (legs l a (At x)) (trail l (suc x) k r), length-append (legs l a (At x)) (trail l (suc x) k r), mul-add B)
-    (omega (arith, legs_few suspect B l a (At x) f, trail_few suspect B l (suc x) k r f))
+    rw (rounds_append (legs l a (Some x)) (trail l (suc x) k r), length-append (legs l a (Some x)) (trail l (suc x) k r), mul-add B)
+    (omega (arith, legs_few suspect B l a (Some x) f, trail_few suspect B l (suc x) k r f))

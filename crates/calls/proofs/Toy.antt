@@ -1,12 +1,11 @@
--- Examples: a small engine of which the laws hold, so that demand 3 holds of it, and calls of it worked out. Assumes nothing.
-use Rattle.std.specs.Prelude.{◌≡◌, refl, Bool, true, false, cond, not, ◌||◌, ◌≢◌, List, [], ◌∷◌, ℕ, suc, ◌+◌, ◌-◌, ◌*◌, ◌/◌, ◌%◌, ◌≤◌, eqb, ltb, leb}
+-- Examples: a small engine of which the laws hold, so that what whole sweeps owe holds of it, and calls of it worked out. Assumes nothing.
+use Rattle.std.specs.Prelude.{◌≡◌, refl, Bool, true, false, cond, not, ◌||◌, ◌≢◌, List, [], ◌∷◌, ℕ, suc, ◌+◌, ◌-◌, ◌*◌, ◌/◌, ◌%◌, ◌≤◌, eqb, ltb, leb, Some, None}
 use Rattle.std.proofs.Common.{arith, eq-eqb, ne_eqb, le-ltb, ltb-false}
 use Rattle.std.proofs.lemmas.Bool.{eqb-false}
 use Rattle.marks.specs.declared.Mark.{Mark}
 use Rattle.marks.specs.declared.Mark.TheVariants.{Right, Open, Wrong}
 use Rattle.marks.specs.Answers.{refused, accepted, answer}
 use Rattle.marks.specs.AnswerLaws.{or_false}
-use Rattle.search.specs.declared.Place.TheVariants.{At, Nowhere}
 use Rattle.search.specs.declared.Found.{Found}
 use Rattle.search.specs.Finds.{LeastFrom}
 use Rattle.calls.specs.State.{Range, State, in_range, out_of_range, Call, Listing, word_list}
@@ -32,7 +31,7 @@ toy_rounds low a = a % 5
 toy_rounds high a = a % 3
 
 abbrev toy_find : ℕ → Half → ℕ → Found
-toy_find f h a = record { place = At (a + (6 * (a + f)) % 7); rounds = toy_rounds h a }
+toy_find f h a = record { place = Some (a + (6 * (a + f)) % 7); rounds = toy_rounds h a }
 
 abbrev bad_range : ℕ → ℕ → Bool
 bad_range first last = ltb first 64 || leb 128 last || ltb last first
@@ -77,7 +76,7 @@ two_laws =
       tails = λ t h. (h.0, (h.1.0, (le-ltb (t.size - t.free - 0) 2 (omega (arith, ltb-false (t.size - t.free) 2 h.1.1.0)), tt)));
     }
 
-least : (f end a : ℕ) → LeastFrom (toy_suspect f) end a (At (a + (6 * (a + f)) % 7))
+least : (f end a : ℕ) → LeastFrom (toy_suspect f) end a (Some (a + (6 * (a + f)) % 7))
 least f end a = (omega arith, (λ h. eq-eqb ((a + (6 * (a + f)) % 7 + f) % 7) 0 (omega arith)), λ Y u v w. ne_eqb ((Y + f) % 7) 0 (λ z. omega arith))
 
 few : (h : Half) (a : ℕ) → toy_rounds h a ≤ 4
@@ -119,7 +118,7 @@ toy_lawful {l} lists =
       spans = λ s h p q. let i = (between s.over s.next).0 h.there in halves_span 100 s.over.first s.over.last (omega arith) (toy_find s.over.factor) (suspect_in s.over) s.next p i.0 q;
     }
 
--- Demand 3 holds of it, however its lists are kept.
+-- What whole sweeps owe holds of it, however its lists are kept.
 pub toy_whole : (r : Range ℕ) (s : State (Range ℕ)) → new_state toy r ≡ accepted s → (calls : List Call) → Whole suspect_in toy (λ r. 4) (sweep_call toy) s calls
 toy_whole = whole_sweep (toy_lawful word_laws)
 
@@ -174,15 +173,15 @@ unfolding sweep_call run seek
 closing_call = refl
 
 -- The searches of these three: one for each trial and one for the suspect stopped at; of the second call also one that finds none in the low half, from 97 to 99; of the last no more than its trial's.
-first_searches : searches_of (toy_suspect 2) (toy.sections (ranged 2 81 127)) 81 2 (At 96) ≡ 3
+first_searches : searches_of (toy_suspect 2) (toy.sections (ranged 2 81 127)) 81 2 (Some 96) ≡ 3
 unfolding closings
 first_searches = refl
 
-resumed_searches : searches_of (toy_suspect 2) (toy.sections (ranged 2 81 127)) 96 4 (At 124) ≡ 6
+resumed_searches : searches_of (toy_suspect 2) (toy.sections (ranged 2 81 127)) 96 4 (Some 124) ≡ 6
 unfolding closings
 resumed_searches = refl
 
-closing_searches : searches_of (toy_suspect 2) (toy.sections (ranged 2 121 124)) 121 1 Nowhere ≡ 1
+closing_searches : searches_of (toy_suspect 2) (toy.sections (ranged 2 121 124)) 121 1 None ≡ 1
 unfolding closings
 closing_searches = refl
 

@@ -1,10 +1,8 @@
--- Definitions: a new state and a sweep call, by searches (document 01, "A sweep"), for every state, also one that no calls lead to. What stands in quotes is document 01's.
-use Rattle.std.specs.Prelude.{Bool, cond, List, [], ◌∷◌, ◌++◌, ℕ, zero, suc, ◌+◌, ◌-◌, ltb, length}
+-- Definitions: a new state and a sweep call, by searches, for every state, also one that no calls lead to.
+use Rattle.std.specs.Prelude.{Bool, cond, List, [], ◌∷◌, ◌++◌, ℕ, zero, suc, ◌+◌, ◌-◌, ltb, length, Option, Some, None}
 use Rattle.std.proofs.lemmas.List.Edits.{sets}
 use Rattle.marks.specs.declared.Mark.{Mark}
-use Rattle.marks.specs.Answers.{Refusal, number, none, judged, Outcome, refused, accepted, answer}
-use Rattle.search.specs.declared.Place.{Place}
-use Rattle.search.specs.declared.Place.TheVariants.{At, Nowhere}
+use Rattle.marks.specs.Answers.{Judgement, number, none, judged, Outcome, refused, accepted, answer}
 use Rattle.search.specs.declared.Found.{Found}
 use Rattle.calls.specs.State.{State, Call, Terms, terms_of, listed, entries, room_in}
 use Rattle.calls.specs.Engine.{Section, start_in, Engine, fresh, handed}
@@ -15,11 +13,11 @@ use Rattle.calls.specs.Engine.{Section, start_in, Engine, fresh, handed}
 abbrev pub new_state : {U : Type 0} → Engine U → U → Outcome (State U)
 new_state e u = answer (e.new_faults u) (fresh e u)
 
--- The conditions that refuse a call: "State comes before input; within a list the smaller number comes first".
+-- The conditions that refuse a call: state comes before input; within a list the smaller number comes first.
 abbrev pub conditions : {U : Type 0} → Engine U → State U → Terms → List (ℕ × Bool)
 conditions e s t = e.faults s ++ (33, s.finished) ∷ (e.listing s.over).refuses t
 
--- "The call returns its trials and rounds as numbers. It also returns the place after the last word written, which is the next first free place."
+-- The call returns its trials and rounds as numbers. It also returns the place after the last word written, which is the next first free place.
 pub record Result : Type 0 where
   pub trials : ℕ
   pub rounds : ℕ
@@ -37,25 +35,25 @@ Reply U = ReplyOf (State U)
 
 -- ---- the searches
 
--- "A place past the half or past the range is none found."
-abbrev pub within : ℕ → Place → Place
-within end (At X) = cond (ltb X end) (At X) Nowhere
-within end Nowhere = Nowhere
+-- A place past the half or past the range is none found.
+abbrev pub within : ℕ → Option ℕ → Option ℕ
+within end (Some X) = cond (ltb X end) (Some X) None
+within end None = None
 
 -- None found, after some rounds.
 abbrev pub none_after : ℕ → Found
-none_after n = record { place = Nowhere; rounds = n }
+none_after n = record { place = None; rounds = n }
 
 -- The search in a section, on the way from a on.
--- "A half in which no significand of the range is left is passed over without a search."
+-- A half in which no significand of the range is left is passed over without a search.
 abbrev pub sought : Section → (a : ℕ) → Found
 sought s a =
     cond (ltb (start_in s a) s.end) (record { place = within s.end (s.find (start_in s a)).place; rounds = (s.find (start_in s a)).rounds }) (none_after 0)
 
 -- The first search, where its place is one; otherwise the other, with the rounds of both.
-abbrev pub or_else : Place → Found → Found → Found
-or_else (At X) w other = w
-or_else Nowhere w other = record { place = other.place; rounds = w.rounds + other.rounds }
+abbrev pub or_else : Option ℕ → Found → Found → Found
+or_else (Some X) w other = w
+or_else None w other = record { place = other.place; rounds = w.rounds + other.rounds }
 
 -- The first suspect from a on in sections, one after another, with the rounds of the searches that lead to it.
 unfoldable pub seek : List Section → (a : ℕ) → Found
@@ -73,33 +71,33 @@ pub record Run : Type 0 where
   pub trials : ℕ
   pub rounds : ℕ
   pub words : List ℕ
-  pub left : Place
+  pub left : Option ℕ
 
 -- No suspect remains.
 abbrev pub over : Run
-over = record { trials = 0; rounds = 0; words = []; left = Nowhere }
+over = record { trials = 0; rounds = 0; words = []; left = None }
 
 -- The call stops before the suspect X.
 abbrev pub stopped : ℕ → Run
-stopped X = record { trials = 0; rounds = 0; words = []; left = At X }
+stopped X = record { trials = 0; rounds = 0; words = []; left = Some X }
 
--- X is tried, and the call goes on: "A trial takes the mark".
+-- X is tried, and the call goes on: a trial takes the mark.
 abbrev pub tried : Mark → ℕ → Run → Run
 tried m X r = record { trials = suc r.trials; rounds = r.rounds; words = listed m X ++ r.words; left = r.left }
 
 -- The call goes on as `go` says at a suspect; where there is none, it is over.
-abbrev pub met : Place → (ℕ → Run) → Run
-met (At X) go = go X
-met Nowhere go = over
+abbrev pub met : Option ℕ → (ℕ → Run) → Run
+met (Some X) go = go X
+met None go = over
 
--- "Its rounds are those of its searches added up."
+-- Its rounds are those of its searches added up.
 abbrev pub searched : Found → (ℕ → Run) → Run
 searched w go =
     let r = met w.place go in
     record { trials = r.trials; rounds = w.rounds + r.rounds; words = r.words; left = r.left }
 
 -- What a call does from a on, with a cap and room for a number of entries.
--- "Before each suspect is tried, the call stops if the cap is reached or no place is free".
+-- Before each suspect is tried, the call stops if the cap is reached or no place is free.
 unfoldable pub run : {U : Type 0} → Engine U → U → (cap free a : ℕ) → Run
 unfolding seek
 run e u zero free a = searched (ahead e u a) stopped
@@ -109,8 +107,8 @@ run e u (suc cap) (suc free) a =
 
 -- ---- the call
 
--- "A refusal returns the number, the state as given, no counts. The list is untouched." An accepted call writes the entries of its words from the first free place on.
-abbrev pub replied : {U : Type 0} → Engine U → State U → Call → Refusal → Run → Reply U
+-- A refusal returns the number, the state as given, no counts. The list is untouched. An accepted call writes the entries of its words from the first free place on.
+abbrev pub replied : {U : Type 0} → Engine U → State U → Call → Judgement → Run → Reply U
 replied e s c (number n) r = record { answer = refused n; state = s; list = c.list }
 replied e s c none r =
     let words = entries (e.listing s.over) r.words in

@@ -1,10 +1,8 @@
 -- Definitions: what is swept as a sweep sees it, and the few facts that the numerics must supply of it.
-use Rattle.std.specs.Prelude.{◌≡◌, Bool, true, false, cond, ◌&&◌, ◌≢◌, ◌⊎◌, ◌↔◌, List, [], ◌∷◌, ℕ, suc, ◌+◌, ◌-◌, ◌≤◌, ◌<◌, min, max, leb, ltb, length}
+use Rattle.std.specs.Prelude.{◌≡◌, Bool, true, false, cond, ◌&&◌, ◌≢◌, ◌⊎◌, ◌↔◌, List, [], ◌∷◌, ℕ, suc, ◌+◌, ◌-◌, ◌≤◌, ◌<◌, min, max, leb, ltb, length, Option, Some, None}
 use Rattle.marks.specs.declared.Mark.{Mark}
 use Rattle.marks.specs.declared.Mark.TheVariants.{Right}
 use Rattle.marks.specs.Answers.{NoneHolds}
-use Rattle.search.specs.declared.Place.{Place}
-use Rattle.search.specs.declared.Place.TheVariants.{At, Nowhere}
 use Rattle.search.specs.declared.Found.{Found}
 use Rattle.search.specs.Finds.{LeastFrom}
 use Rattle.calls.specs.State.{State, Terms, tail_terms, Listing}
@@ -18,7 +16,7 @@ pub record Section : Type 0 where
   pub end : ℕ
   pub find : ℕ → Found
 
--- The halves of the significands: "X is low if L × X < 2^(62+n), else high".
+-- The halves of the significands: X is low if L × X < 2^(62+n), L being the lower end, else high.
 pub data Half : Type 0 where
   low high : Half
 
@@ -26,7 +24,7 @@ pub data Half : Type 0 where
 abbrev pub low_end : (first_high first last : ℕ) → ℕ
 low_end first_high first last = max first (min first_high (suc last))
 
--- Both halves of a range: "Low X are searched before high X".
+-- Both halves of a range: low X are searched before high X.
 abbrev pub halves : (first_high first last : ℕ) → (Half → ℕ → Found) → List Section
 halves first_high first last find =
     record { from = first; end = low_end first_high first last; find = find low }
@@ -38,21 +36,21 @@ abbrev pub start_in : Section → ℕ → ℕ
 start_in s a = max a s.from
 
 -- Whether a place, or its absence, lies past an end.
-abbrev pub past : (end : ℕ) → Place → Bool
-past end (At X) = leb end X
-past end Nowhere = true
+abbrev pub past : (end : ℕ) → Option ℕ → Bool
+past end (Some X) = leb end X
+past end None = true
 
 -- Whether a call stops at a suspect, and so leaves some.
-abbrev pub stops_at : Place → Bool
-stops_at (At X) = true
-stops_at Nowhere = false
+abbrev pub stops_at : Option ℕ → Bool
+stops_at (Some X) = true
+stops_at None = false
 
 -- 1 where a test holds.
 abbrev pub once : Bool → ℕ
 once t = cond t 1 0
 
 -- How many sections with a significand from a on lie before a place.
-unfoldable pub passed : List Section → (a : ℕ) → Place → ℕ
+unfoldable pub passed : List Section → (a : ℕ) → Option ℕ → ℕ
 passed [] a p = 0
 passed (s ∷ l) a p = once (past s.end p && ltb (start_in s a) s.end) + passed l a p
 
@@ -77,18 +75,18 @@ pub record Engine (U : Type 0) : Type 0 where
   -- how many searches more than trials a call may make, by the states before and after it
   pub beyond : State U → State U → ℕ
 
--- "A new state has the first as next and is not finished."
+-- A new state has the first as next and is not finished.
 abbrev pub fresh : {U : Type 0} → Engine U → U → State U
 fresh e u = record { over = u; next = e.first u; finished = false }
 
--- "the next significand is then that suspect"; "the state is finished exactly when no suspect remains; the next significand is then the last of the range"
-abbrev pub handed : {U : Type 0} → Engine U → State U → Place → State U
-handed e s (At X) = record { over = s.over; next = X; finished = false }
-handed e s Nowhere = record { over = s.over; next = e.last s.over; finished = true }
+-- where a suspect is stopped at, it is the next significand; the state is finished exactly when no suspect remains, and the next significand is then the last of the range
+abbrev pub handed : {U : Type 0} → Engine U → State U → Option ℕ → State U
+handed e s (Some X) = record { over = s.over; next = X; finished = false }
+handed e s None = record { over = s.over; next = e.last s.over; finished = true }
 
 -- ---- what is asked of lists
 
--- What is asked of how lists are kept. Which calls are refused is the listing's own: demand 3 is about those that are not.
+-- What is asked of how lists are kept. Which calls are refused is the listing's own: what whole sweeps owe is about those that are not.
 pub record ListingLaws (l : Listing) : Type 0 where
   -- an entry takes a place
   pub some : 0 < l.places
@@ -136,7 +134,7 @@ pub record Laws {U : Type 0} (suspect : ℕ → Bool) (e : Engine U) (u : U) (B 
   pub had : (X : ℕ) → e.first u ≤ X → X ≤ e.last u → suspect X ≡ true → e.has u X ≡ true
   -- the lists are kept as they must be
   pub lists : ListingLaws (e.listing u)
-  -- "every X that is not right is a suspect"
+  -- every X that is not right is a suspect
   pub suspected : (X : ℕ) → e.first u ≤ X → X ≤ e.last u → e.mark u X ≢ Right → suspect X ≡ true
   -- the sections follow one another, every suspect lies in one, and each is searched as it must be
   pub chain : Chain (e.first u) (suc (e.last u)) (e.sections u)
@@ -144,9 +142,9 @@ pub record Laws {U : Type 0} (suspect : ℕ → Bool) (e : Engine U) (u : U) (B 
   pub finds : AllOf (Finds suspect B) (e.sections u)
 
 -- A place is a suspect from a to the last, or none.
-abbrev pub AtSuspect : (ℕ → Bool) → (a last : ℕ) → Place → Type 0
-AtSuspect suspect a last (At X) = (a ≤ X) × (X ≤ last) × (suspect X ≡ true)
-AtSuspect suspect a last Nowhere = Unit {0}
+abbrev pub AtSuspect : (ℕ → Bool) → (a last : ℕ) → Option ℕ → Type 0
+AtSuspect suspect a last (Some X) = (a ≤ X) × (X ≤ last) × (suspect X ≡ true)
+AtSuspect suspect a last None = Unit {0}
 
 -- A state over what a new one is not refused over, its next significand being one of that.
 pub record Standing {U : Type 0} (e : Engine U) (s : State U) : Type 0 where
@@ -158,5 +156,5 @@ pub record Lawful {U : Type 0} (suspect : U → ℕ → Bool) (e : Engine U) (B 
   pub states : (s : State U) → NoneHolds (e.faults s) ↔ Standing e s
   pub laws : (u : U) → NoneHolds (e.new_faults u) → Laws (suspect u) e u (B u)
   -- the sections that a call from a state to its stop completes, and the one of the suspect stopped at, are as few as they may be
-  pub spans : (s : State U) → Standing e s → (p : Place) → AtSuspect (suspect s.over) s.next (e.last s.over) p
+  pub spans : (s : State U) → Standing e s → (p : Option ℕ) → AtSuspect (suspect s.over) s.next (e.last s.over) p
       → once (stops_at p) + passed (e.sections s.over) s.next p ≤ e.beyond s (handed e s p)

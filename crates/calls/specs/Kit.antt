@@ -1,17 +1,16 @@
--- Definitions: a kit of factors and its sweep (request W6), over any type of factors. A kit is swept as a factor is: its significands are positions, a place and a significand as one number, and its sections are those of its factors, one after another.
--- So a kit call is `sweep_call`, a plain kit sweep is the plain sweep, and demand 3 is that of sweeps. What stands in quotes is the request's.
-use Rattle.std.specs.Prelude.{Bool, false, cond, not, ◌&&◌, ◌||◌, List, [], ◌∷◌, ◌++◌, map, ℕ, suc, ◌+◌, ◌-◌, ◌*◌, ◌/◌, ◌%◌, ◌^◌, eqb, ltb, length, take, drop}
+-- Definitions: a kit of factors and its sweep, over any type of factors. A kit is swept as a factor is: its significands are positions, a place and a significand as one number, and its sections are those of its factors, one after another.
+-- So a kit call is `sweep_call`, a plain kit sweep is the plain sweep, and what whole sweeps owe is owed of kits too.
+use Rattle.std.specs.Prelude.{Bool, false, cond, not, ◌&&◌, ◌||◌, List, [], ◌∷◌, ◌++◌, map, ℕ, suc, ◌+◌, ◌-◌, ◌*◌, ◌/◌, ◌%◌, ◌^◌, eqb, ltb, length, take, drop, Option, Some, None}
+use Rattle.std.specs.List.{list_any}
 use Rattle.marks.specs.declared.Mark.{Mark}
 use Rattle.marks.specs.declared.Mark.TheVariants.{Right}
-use Rattle.search.specs.declared.Place.{Place}
-use Rattle.search.specs.declared.Place.TheVariants.{At, Nowhere}
 use Rattle.search.specs.declared.Found.{Found}
 use Rattle.calls.specs.State.{State, Listing}
 use Rattle.calls.specs.Engine.{Section, Engine}
 
 -- ---- kits
 
--- "A kit holds up to 96 factors, stored by value with their number." F is the type of factors.
+-- A kit holds up to 96 factors, stored by value with their number. F is the type of factors.
 pub record Kit (F : Type 0) : Type 0 where
   pub factors : List F
   pub count : ℕ
@@ -20,22 +19,16 @@ pub record Kit (F : Type 0) : Type 0 where
 abbrev pub in_kit : {F : Type 0} → Kit F → List F
 in_kit k = take k.count k.factors
 
--- Whether a test holds for one of a list.
-unfoldable pub any_of : {F : Type 0} → (F → Bool) → List F → Bool
-any_of t [] = false
-any_of t (f ∷ l) = t f || any_of t l
-
 -- Whether two of a list are alike.
 unfoldable pub two_alike : {F : Type 0} → (F → F → Bool) → List F → Bool
-unfolding any_of
 two_alike alike [] = false
-two_alike alike (f ∷ l) = any_of (alike f) l || two_alike alike l
+two_alike alike (f ∷ l) = list_any (alike f) l || two_alike alike l
 
--- "Checks when a kit is formed: 42, kit empty or above 96, then 31, then 43, two factors alike"
+-- Checks when a kit is formed: 42, kit empty or above 96, then 31, then 43, two factors alike
 abbrev pub kit_faults : {F : Type 0} → (faulty : F → Bool) (alike : F → F → Bool) → Kit F → List (ℕ × Bool)
 kit_faults faulty alike k =
     (42, eqb (length (in_kit k)) 0 || ltb 96 k.count)
-    ∷ (31, any_of faulty (in_kit k))
+    ∷ (31, list_any faulty (in_kit k))
     ∷ (43, two_alike alike (in_kit k))
     ∷ []
 
@@ -103,9 +96,9 @@ mark_in d k z = mark_at d (drop (place_in z) (in_kit k)) (significand_in z)
 -- ---- sections
 
 -- What a search finds, in a factor at a place.
-abbrev pub place_at : ℕ → Place → Place
-place_at i (At X) = At (position i X)
-place_at i Nowhere = Nowhere
+abbrev pub place_at : ℕ → Option ℕ → Option ℕ
+place_at i (Some X) = Some (position i X)
+place_at i None = None
 
 abbrev pub found_at : ℕ → Found → Found
 found_at i w = record { place = place_at i w.place; rounds = w.rounds }
@@ -114,14 +107,14 @@ found_at i w = record { place = place_at i w.place; rounds = w.rounds }
 abbrev pub section_at : ℕ → Section → Section
 section_at i s = record { from = position i s.from; end = position i s.end; find = λ a. found_at i (s.find (significand_in a)) }
 
--- The sections of factors from a place on: "A kit sweep goes through them in order, over all significands of each".
+-- The sections of factors from a place on: a kit sweep goes through them in order, over all significands of each.
 unfoldable pub sections_from : {F U : Type 0} → Factors F U → (i : ℕ) → List F → List Section
 sections_from d i [] = []
 sections_from d i (f ∷ l) = map (section_at i) (d.engine.sections (d.whole f)) ++ sections_from d (suc i) l
 
 -- ---- lists
 
--- "an entry takes two words, the factor's place from 0 and the listed word of 01": a position's listed word is place × 2^65 plus its significand's. 18, "cap 0", and 44, "fewer than two free places".
+-- An entry takes two words, the factor's place from 0 and the word that a sweep lists: a position's listed word is place × 2^65 plus its significand's. 18, cap 0, and 44, fewer than two free places.
 abbrev pub entry_list : Listing
 entry_list =
     record {
@@ -132,12 +125,12 @@ entry_list =
 
 -- ---- the engine of kits
 
--- "the number of those factors" that a call searched in: from the one that it began in to the one that it ended in. In each of them a search is made: in the first since its next significand is one of that factor's,
+-- The number of factors that a call searched in: from the one that it began in to the one that it ended in. In each of them a search is made: in the first since its next significand is one of that factor's,
 -- in each later one from its first significand on.
 abbrev pub searched_in : {F : Type 0} → (before after : State (Kit F)) → ℕ
 searched_in s t = suc (place_in t.next) - place_in s.next
 
--- "A kit call repeats them, then 32, also for a place with no factor".
+-- A kit call repeats the checks of a kit, then 32, also for a place with no factor.
 abbrev pub kit_engine : {F U : Type 0} → Factors F U → Engine (Kit F)
 kit_engine d =
     record {

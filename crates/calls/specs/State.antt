@@ -1,4 +1,4 @@
--- Definitions: states, calls, words and how a list keeps them, which the call by searches and the plain sweep share. What stands in quotes is document 01's.
+-- Definitions: states, calls, words and how a list keeps them, which the call by searches and the plain sweep share.
 use Rattle.std.specs.Prelude.{Bool, ◌&&◌, ◌||◌, List, [], ◌∷◌, ◌++◌, ℕ, ◌+◌, ◌-◌, ◌*◌, ◌/◌, eqb, leb, ltb, length}
 use Rattle.marks.specs.declared.Mark.{Mark}
 use Rattle.marks.specs.declared.Mark.TheVariants.{Right, Open, Wrong}
@@ -11,7 +11,7 @@ pub record Range (F : Type 0) : Type 0 where
   pub first : ℕ
   pub last : ℕ
 
--- "A sweep state has the factor, the first, last and next significand and a finished mark." U is the type of what is swept: here a factor and a range, elsewhere a kit.
+-- A sweep state has the factor, the first, last and next significand and a finished mark. U is the type of what is swept: here a factor and a range, elsewhere a kit.
 pub record State (U : Type 0) : Type 0 where
   pub over : U
   pub next : ℕ
@@ -21,20 +21,20 @@ pub record State (U : Type 0) : Type 0 where
 abbrev pub in_range : {F : Type 0} → Range F → ℕ → Bool
 in_range r X = leb r.first X && leb X r.last
 
--- "the range is one that 17 refuses, or the next significand lies outside it"
+-- the range is one that 17 refuses, or the next significand lies outside it
 abbrev pub out_of_range : {F : Type 0} → (bad : Bool) → State (Range F) → Bool
 out_of_range bad s = bad || ltb s.next s.over.first || ltb s.over.last s.next
 
 -- ---- calls
 
--- "A call has the state, a cap on trials, a list of 32-bit words and its first free place." The state stands beside it, and the width of the words in bits is named.
+-- A call has the state, a cap on trials, a list of 32-bit words and its first free place. The state stands beside it, and the width of the words in bits is named.
 pub record Call : Type 0 where
   pub cap : ℕ
   pub width : ℕ
   pub list : List ℕ
   pub free : ℕ
 
--- What a call is judged by, and all that the plain sweep is told of it: its "cap, list length and first free place", and the width.
+-- What a call is judged by, and all that the plain sweep is told of it: its cap, list length and first free place, and the width.
 pub record Terms : Type 0 where
   pub cap : ℕ
   pub width : ℕ
@@ -50,7 +50,7 @@ tail_terms t = record { cap = t.cap; width = t.width; size = t.size - t.free; fr
 
 -- ---- words
 
--- "X is listed if open or wrong, as 2X, plus 1 for open."
+-- X is listed if open or wrong, as 2X, plus 1 for open.
 abbrev pub listed : Mark → ℕ → List ℕ
 listed Right X = []
 listed Open X = (2 * X + 1) ∷ []
@@ -74,6 +74,6 @@ entries l (w ∷ ws) = l.entry w ++ entries l ws
 abbrev pub room_in : Listing → (size place : ℕ) → ℕ
 room_in l size place = (size - place) / l.places
 
--- Document 01's lists: an entry is the listed word, in one place; 18, "cap 0", and 19, "first free place at or past the list's end".
+-- A sweep's lists: an entry is the listed word, in one place; 18, cap 0, and 19, first free place at or past the list's end.
 abbrev pub word_list : Listing
 word_list = record { refuses = λ t. (18, eqb t.cap 0) ∷ (19, leb t.size t.free) ∷ []; places = 1; entry = λ w. w ∷ [] }

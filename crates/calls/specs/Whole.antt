@@ -1,12 +1,10 @@
--- Definitions: lists of sweep calls (document 01, "Whole sweeps"), and demand 3 as one record. Demand 3 is in its own words; what stands in quotes is document 01's.
-use Rattle.std.specs.Prelude.{◌≡◌, Bool, true, cond, ◌⊎◌, ◌↔◌, ℕ, suc, ◌+◌, ◌*◌, ◌≤◌, ◌<◌, min, max, length, take, drop}
+-- Definitions: lists of sweep calls, each on the state that the one before returned, and what whole sweeps owe, as one record.
+use Rattle.std.specs.Prelude.{◌≡◌, Bool, true, cond, ◌⊎◌, ◌↔◌, ℕ, suc, ◌+◌, ◌*◌, ◌≤◌, ◌<◌, min, max, length, take, drop, Option, Some, None}
 use mathlib.Core.List.{List, [], ◌∷◌, ◌++◌, Memᴰ}
 use Rattle.std.proofs.Math.Seq.{slice}
 use Rattle.marks.specs.declared.Mark.{Mark}
 use Rattle.marks.specs.declared.Mark.TheVariants.{Open, Wrong}
 use Rattle.marks.specs.Answers.{Outcome, refused, accepted}
-use Rattle.search.specs.declared.Place.{Place}
-use Rattle.search.specs.declared.Place.TheVariants.{At, Nowhere}
 use Rattle.search.specs.declared.Found.{Found}
 use Rattle.calls.specs.State.{State, Call, Listing, entries, room_in}
 use Rattle.calls.specs.Engine.{Engine}
@@ -16,7 +14,7 @@ use Rattle.calls.specs.ByRow.{trail, rounds_in, searches_of, row_ahead}
 
 -- ---- what is seen of calls; `call` is any account of a call, good or bad
 
--- "A call's words are those from its first free place up to but not including the place it returns, read as it returns; a refused call has none."
+-- A call's words are those from its first free place up to but not including the place it returns, read as it returns; a refused call has none.
 abbrev pub told_by : Call → List ℕ → Outcome Result → Outcome Told
 told_by c list (refused n) = refused n
 told_by c list (accepted r) = accepted (record { trials = r.trials; place = r.place; words = slice c.free r.place list })
@@ -25,7 +23,7 @@ told_by c list (accepted r) = accepted (record { trials = r.trials; place = r.pl
 abbrev pub seen : {S : Type 0} → Call → ReplyOf S → SeenOf S
 seen c r = record { told = told_by c r.list r.answer; state = r.state }
 
--- What is seen of each call of a list. "Each call is given the state that the one before returned, refused or not".
+-- What is seen of each call of a list. Each call is given the state that the one before returned, refused or not.
 unfoldable pub sweeps : {S : Type 0} → (S → Call → ReplyOf S) → S → List Call → List (SeenOf S)
 sweeps call s [] = []
 sweeps call s (c ∷ cs) = seen c (call s c) ∷ sweeps call (call s c).state cs
@@ -77,9 +75,9 @@ unfoldable pub accepted_in : {S : Type 0} → List (SeenOf S) → ℕ
 accepted_in [] = 0
 accepted_in (x ∷ l) = accepted_told x.told + accepted_in l
 
--- ---- the parts of demand 3
+-- ---- the parts of what whole sweeps owe
 
--- The lent list after a call, over the list before it: "places before it and unused ones keep their words".
+-- The lent list after a call, over the list before it: places before it and unused ones keep their words.
 pub record Tail (c : Call) (place : ℕ) (list : List ℕ) : Type 0 where
   pub before : take c.free list ≡ take c.free c.list
   pub unused : drop place list ≡ drop place c.list
@@ -131,10 +129,10 @@ abbrev pub made_by : {U : Type 0} → (U → ℕ → Bool) → Engine U → Stat
 made_by suspect e s r = trail (e.sections s.over) s.next r.trials (row_ahead suspect e s)
 
 -- Where a call stopped, by the state that it hands back: at a suspect, or at none.
-abbrev pub stop_of : {U : Type 0} → State U → Place
-stop_of t = cond t.finished Nowhere (At t.next)
+abbrev pub stop_of : {U : Type 0} → State U → Option ℕ
+stop_of t = cond t.finished None (Some t.next)
 
--- An accepted call's searches are as many as document 01 has it; t is the state that it hands back.
+-- How many searches an accepted call makes; t is the state that it hands back.
 abbrev pub SearchesRight : {U : Type 0} → (U → ℕ → Bool) → Engine U → (s t : State U) → Result → Type 0
 SearchesRight suspect e s t r = length (made_by suspect e s r) ≡ searches_of (suspect s.over) (e.sections s.over) s.next r.trials (stop_of t)
 
@@ -143,7 +141,7 @@ pub record RoundsRight {U : Type 0} (suspect : U → ℕ → Bool) (e : Engine U
   pub are : r.rounds ≡ rounds_in (made_by suspect e s r)
   pub few : r.rounds ≤ B s.over * (r.trials + e.beyond s t)
 
--- "Trials are capped": an accepted call tries at most its cap.
+-- Trials are capped: an accepted call tries at most its cap.
 abbrev pub Capped : Call → Result → Type 0
 Capped c r = r.trials ≤ c.cap
 
@@ -164,11 +162,11 @@ plainly suspect e u calls = plains (state_of (fed_by suspect e u)) (fed_by suspe
 abbrev pub plain_end : {U : Type 0} → (U → ℕ → Bool) → Engine U → U → List Call → Plain
 plain_end suspect e u calls = plain_after (fed_by suspect e u) (begun (fed_by suspect e u)) calls
 
--- ---- demand 3
+-- ---- what whole sweeps owe
 
 -- For every list of sweep calls from a new state, refused ones included, whatever their caps, lists and free places. Each field says which of the engines that condition (c) names it shuts out.
 pub record Whole {U : Type 0} (suspect : U → ℕ → Bool) (e : Engine U) (B : U → ℕ) (call : State U → Call → Reply U) (s : State U) (calls : List Call) : Type 0 where
-  -- each call's answer, trials, words and state are those of document 01's plain sweep
+  -- each call's answer, trials, words and state are those of the plain sweep
   -- (shut out: one that lists all in its first call past the cap; invented trials)
   pub same : sweeps call s calls ≡ plainly suspect e s.over calls
   -- the words of a call are all that it writes: places before its first free place and unused ones are as they were, and a refused call leaves the list
@@ -182,10 +180,10 @@ pub record Whole {U : Type 0} (suspect : U → ℕ → Bool) (e : Engine U) (B :
   pub finished : ((state_after call s calls).finished ≡ true) ↔ ((1 ≤ accepted_in (sweeps call s calls)) × (trials_in (sweeps call s calls) ≡ length (fed_by suspect e s.over).suspects))
   -- within as many accepted calls as suspects, or one where there are none
   pub latest : max 1 (length (fed_by suspect e s.over).suspects) ≤ accepted_in (sweeps call s calls) → (state_after call s calls).finished ≡ true
-  -- "Trials are capped"
+  -- trials are capped
   -- (shut out: one that lists all in its first call past the cap)
   pub capped : Each (λ s c r. IfAccepted (Capped c) r.answer) call s calls
-  -- "one search for each suspect tried, one search that finds none for each half completed, and one for the suspect stopped at"
+  -- one search for each suspect tried, one search that finds none for each half completed, and one for the suspect stopped at
   pub searches : Each (λ s c r. IfAccepted (SearchesRight suspect e s r.state) r.answer) call s calls
   -- rounds are the searches' and few: at most B for each trial and for each search that the engine allows beyond them (of sweeps and of kits in numbers: `FewRounds` of either)
   -- (shut out: invented rounds)

@@ -1,3 +1,3 @@
-// The theory of sweep calls (document 01, "A sweep", "Whole sweeps", "The plain sweep"): definitions and laws in specs/, and no code.
+// The theory of sweep calls: a sweep, lists of its calls, and the plain sweep that knows no search. Definitions in specs/, laws in proofs/, and no code.
 
 #![tactic(auto)]

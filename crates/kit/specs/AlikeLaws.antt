@@ -1,7 +1,8 @@
--- Laws: two factors are alike exactly if they are described alike, and of a kit's that none are; and as code tests it, the lower ends first. Assumes nothing.
+-- Laws: two factors are alike exactly if they are described alike, and of a kit's that none are; and as code tests it, by their descriptions. Assumes nothing.
 use Rattle.std.specs.Prelude.{◌≡◌, refl, Bool, false, ◌&&◌, ◌≢◌, ◌↔◌, List, eqb, ℤ}
-use Rattle.std.proofs.Common.{sym, ap, ◌∙◌, subst, true≢false}
+use Rattle.std.proofs.Common.{sym, ap, ◌∙◌, subst, true≢false, int_eq}
 use Rattle.std.proofs.Math.Bool.{true, and-false, not-eq-not}
+use Rattle.std.proofs.lemmas.Bool.Decides.{same_from_decides, Decides-int_eq}
 use Rattle.std.specs.Bool.{beq}
 use borrow.Author.Tests.{eqb-true, eq-eqb}
 use Rattle.marks.specs.AnswerLaws.{and_true}
@@ -39,7 +40,7 @@ module _ (f g : Factor) where
           let d = and_true _ _ c.1 in
           λ i. record {
             minus = same_sign f.minus g.minus a.0 i;
-            precision = eqb-true f.precision.bits g.precision.bits b.0 i;
+            precision = eqb-true f.precision g.precision b.0 i;
             scale = same_z_true f.applied.scale g.applied.scale c.0 i;
             lower = eqb-true f.lower g.lower d.0 i;
             upper = eqb-true f.upper g.upper d.1 i;
@@ -49,23 +50,34 @@ module _ (f g : Factor) where
       back e =
           rw (
             sign_same f.minus g.minus (ap (λ (d : Description). d.minus) e),
-            eq-eqb f.precision.bits g.precision.bits (ap (λ (d : Description). d.precision) e),
+            eq-eqb f.precision g.precision (ap (λ (d : Description). d.precision) e),
             subst (λ (z : ℤ). same_z f.applied.scale z ≡ true) (ap (λ (d : Description). d.scale) e) (same_z_same f.applied.scale),
             eq-eqb f.lower g.lower (ap (λ (d : Description). d.lower) e),
             eq-eqb f.upper g.upper (ap (λ (d : Description). d.upper) e),
           )
 
-  -- ---- as code tests it
-  -- where the lower ends are the same, all else decides; `scales` is how code compares the scales
+-- ---- as code tests it
+-- numbers with a sign, compared by the machine, are compared by `same_z`
+scale_is : (x y : ℤ) → int_eq x y ≡ same_z x y
+scale_is x y = same_from_decides (int_eq x y) (same_z x y) (Decides-int_eq x y) (same_z_true x y, λ e. subst (λ (z : ℤ). same_z x z ≡ true) e (same_z_same x))
+
+-- the descriptions are compared field by field
+pub alike_is : {d e : Description} (f g : Factor) → d ≡ described f → e ≡ described g
+    → beq d.minus e.minus && (eqb d.precision e.precision && (int_eq d.scale e.scale && (eqb d.lower e.lower && eqb d.upper e.upper))) ≡ alike f g
+unfolding alike
+alike_is f g p q = rw (p, q, scale_is f.applied.scale g.applied.scale)
+
+module _ (f g : Factor) where
+  -- where the lower ends are the same, all else decides
   pub alike_rest : {scales : Bool} → eqb f.lower g.lower ≡ true → scales ≡ same_z f.applied.scale g.applied.scale
-      → beq f.minus g.minus && (eqb f.precision.bits g.precision.bits && (scales && eqb f.upper g.upper)) ≡ alike f g
+      → beq f.minus g.minus && (eqb f.precision g.precision && (scales && eqb f.upper g.upper)) ≡ alike f g
   unfolding alike
   alike_rest {scales} l s = rw (l, s)
 
   -- where they are not, the factors are not alike
   pub alike_apart : eqb f.lower g.lower ≡ false → false ≡ alike f g
   unfolding alike
-  alike_apart l = rw (l, and-false (same_z f.applied.scale g.applied.scale), and-false (eqb f.precision.bits g.precision.bits), and-false (beq f.minus g.minus))
+  alike_apart l = rw (l, and-false (same_z f.applied.scale g.applied.scale), and-false (eqb f.precision g.precision), and-false (beq f.minus g.minus))
 
 -- ---- of a list of factors
 

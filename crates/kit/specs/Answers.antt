@@ -1,8 +1,8 @@
--- Definitions: what the code's kits, states and answers say, in the papers' numbers and values. Assumes nothing.
-use Rattle.std.specs.Prelude.{◌≡◌, Bool, false, cond, List, ℕ, eqb, pos}
+-- Definitions: what the code's kits, states and answers say, in numbers and values. Assumes nothing.
+use Rattle.std.specs.Prelude.{Bool, cond, List, ℕ, eqb, false, pos, Result as Either}
 use Rattle.std.specs.Float.{nan}
-use Rattle.marks.specs.declared.Judgement.{Judgement}
-use Rattle.marks.specs.Answers.{Outcome, refused, accepted, answer}
+use Rattle.marks.specs.declared.Refusal.{Refusal}
+use Rattle.marks.specs.Answers.{Outcome, said, answer, each}
 use Rattle.factor.specs.declared.Factor.{Factor}
 use Rattle.calls.specs.State.{State}
 use Rattle.calls.specs.Call.{Result, ReplyOf}
@@ -10,11 +10,9 @@ use Rattle.calls.specs.Kit as calls
 use Rattle.calls.specs.Kit.{position}
 use Rattle.kit.specs.declared.Kit.{Kit}
 use Rattle.kit.specs.declared.KitState.{KitState}
-use Rattle.kit.specs.declared.NewKitSweep.{NewKitSweep}
 use Rattle.kit.specs.declared.KitCounts.{KitCounts}
-use Rattle.kit.specs.declared.KitAnswer.{KitAnswer}
 use Rattle.kit.specs.declared.KitReply.{KitReply}
-use Rattle.kit.specs.declared.Verdict.{Verdict}
+pub use Rattle.kit.specs.declared.Verdict.{Verdict}
 use Rattle.kit.specs.Engine.{kits}
 
 -- a kit: its factors and their number
@@ -26,7 +24,7 @@ abbrev pub no_factor : Factor
 no_factor =
     record {
       minus = false;
-      precision = record { bits = 0 };
+      precision = 0;
       lower = 0;
       upper = 0;
       parts = record { high = 0; low = pos 0; places = 0 };
@@ -38,49 +36,26 @@ abbrev pub view_of : KitState → State (calls.Kit Factor)
 view_of s = record { over = kit_of s.kit; next = position s.place s.next; finished = s.finished }
 
 -- the answer to a new kit sweep: a refusal its number, or the state
-abbrev pub new_by : KitState → Judgement → Outcome (State (calls.Kit Factor))
-new_by s (Judgement.Passed) = accepted (view_of s)
-new_by s (Judgement.Refused n) = refused n
-
--- beside a refusal stands a state that means nothing: the kit as given, at place 0 and significand 0, not finished
-abbrev Beside : Kit → KitState → Judgement → Type 0
-Beside k s (Judgement.Passed) = Unit {0}
-Beside k s (Judgement.Refused n) = s ≡ record { kit = k; place = 0; next = 0; finished = false }
-
-abbrev pub BesideRefusal : Kit → NewKitSweep → Type 0
-BesideRefusal k r = Beside k r.state r.verdict
-
-abbrev pub new_of : NewKitSweep → Outcome (State (calls.Kit Factor))
-new_of r = new_by r.state r.verdict
+abbrev pub new_of : Either KitState Refusal → Outcome (State (calls.Kit Factor))
+new_of r = each view_of (said r)
 
 -- what an accepted call returns as numbers
 abbrev pub result_of : KitCounts → Result
 result_of c = record { trials = c.trials; rounds = c.rounds; place = c.place }
 
 -- the answer to a kit call
-abbrev pub answer_of : KitAnswer → Outcome Result
-answer_of (KitAnswer.Accepted c) = accepted (result_of c)
-answer_of (KitAnswer.Refused n) = refused n
+abbrev pub answer_of : Either KitCounts Refusal → Outcome Result
+answer_of r = each result_of (said r)
 
 -- with the state, and the caller's list as it then is
 abbrev pub reply_of : KitReply → List ℕ → ReplyOf (State (calls.Kit Factor))
 reply_of r list = record { answer = answer_of r.answer; state = view_of r.state; list = list }
 
 -- ---- whether a kit is clean
--- what is told of a kit
-pub data Told : Type 0 where
-  clean not_clean unfinished : Told
-
 -- of a finished state only: clean where its calls wrote no entry since the new one
-abbrev pub told : (finished : Bool) (entries : ℕ) → Told
-told finished entries = cond finished (cond (eqb entries 0) clean not_clean) unfinished
+abbrev pub told : (finished : Bool) (entries : ℕ) → Verdict
+told finished entries = cond finished (cond (eqb entries 0) Verdict.Clean Verdict.NotClean) Verdict.Unfinished
 
 -- 42, 31, 43, 32, or what is told
-unfoldable pub verdict_of : State (calls.Kit Factor) → (entries : ℕ) → Outcome Told
+unfoldable pub verdict_of : State (calls.Kit Factor) → (entries : ℕ) → Outcome Verdict
 verdict_of s entries = answer (kits.faults s) (told s.finished entries)
-
-abbrev pub verdict_says : Verdict → Outcome Told
-verdict_says (Verdict.Clean) = accepted clean
-verdict_says (Verdict.NotClean) = accepted not_clean
-verdict_says (Verdict.Unfinished) = accepted unfinished
-verdict_says (Verdict.Refused n) = refused n

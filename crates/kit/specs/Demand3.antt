@@ -1,14 +1,14 @@
--- Demand 3 of kits of factors: of every list of calls that were made from a new state, each of them keeping the contract of `kit_call` at the state that the one before handed back.
--- `WholeKit` (in `calls`) has what request W6 demands of the calls that are asked; here it is said of those that were made, in the papers' words. What stands in quotes is W6's. Assumes nothing.
-use Rattle.std.specs.Prelude.{◌≡◌, refl, Bool, false, cond, ◌↔◌, eqb, length, drop}
+-- What whole sweeps of kits owe: of every list of calls that were made from a new state, each of them keeping the contract of `kit_call` at the state that the one before handed back.
+-- `WholeKit` (in `calls`) has it of the calls that are asked; here it is said of those that were made. Assumes nothing.
+use Rattle.std.specs.Prelude.{◌≡◌, refl, Bool, false, cond, ◌↔◌, eqb, length, drop, Ok, Err, Result as Either}
 use Rattle.std.proofs.Common.{sym, ◌∙◌, arith, eqb-true, pow_pos}
 use Rattle.std.proofs.Math.Path.{ap, subst}
 use Rattle.std.proofs.Math.Bool.{true}
 use mathlib.Core.List.{List, [], ◌∷◌, ◌++◌, Memᴰ}
 use Prim.Native.Nat.{ℕ, suc, ◌+◌, ◌-◌, ◌*◌, ◌/◌, ◌≤◌, ◌<◌}
 use Rattle.std.proofs.lemmas.Bool.{eqb-false}
-use Rattle.marks.specs.declared.Judgement.{Judgement}
-use Rattle.marks.specs.Answers.{NoneHolds, Outcome, refused, accepted}
+use Rattle.marks.specs.declared.Refusal.{Refusal}
+use Rattle.marks.specs.Answers.{NoneHolds, accepted, number_of, said}
 use Rattle.marks.specs.AnswerLaws.{only_accepted, none_refuses}
 use Rattle.rounding.specs.Round.{HasBits}
 use Rattle.factor.specs.declared.Factor.{Factor}
@@ -37,20 +37,16 @@ use Rattle.calls.proofs.KitLaws.{place_of, position_is, all_at, entry_laws, Pass
 use Rattle.calls.proofs.KitRows.{pairs_at, list_of, lists_from, CleanKit, same_marks}
 use Rattle.calls.proofs.KitDemand.{WholeKit, whole_kit, separate_lists}
 use Rattle.sweep.specs.declared.SweepState.{SweepState}
-use Rattle.sweep.specs.declared.NewSweep.{NewSweep}
 use Rattle.sweep.specs.Engine as sweep
 use Rattle.sweep.proofs.EngineLaws.{suspect_is, mark_is}
 use Rattle.sweep.specs.Answers as swept
 use Rattle.sweep.proofs.Demand3 as separate
 use Rattle.kit.specs.declared.Kit.{Kit}
 use Rattle.kit.specs.declared.KitState.{KitState}
-use Rattle.kit.specs.declared.NewKitSweep.{NewKitSweep}
-use Rattle.kit.specs.declared.KitAnswer.{KitAnswer}
 use Rattle.kit.specs.declared.KitReply.{KitReply}
-use Rattle.kit.specs.declared.Verdict.{Verdict}
 use Rattle.kit.specs.Engine.{whole, factors, kits}
 use Rattle.kit.specs.EngineLaws.{passed_sound, factor_laws, kits_lawful}
-use Rattle.kit.specs.Answers.{kit_of, view_of, new_of, answer_of, reply_of, Told, clean, not_clean, unfinished, told, verdict_of, verdict_says}
+use Rattle.kit.specs.Answers.{Verdict, kit_of, view_of, new_of, answer_of, reply_of, told, verdict_of}
 
 -- ---- the view loses nothing
 
@@ -74,10 +70,10 @@ searched_is s t h k = rw (place_of s.place s.next h, place_of t.place t.next k)
 -- A reply that keeps the contract of `kit_call`.
 module _ (s : KitState) (c : Call) (r : KitReply) (left : List ℕ) (keeps : reply_of r left ≡ sweep_call kits (view_of s) c) where
   -- A refusal hands back the state as given, and the list as it was.
-  pub refused_unaltered : s.next < place_size → r.state.next < place_size → (n : ℕ) → r.answer ≡ KitAnswer.Refused n → (r.state ≡ s) × (left ≡ c.list)
-  refused_unaltered h k n q =
+  pub refused_unaltered : s.next < place_size → r.state.next < place_size → (e : Refusal) → r.answer ≡ Err e → (r.state ≡ s) × (left ≡ c.list)
+  refused_unaltered h k e q =
       let answers = ap (λ (x : ReplyOf (State (kit.Kit Factor))). x.answer) (sym keeps) ∙ ap answer_of q in
-      let same = refused_same kits (view_of s) c n answers in (
+      let same = refused_same kits (view_of s) c (number_of e) answers in (
         view_tells r.state s k h (ap (λ (x : ReplyOf (State (kit.Kit Factor))). x.state) keeps ∙ same.0),
         ap (λ (x : ReplyOf (State (kit.Kit Factor))). x.list) keeps ∙ same.1,
       )
@@ -129,7 +125,7 @@ last_in = calls.last_in asked reply_in
 abbrev pub EachIn : (State (kit.Kit Factor) → Call → ReplyOf (State (kit.Kit Factor)) → Type 0) → State (kit.Kit Factor) → List Made → Type 0
 EachIn = calls.EachIn asked reply_in
 
--- how many entries they wrote: half their words, since "an entry takes two words"
+-- how many entries they wrote: half their words, since an entry takes two
 abbrev pub entries_in : List Made → ℕ
 entries_in made = length (words_in (seen_in made)) / 2
 
@@ -139,9 +135,9 @@ entries_in made = length (words_in (seen_in made)) / 2
 pub record Belongs (k : kit.Kit Factor) (z : ℕ) (f : Factor) : Type 0 where
   pub rest : List Factor
   pub at : drop (place_in z) (in_kit k) ≡ f ∷ rest
-  pub bits : HasBits f.precision.bits (significand_in z)
+  pub bits : HasBits f.precision (significand_in z)
 
--- A suspect of a kit is one of the factor at its place, by document 01's definition of one.
+-- A suspect of a kit is one of the factor at its place.
 pub record SuspectOf (k : kit.Kit Factor) (z : ℕ) : Type 0 where
   pub factor : Factor
   pub belongs : Belongs k z factor
@@ -150,7 +146,7 @@ pub record SuspectOf (k : kit.Kit Factor) (z : ℕ) : Type 0 where
 -- A separate sweep of a factor: `new_state` of `sweep` accepted a state over all its significands, and the calls made from it kept the contract of `sweep_call`, and led to the finish.
 pub record Separate (f : Factor) : Type 0 where
   pub start : SweepState
-  pub begun : swept.new_of (NewSweep.Accepted start) ≡ new_state sweep.engine (whole f)
+  pub begun : swept.new_of (Ok start) ≡ new_state sweep.engine (whole f)
   pub made : List separate.Made
   pub kept : separate.Kept (swept.view_of start) made
   pub finished : (separate.last_in (swept.view_of start) made).finished ≡ true
@@ -160,48 +156,48 @@ abbrev pub listed_by : (i : ℕ) (l : List Factor) → AllOf Separate l → List
 listed_by i [] a = []
 listed_by i (f ∷ l) a = pairs_at i (words_in (separate.seen_in a.0.made)) ++ listed_by (suc i) l a.1
 
--- ---- demand 3
+-- ---- whole sweeps
 
--- "trials and rounds added up over the factors it searched in; its rounds are at most 64 × (its trials + 2 × the number of those factors)", of an accepted call
+-- An accepted call's trials and rounds are added up over the factors that it searched in, and its rounds are at most 64 × (its trials + 2 × the number of those factors).
 abbrev pub FewRounds : (before : State (kit.Kit Factor)) → Call → ReplyOf (State (kit.Kit Factor)) → Type 0
 FewRounds s c r = IfAccepted (λ (a : Result). a.rounds ≤ 64 * (a.trials + 2 * searched_in s r.state)) r.answer
 
 -- The calls that were made from a state s.
 pub record KitDemand3 (s : State (kit.Kit Factor)) (made : List Made) : Type 0 where
-  -- the demand, sentence by sentence, of the calls that were asked
+  -- what whole sweeps owe, of the calls that were asked
   pub whole : WholeKit sweep.suspect_in factors 64 s (asked_in made)
   -- it speaks of the calls that were made: of their replies, of what is seen of them, and of the state that the last of them handed back
   pub replies : replies_in made ≡ replies_by (sweep_call kits) s (asked_in made)
   pub seen : seen_in made ≡ sweeps (sweep_call kits) s (asked_in made)
   pub last : last_in s made ≡ state_after (sweep_call kits) s (asked_in made)
-  -- the test for a suspect is document 01's definition of one, of the factor at the place
+  -- the test for a suspect is the definition of one, of the factor at the place
   pub suspects : (z : ℕ) → (suspect_in sweep.suspect_in factors s.over z ≡ true) ↔ SuspectOf s.over z
-  -- the row that the plain kit sweep is fed has all suspects of the kit's factors, ascending: in kit order, and those of a factor as document 01 has them
+  -- the row that the plain kit sweep is fed has all suspects of the kit's factors, ascending: in kit order, and those of a factor in theirs
   pub row : (z : ℕ) → Memᴰ z (fed_by (suspect_in sweep.suspect_in factors) kits s.over).suspects ↔ SuspectOf s.over z
   pub ascending : Ascends (kits.first s.over) (suc (kits.last s.over)) (fed_by (suspect_in sweep.suspect_in factors) kits s.over).suspects
-  -- marks are those of demand 2, of the factor at the place: the mark of its product, which says what it must of every fraction between its ends
+  -- marks are those of the factor at the place: the mark of its product, which says what it must of every fraction between its ends
   pub marks : (z : ℕ) (f : Factor) → Belongs s.over z f → (fed_by (suspect_in sweep.suspect_in factors) kits s.over).mark z ≡ mark_by f (significand_in z) (product_by f (significand_in z))
   pub tells : (z : ℕ) (f : Factor) → Belongs s.over z f → SaysBy f (significand_in z) (product_by f (significand_in z)) ((fed_by (suspect_in sweep.suspect_in factors) kits s.over).mark z)
   -- rounds are few
   pub rounds : EachIn FewRounds s made
-  -- "From a new state to the finish, each call on the state handed back, joined calls list exactly what the separate sweeps list, in kit order", whatever calls these are made of
+  -- from a new state to the finish, each call on the state handed back, joined calls list exactly what the separate sweeps list, in kit order, whatever calls these are made of
   pub joins : (last_in s made).finished ≡ true → (apart : AllOf Separate (in_kit s.over)) → words_in (seen_in made) ≡ listed_by 0 (in_kit s.over) apart
-  -- "The kit is clean exactly if they list nothing, which is so exactly if every factor in it is."
+  -- the kit is clean exactly if they list nothing, which is so exactly if every factor in it is
   pub nothing : (last_in s made).finished ≡ true → (words_in (seen_in made) ≡ []) ↔ CleanKit factors s.over
   -- and that is told by the state and the number of entries: clean exactly if the kit is, and not clean exactly if it is not; of a state that is not finished nothing is told
   pub pairs : length (words_in (seen_in made)) ≡ 2 * entries_in made
-  pub told_clean : (last_in s made).finished ≡ true → (verdict_of (last_in s made) (entries_in made) ≡ accepted clean) ↔ CleanKit factors s.over
-  pub told_not_clean : (last_in s made).finished ≡ true → (verdict_of (last_in s made) (entries_in made) ≡ accepted not_clean) ↔ ¬ CleanKit factors s.over
-  pub told_unfinished : (last_in s made).finished ≡ false → (n : ℕ) → verdict_of (last_in s made) n ≡ accepted unfinished
+  pub told_clean : (last_in s made).finished ≡ true → (verdict_of (last_in s made) (entries_in made) ≡ accepted Verdict.Clean) ↔ CleanKit factors s.over
+  pub told_not_clean : (last_in s made).finished ≡ true → (verdict_of (last_in s made) (entries_in made) ≡ accepted Verdict.NotClean) ↔ ¬ CleanKit factors s.over
+  pub told_unfinished : (last_in s made).finished ≡ false → (n : ℕ) → verdict_of (last_in s made) n ≡ accepted Verdict.Unfinished
 
 -- ---- of a kit that is not refused
 
 -- the significands of a factor are those of n bits
-within : (f : Factor) (X : ℕ) → HasBits f.precision.bits X → ((whole f).first ≤ X) × (X ≤ (whole f).last)
+within : (f : Factor) (X : ℕ) → HasBits f.precision X → ((whole f).first ≤ X) × (X ≤ (whole f).last)
 within f X x = (x.least, omega (arith, x.most))
 
-bits_in : (f : Factor) (X : ℕ) → (whole f).first ≤ X → X ≤ (whole f).last → HasBits f.precision.bits X
-bits_in f X h k = record { least = h; most = omega (arith, pow_pos f.precision.bits) }
+bits_in : (f : Factor) (X : ℕ) → (whole f).first ≤ X → X ≤ (whole f).last → HasBits f.precision X
+bits_in f X h k = record { least = h; most = omega (arith, pow_pos f.precision) }
 
 module _ (k : kit.Kit Factor) (good : NoneHolds (kits.new_faults k)) where
   through : AllOf (Passed factor_laws) (in_kit k)
@@ -289,10 +285,10 @@ no_words [] n q = ((λ e. refl), (λ e. omega arith))
 no_words (x ∷ l) n q = ((λ e. absurd (omega arith)), (λ e. let z : ◌≡◌ {A = ℕ} 0 1 = cc in absurd (omega arith)))
 
 -- of a finished state: clean exactly if there is no entry, and not clean exactly if there is one
-told_by : (n : ℕ) → ((told true n ≡ clean) ↔ (n ≡ 0)) × ((told true n ≡ not_clean) ↔ ¬ (n ≡ 0))
+told_by : (n : ℕ) → ((told true n ≡ Verdict.Clean) ↔ (n ≡ 0)) × ((told true n ≡ Verdict.NotClean) ↔ ¬ (n ≡ 0))
 told_by n = go (eqb n 0) refl
   where
-    go : (b : Bool) → eqb n 0 ≡ b → ((cond b clean not_clean ≡ clean) ↔ (n ≡ 0)) × ((cond b clean not_clean ≡ not_clean) ↔ ¬ (n ≡ 0))
+    go : (b : Bool) → eqb n 0 ≡ b → ((cond b Verdict.Clean Verdict.NotClean ≡ Verdict.Clean) ↔ (n ≡ 0)) × ((cond b Verdict.Clean Verdict.NotClean ≡ Verdict.NotClean) ↔ ¬ (n ≡ 0))
     go true q = (((λ e. eqb-true n 0 q), (λ e. refl)), ((λ e. let z : ◌≡◌ {A = ℕ} 0 1 = cc in absurd (omega arith)), (λ h. absurd (h (eqb-true n 0 q)))))
     go false q = (((λ e. let z : ◌≡◌ {A = ℕ} 0 1 = cc in absurd (omega arith)), (λ e. absurd (eqb-false n 0 q e))), ((λ e. eqb-false n 0 q), (λ h. refl)))
 
@@ -341,7 +337,7 @@ module _ (k : kit.Kit Factor) (good : NoneHolds (kits.new_faults k)) (made : Lis
       let stands = subst (Standing kits) (sym last_is) (after_stands kits_lawful k good (asked_in made)).1 in
       none_refuses (kits.faults t) (told t.finished n) ((kits_lawful.states t).1 stands)
 
-  told_is : t.finished ≡ true → (x : Told) → (verdict_of t (entries_in made) ≡ accepted x) ↔ (told true (entries_in made) ≡ x)
+  told_is : t.finished ≡ true → (x : Verdict) → (verdict_of t (entries_in made) ≡ accepted x) ↔ (told true (entries_in made) ≡ x)
   told_is h x =
       let says = verdict_is (entries_in made) ∙ ap (λ (b : Bool). accepted (told b (entries_in made))) h in
       ((λ e. let same = sym says ∙ e in cc), (λ e. says ∙ ap accepted e))
@@ -363,57 +359,45 @@ module _ (k : kit.Kit Factor) (good : NoneHolds (kits.new_faults k)) (made : Lis
         nothing = nothing_is;
         pairs = pairs_are;
         told_clean = λ h.
-            let is = told_is h clean in
+            let is = told_is h Verdict.Clean in
             let none = entries_clean h in
             let by = (told_by (entries_in made)).0 in
             ((λ e. none.0 (by.0 (is.0 e))), (λ c. is.1 (by.1 (none.1 c))));
         told_not_clean = λ h.
-            let is = told_is h not_clean in
+            let is = told_is h Verdict.NotClean in
             let none = entries_clean h in
             let by = (told_by (entries_in made)).1 in
             ((λ e c. by.0 (is.0 e) (none.1 c)), (λ n. is.1 (by.1 (λ z. n (none.0 z)))));
         told_unfinished = λ h n. verdict_is n ∙ ap (λ (b : Bool). accepted (told b n)) h;
       }
 
--- Demand 3 of kits: `new_state` accepted a kit, and the calls made from the state that it gave kept the contract of `kit_call`.
-pub kit_demand_3 : (k : Kit) (r : NewKitSweep) → new_of r ≡ new_state kits (kit_of k) → r.verdict ≡ Judgement.Passed → (made : List Made) → Kept (view_of r.state) made → KitDemand3 (view_of r.state) made
-kit_demand_3 k r new passed made kept =
-    let begun : new_state kits (kit_of k) ≡ accepted (view_of r.state) = sym new ∙ ap (λ (v : Judgement). new_of (record { state = r.state; verdict = v })) passed in
-    let good = only_accepted (kits.new_faults (kit_of k)) (fresh kits (kit_of k)) (view_of r.state) begun in
+-- What whole sweeps of kits owe, where `new_state` accepted a kit, and the calls made from the state that it gave kept the contract of `kit_call`.
+pub kit_demand_3 : (k : Kit) (r : Either KitState Refusal) → new_of r ≡ new_state kits (kit_of k) → (t : KitState) → r ≡ Ok t → (made : List Made) → Kept (view_of t) made → KitDemand3 (view_of t) made
+kit_demand_3 k r new t passed made kept =
+    let begun : new_state kits (kit_of k) ≡ accepted (view_of t) = sym new ∙ ap new_of passed in
+    let good = only_accepted (kits.new_faults (kit_of k)) (fresh kits (kit_of k)) (view_of t) begun in
     subst (λ (s : State (kit.Kit Factor)). Kept s made → KitDemand3 s made) good.1 (from_fresh (kit_of k) good.0 made) kept
 
 -- ---- whether the kit is clean, as `kit_verdict` answers
 
--- the answer that says so
-verdict_by : Outcome Told → Verdict
-verdict_by (accepted clean) = Verdict.Clean
-verdict_by (accepted not_clean) = Verdict.NotClean
-verdict_by (accepted unfinished) = Verdict.Unfinished
-verdict_by (refused n) = Verdict.Refused n
-
-said_by : (v : Verdict) → verdict_by (verdict_says v) ≡ v
-unfolding verdict_by
-said_by (Verdict.Clean) = refl
-said_by (Verdict.NotClean) = refl
-said_by (Verdict.Unfinished) = refl
-said_by (Verdict.Refused n) = refl
+-- a result that says a value is that value
+ok_said : {A : Type 0} (r : Either A Refusal) (a : A) → said r ≡ accepted a → r ≡ Ok a
+ok_said (Ok x) a q = let e : x ≡ a = cc in ap Ok e
+ok_said (Err e) a q = let z : ◌≡◌ {A = ℕ} 0 1 = cc in absurd (omega arith)
 
 -- Its contract, at the state that the last call handed back and with all entries since the new one: it answers what the kit is by its definition.
-module _ {s : State (kit.Kit Factor)} {made : List Made} (demand : KitDemand3 s made) (v : Verdict) (keeps : verdict_says v ≡ verdict_of (last_in s made) (entries_in made)) where
-  answers : (o : Outcome Told) → verdict_of (last_in s made) (entries_in made) ≡ o → v ≡ verdict_by o
-  answers o e = sym (said_by v) ∙ ap verdict_by (keeps ∙ e)
+module _ {s : State (kit.Kit Factor)} {made : List Made} (demand : KitDemand3 s made) (v : Either Verdict Refusal) (keeps : said v ≡ verdict_of (last_in s made) (entries_in made)) where
+  answers : (x : Verdict) → verdict_of (last_in s made) (entries_in made) ≡ accepted x → v ≡ Ok x
+  answers x e = ok_said v x (keeps ∙ e)
 
-  pub answers_clean : (last_in s made).finished ≡ true → (v ≡ Verdict.Clean) ↔ CleanKit factors s.over
-  unfolding verdict_by
-  answers_clean h = ((λ e. (demand.told_clean h).0 (sym keeps ∙ ap verdict_says e)), (λ c. answers (accepted clean) ((demand.told_clean h).1 c)))
+  pub answers_clean : (last_in s made).finished ≡ true → (v ≡ Ok Verdict.Clean) ↔ CleanKit factors s.over
+  answers_clean h = ((λ e. (demand.told_clean h).0 (sym keeps ∙ ap said e)), (λ c. answers Verdict.Clean ((demand.told_clean h).1 c)))
 
-  pub answers_not_clean : (last_in s made).finished ≡ true → (v ≡ Verdict.NotClean) ↔ ¬ CleanKit factors s.over
-  unfolding verdict_by
-  answers_not_clean h = ((λ e. (demand.told_not_clean h).0 (sym keeps ∙ ap verdict_says e)), (λ c. answers (accepted not_clean) ((demand.told_not_clean h).1 c)))
+  pub answers_not_clean : (last_in s made).finished ≡ true → (v ≡ Ok Verdict.NotClean) ↔ ¬ CleanKit factors s.over
+  answers_not_clean h = ((λ e. (demand.told_not_clean h).0 (sym keeps ∙ ap said e)), (λ c. answers Verdict.NotClean ((demand.told_not_clean h).1 c)))
 
-  pub answers_unfinished : (last_in s made).finished ≡ false → v ≡ Verdict.Unfinished
-  unfolding verdict_by
-  answers_unfinished h = answers (accepted unfinished) (demand.told_unfinished h (entries_in made))
+  pub answers_unfinished : (last_in s made).finished ≡ false → v ≡ Ok Verdict.Unfinished
+  answers_unfinished h = answers Verdict.Unfinished (demand.told_unfinished h (entries_in made))
 
 -- ---- one call
 

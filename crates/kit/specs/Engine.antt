@@ -1,4 +1,4 @@
--- Definitions: a factor as a kit sees it. What stands in quotes is request W6's. Assumes nothing.
+-- Definitions: a factor as a kit sees it. Assumes nothing.
 use Rattle.std.specs.Prelude.{Bool, not, ◌&&◌, eqb}
 use Rattle.std.specs.Bool.{beq}
 use Rattle.factor.specs.declared.Factor.{Factor}
@@ -13,15 +13,15 @@ use Rattle.sweep.specs.Engine.{range, engine}
 abbrev pub faulty : Factor → Bool
 faulty f = not (intact f)
 
--- "two factors alike in sign, precision, scale and ends"
+-- whether two factors are alike in sign, precision, scale and ends
 unfoldable pub alike : Factor → Factor → Bool
 alike f g =
     beq f.minus g.minus
-    && (eqb f.precision.bits g.precision.bits && (same_z f.applied.scale g.applied.scale && (eqb f.lower g.lower && eqb f.upper g.upper)))
+    && (eqb f.precision g.precision && (same_z f.applied.scale g.applied.scale && (eqb f.lower g.lower && eqb f.upper g.upper)))
 
--- "over all significands of each"
+-- a factor over all its significands
 abbrev pub whole : Factor → Range Factor
-whole f = range f (least_of f.precision.bits) (most_of f.precision.bits)
+whole f = range f (least_of f.precision) (most_of f.precision)
 
 -- what a kit asks of its factors: each is swept as a factor is by itself
 abbrev pub factors : Factors Factor (Range Factor)

@@ -28,7 +28,7 @@ whole_in n N =
     (record { first_bits = record { least = omega arith; most = omega arith }; last_bits = record { least = omega arith; most = omega arith }; ordered = omega arith })
 
 pub whole_good : (f : Factor) → faulty f ≡ false → NoneHolds ((sweep.engine).new_faults (whole f))
-whole_good f q = (q, (whole_in f.precision.bits (passed_sound f q).precision, tt))
+whole_good f q = (q, (whole_in f.precision (passed_sound f q).precision, tt))
 
 -- What kits ask of factors is so, with at most 64 rounds a search.
 pub factor_laws : FactorLaws sweep.suspect_in factors sweep.most_in 64

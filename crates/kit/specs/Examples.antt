@@ -1,4 +1,4 @@
--- Kits worked out by computation: document 01's three example factors, P1 to P3 at n = 4, as a kit, with the refusals of a kit and of a call. Assumes nothing.
+-- Kits worked out by computation: three example factors, P1 to P3 at n = 4, as a kit, with the refusals of a kit and of a call. Assumes nothing.
 use Rattle.std.specs.Prelude.{◌≡◌, refl, Bool, true, false, List, [], ◌∷◌, ℕ}
 use Rattle.std.proofs.Math.Decide.{dec_le, dec_lt, ℕ_discrete}
 use Rattle.std.specs.Float.Ieee
@@ -16,11 +16,11 @@ use Rattle.search.specs.Search.{ceil_div, neg_mod, test, place_after, after_roun
 use Rattle.suspects.specs.Next.{next_in, first_high}
 use Rattle.calls.specs.State.{State}
 use Rattle.calls.specs.Call.{new_state, ReplyOf, seek, run, sweep_call}
-use Rattle.calls.specs.Kit.{Kit, any_of, two_alike, position, has_in, mark_in, sections_from}
+use Rattle.calls.specs.Kit.{Kit, two_alike, position, has_in, mark_in, sections_from}
 use Rattle.sweep.specs.Answers.{call_of}
 use Rattle.sweep.proofs.Examples.{P1, P2, P3, damaged}
 use Rattle.kit.specs.Engine.{alike, kits}
-use Rattle.kit.specs.Answers.{Told, clean, not_clean, unfinished, verdict_of}
+use Rattle.kit.specs.Answers.{Verdict, verdict_of}
 
 -- the first of P1, P2, P3, P1 once more and a damaged one: three are a kit, and what stands past them is not looked at
 abbrev first_of : (count : ℕ) → Kit Factor
@@ -31,11 +31,11 @@ abbrev state : (count place next : ℕ) → (finished : Bool) → State (Kit Fac
 state count place next finished = record { over = first_of count; next = position place next; finished = finished }
 
 begun : (count : ℕ) → Outcome (State (Kit Factor))
-unfolding answer intact set_up applied_of scale_of tie_rule parts_at rounded nearest Ieee.round Ieee.size Ieee.span Ieee.climb Ieee.to_bits any_of two_alike alike
+unfolding answer intact set_up applied_of scale_of tie_rule parts_at rounded nearest Ieee.round Ieee.size Ieee.span Ieee.climb Ieee.to_bits two_alike alike
 begun count = new_state kits (first_of count)
 
 called : State (Kit Factor) → (cap : ℕ) → List ℕ → (free : ℕ) → ReplyOf (State (Kit Factor))
-unfolding sweep_call run seek first_high next_in ceil_div neg_mod test place_after after_round search_within search_window shift search_from dec_le dec_lt ℕ_discrete intact answer set_up applied_of scale_of tie_rule parts_at rounded nearest product mark Ieee.round Ieee.size Ieee.span Ieee.climb Ieee.to_bits any_of two_alike alike has_in mark_in sections_from
+unfolding sweep_call run seek first_high next_in ceil_div neg_mod test place_after after_round search_within search_window shift search_from dec_le dec_lt ℕ_discrete intact answer set_up applied_of scale_of tie_rule parts_at rounded nearest product mark Ieee.round Ieee.size Ieee.span Ieee.climb Ieee.to_bits two_alike alike has_in mark_in sections_from
 called s cap list free = sweep_call kits s (call_of cap list free)
 
 -- what an accepted call answers
@@ -144,19 +144,19 @@ call_44_past = refl
 -- ---- whether a kit is clean
 
 -- what is told by a state and a number of entries
-verdict : State (Kit Factor) → (entries : ℕ) → Outcome Told
-unfolding verdict_of answer intact set_up applied_of scale_of tie_rule parts_at rounded nearest Ieee.round Ieee.size Ieee.span Ieee.climb Ieee.to_bits any_of two_alike alike has_in
+verdict : State (Kit Factor) → (entries : ℕ) → Outcome Verdict
+unfolding verdict_of answer intact set_up applied_of scale_of tie_rule parts_at rounded nearest Ieee.round Ieee.size Ieee.span Ieee.climb Ieee.to_bits two_alike alike has_in
 verdict s entries = verdict_of s entries
 
-is_clean : verdict (state 1 0 15 true) 0 ≡ accepted clean
+is_clean : verdict (state 1 0 15 true) 0 ≡ accepted Verdict.Clean
 unfolding verdict P1 P2 P3
 is_clean = refl
 
-is_not_clean : verdict (state 3 2 15 true) 2 ≡ accepted not_clean
+is_not_clean : verdict (state 3 2 15 true) 2 ≡ accepted Verdict.NotClean
 unfolding verdict P1 P2 P3
 is_not_clean = refl
 
-is_unfinished : verdict (state 3 2 9 false) 1 ≡ accepted unfinished
+is_unfinished : verdict (state 3 2 9 false) 1 ≡ accepted Verdict.Unfinished
 unfolding verdict P1 P2 P3
 is_unfinished = refl
 

@@ -1,4 +1,4 @@
--- Kits of factors. Definitions: Engine (what a kit asks of a factor), Answers (what the code's kits, states and answers say) and Steps (the parts of a call). Laws: the others, of which SweepLaws has the loop over a call's steps. Demand 3 of kit calls: Demand3. Examples: the paper's figures.
+-- Kits of factors. Definitions: Engine (what a kit asks of a factor), Answers (what the code's kits, states and answers say) and Steps (the parts of a call). Laws: the others, of which SweepLaws has the loop over a call's steps. What whole sweeps of kits owe: Demand3. Examples: three factors, worked out.
 pub mod Engine
 pub mod AlikeLaws
 pub mod Answers

@@ -1,10 +1,11 @@
--- Laws of loops over the factors of a kit, over any list of which the first n count. Assumes nothing.
+-- Laws of the factors of a kit, over any list of which the first n count, and of tests of a list. Assumes nothing.
 use Rattle.std.specs.Prelude.{◌≡◌, refl, Bool, true, false, ◌||◌, ℕ, ◌+◌, ◌≤◌, ◌<◌, length, get_or, take, drop}
+use Rattle.std.specs.List.{list_any}
 use Rattle.std.proofs.Math.Path.{sym, ap}
-use Rattle.std.proofs.Common.{◌∙◌, arith, add-one, length-take, drop_of_length-le, drop-cons, get_or-take}
 use Rattle.std.proofs.Math.Bool.{or-false}
+use Rattle.std.proofs.Common.{◌∙◌, arith, add-one, length-take, drop_of_length-le, drop-cons, get_or-take}
 use mathlib.Core.List.{List, [], ◌∷◌}
-use Rattle.calls.specs.Kit.{any_of, two_alike}
+use Rattle.calls.specs.Kit.{two_alike}
 
 -- ---- places
 module _ {F : Type 0} (xs : List F) (n i : ℕ) where
@@ -16,32 +17,48 @@ module _ {F : Type 0} (xs : List F) (n i : ℕ) where
   pub first_past : n ≤ i → drop i (take n xs) ≡ []
   first_past h = drop_of_length-le (take n xs) {i = i} (omega (arith, length-take n xs))
 
+-- ---- two alike
+module _ {F : Type 0} (alike : F → F → Bool) (f : F) (l : List F) where
+  -- two of a list are alike where the first is like one of the others
+  pub alike_first : list_any (alike f) l ≡ true → two_alike alike (f ∷ l) ≡ true
+  unfolding two_alike
+  alike_first e = ap (λ (b : Bool). b || two_alike alike l) e
+
+  -- and where it is like none, the others decide
+  pub alike_others : list_any (alike f) l ≡ false → two_alike alike (f ∷ l) ≡ two_alike alike l
+  unfolding two_alike
+  alike_others e = ap (λ (b : Bool). b || two_alike alike l) e
+
+-- of none, no two are alike
+pub none_alike_in : {F : Type 0} (alike : F → F → Bool) (l : List F) → length l ≡ 0 → two_alike alike l ≡ false
+unfolding two_alike
+none_alike_in alike [] e = refl
+none_alike_in alike (f ∷ l) e = absurd (omega arith)
+
 -- ---- one of the first n
 -- A loop that asks whether one of them passes t, or else `rest`, before its turn at i: none passed so far, so what is left decides.
 pub record Seeking {F : Type 0} (t : F → Bool) (xs : List F) (n : ℕ) (rest whole : Bool) (i : ℕ) : Type 0 where
   pub full : n ≤ length xs
-  pub same : whole ≡ any_of t (drop i (take n xs)) || rest
+  pub same : whole ≡ list_any t (drop i (take n xs)) || rest
 
 -- it begins at the first
-pub seek : {F : Type 0} {t : F → Bool} {xs : List F} {n : ℕ} → n ≤ length xs → Seeking t xs n false (any_of t (take n xs)) 0
-seek {F} {t} {xs} {n} full = record { full = full; same = sym (or-false (any_of t (take n xs))) }
+pub seek : {F : Type 0} {t : F → Bool} {xs : List F} {n : ℕ} → n ≤ length xs → Seeking t xs n false (list_any t (take n xs)) 0
+seek {F} {t} {xs} {n} full = record { full = full; same = sym (or-false (list_any t (take n xs))) }
 
 module _ {F : Type 0} {t : F → Bool} {xs : List F} {n : ℕ} {rest whole : Bool} {i : ℕ} (s : Seeking t xs n rest whole i) where
   -- the turn at i
-  turn : (d : F) → i < n → whole ≡ (t (get_or xs i d) || any_of t (drop (i + 1) (take n xs))) || rest
-  unfolding any_of
-  turn d h = s.same ∙ ap (λ (l : List F). any_of t l || rest) (first_at xs n i d s.full h)
+  turn : (d : F) → i < n → whole ≡ (t (get_or xs i d) || list_any t (drop (i + 1) (take n xs))) || rest
+  turn d h = s.same ∙ ap (λ (l : List F). list_any t l || rest) (first_at xs n i d s.full h)
 
   pub seek_hit : (d : F) → i < n → t (get_or xs i d) ≡ true → true ≡ whole
-  seek_hit d h z = sym (turn d h ∙ ap (λ (b : Bool). (b || any_of t (drop (i + 1) (take n xs))) || rest) z)
+  seek_hit d h z = sym (turn d h ∙ ap (λ (b : Bool). (b || list_any t (drop (i + 1) (take n xs))) || rest) z)
 
   pub seek_miss : (d : F) → i < n → t (get_or xs i d) ≡ false → Seeking t xs n rest whole (i + 1)
-  seek_miss d h z = record { full = s.full; same = turn d h ∙ ap (λ (b : Bool). (b || any_of t (drop (i + 1) (take n xs))) || rest) z }
+  seek_miss d h z = record { full = s.full; same = turn d h ∙ ap (λ (b : Bool). (b || list_any t (drop (i + 1) (take n xs))) || rest) z }
 
   -- past the last, the rest decides
   pub seek_end : n ≤ i → whole ≡ rest
-  unfolding any_of
-  seek_end h = s.same ∙ ap (λ (l : List F). any_of t l || rest) (first_past xs n i h)
+  seek_end h = s.same ∙ ap (λ (l : List F). list_any t l || rest) (first_past xs n i h)
 
 -- ---- two of the first n
 -- A loop over pairs, before its turn at i: none before i is like a later one, so what is left decides.

@@ -1,13 +1,13 @@
 -- Laws of kits and states as code tests them. Assumes nothing.
-use Rattle.std.specs.Prelude.{◌≡◌, refl, Bool, true, false, not, ◌&&◌, ◌||◌, List, [], ◌∷◌, ℕ, zero, suc, ◌+◌, ◌≤◌, ◌<◌, eqb, leb, ltb, length, get_or, take, drop}
-use Rattle.std.proofs.Common.{sym, ap, ap₂, ◌∙◌, arith, ne_eqb, ltb-false, lt-ltb, le-ltb, le-leb, length-take}
+use Rattle.std.specs.Prelude.{◌≡◌, ◌≢◌, ◌⊎◌, refl, Bool, true, false, not, ◌&&◌, ◌||◌, List, [], ◌∷◌, ℕ, zero, suc, ◌+◌, ◌-◌, ◌^◌, ◌≤◌, ◌<◌, eqb, leb, ltb, length, get_or, take, drop, Result, Ok, Err, IsErrAnd}
+use Rattle.std.proofs.Common.{sym, subst, ap, ap₂, ◌∙◌, inl, inr, arith, eq-eqb, ne_eqb, ltb-false, lt-ltb, le-ltb, le-leb, length-take, pow_pos}
 use Rattle.std.proofs.Math.Decide.{dec_lt}
 use Rattle.std.proofs.lemmas.Bool.{eqb-false, lt-leb}
-use Rattle.marks.specs.declared.Judgement.{Judgement}
-use Rattle.marks.specs.Answers.{refusal_of, First, NoneHolds, refused, accepted}
-use Rattle.marks.specs.AnswerLaws.{none_refuses, judged_passed, judged_refused, or_false}
+use Rattle.marks.specs.declared.Refusal.{Refusal}
+use Rattle.marks.specs.Answers.{number, number_of, refusal_of, First, NoneHolds, refused, accepted}
+use Rattle.marks.specs.AnswerLaws.{refuses, none_refuses, judged_refused, or_false}
 use Rattle.factor.specs.declared.Factor.{Factor}
-use Rattle.factor.specs.Precision.{least_of, most_of}
+use Rattle.factor.specs.Precision.{least_of, most_of, significand_out}
 use Rattle.factor.specs.SetUp.{Sound}
 use Rattle.calls.specs.Engine.{fresh}
 use Rattle.calls.specs.Call.{new_state}
@@ -16,9 +16,14 @@ use Rattle.calls.proofs.KitLaws.{place_of, significand_of_lem, all_at, none_of}
 use Rattle.kit.specs.declared.Kit as code
 use Rattle.kit.specs.declared.KitState.{KitState}
 use Rattle.kit.specs.Engine.{faulty, factors, kits}
-use Rattle.kit.specs.Answers.{kit_of, no_factor, view_of, new_of, told, verdict_of}
+use Rattle.kit.specs.Answers.{Verdict, kit_of, no_factor, view_of, new_of, told, verdict_of}
 use Rattle.kit.specs.EngineLaws.{passed_sound}
 use Rattle.kit.specs.LoopLaws.{first_at, first_past}
+
+-- ---- refusals that are handed on
+pub handed_on : {A : Type 0} {l : List (ℕ × Bool)} (k : Refusal) (r : Result A Refusal) → IsErrAnd r (λ (e : Refusal). e ≡ k) → First l (number (number_of k)) → First l (refusal_of r)
+handed_on k (Ok a) h f = absurd h
+handed_on {l = l} k (Err e) h f = subst (λ (k : Refusal). First l (number (number_of k))) (sym h) f
 
 -- ---- 42
 -- none of an array with places counts exactly if the number is 0
@@ -30,6 +35,19 @@ none_taken (x ∷ xs) (suc n) h = ne_eqb (suc n) 0 (λ q. omega arith) ∙ sym (
 -- so the number tells whether the kit is empty
 pub number_out : {F : Type 0} (k : Kit F) → 0 < length k.factors → eqb k.count 0 || ltb 96 k.count ≡ eqb (length (in_kit k)) 0 || ltb 96 k.count
 number_out k h = ap (λ (b : Bool). b || ltb 96 k.count) (none_taken k.factors k.count h)
+
+-- 42 stands if it is 0 or above 96
+pub number_refused : {F : Type 0} (k : Kit F) → 0 < length k.factors → (k.count ≡ 0) ⊎ (k.count ≢ 0) × (96 < k.count) → eqb (length (in_kit k)) 0 || ltb 96 k.count ≡ true
+number_refused k h out =
+    sym (number_out k h)
+    ∙ elim out [
+      | inl none ↦ rw (eq-eqb k.count 0 none)
+      | inr many ↦ ap₂ ◌||◌ (ne_eqb k.count 0 many.0) (lt-ltb 96 k.count many.1)
+    ]
+
+-- and not else
+pub number_passed : {F : Type 0} (k : Kit F) → 0 < length k.factors → k.count ≢ 0 → k.count ≤ 96 → eqb (length (in_kit k)) 0 || ltb 96 k.count ≡ false
+number_passed k h some few = sym (number_out k h) ∙ ap₂ ◌||◌ (ne_eqb k.count 0 some) (le-ltb 96 k.count few)
 
 -- ---- a kit that is not refused, in an array of 96 places
 module _ (k : Kit Factor) (long : length k.factors ≡ 96) (good : NoneHolds (kits.new_faults k)) where
@@ -68,10 +86,28 @@ above m X = go (dec_lt m X)
     go (yes h) = rw (lt-ltb m X h, lt-leb X m h)
     go (no h) = rw (le-ltb m X (omega arith), le-leb X m (omega arith))
 
+-- one of two does not hold
+not_both : (a b : Bool) → not a || not b ≡ not (a && b)
+not_both true b = refl
+not_both false b = refl
+
+-- outside the significands of n bits
+out_bits : (n X : ℕ) → significand_out n X ≡ not (leb (least_of n) X && leb X (most_of n))
+out_bits n X =
+    let some = pow_pos n in
+    let next : 2 ^ n ≡ suc (2 ^ n - 1) = omega arith in
+    ap₂ (λ (a b : Bool). a || b) (above X (2 ^ (n - 1))) (ap (λ (m : ℕ). leb m X) next ∙ above (2 ^ n - 1) X) ∙ not_both (leb (least_of n) X) (leb X (most_of n))
+
+-- at a place with a factor: outside its significands
+pub out_at : (k : Kit Factor) → length k.factors ≡ 96 → NoneHolds (kits.new_faults k) → (i X : ℕ) → X < place_size → i < k.count
+    → significand_out (get_or k.factors i no_factor).precision X ≡ not (has_in factors k (position i X))
+out_at k long good i X short at =
+    out_bits (get_or k.factors i no_factor).precision X ∙ sym (ap not (has_at_lem k i X short ∙ ap (λ (l : List Factor). has_at factors l X) (factor_at k long good i at)))
+
 -- a place with a factor: its significands
 module _ (k : Kit Factor) (long : length k.factors ≡ 96) (good : NoneHolds (kits.new_faults k)) (i X : ℕ) (short : X < place_size) (at : i < k.count) where
   abbrev bits : ℕ
-  bits = (get_or k.factors i no_factor).precision.bits
+  bits = (get_or k.factors i no_factor).precision
 
   out_is : not (has_in factors k (position i X)) ≡ not (leb (least_of bits) X && leb X (most_of bits))
   out_is = ap not (has_at_lem k i X short ∙ ap (λ (l : List Factor). has_at factors l X) (factor_at k long good i at))
@@ -86,30 +122,27 @@ module _ (k : Kit Factor) (long : length k.factors ≡ 96) (good : NoneHolds (ki
 
 -- ---- new states
 -- a kit that is not refused begins at its first factor's least significand
-first_is : (k : Kit Factor) → length k.factors ≡ 96 → NoneHolds (kits.new_faults k) → position 0 (least_of (get_or k.factors 0 no_factor).precision.bits) ≡ kits.first k
+first_is : (k : Kit Factor) → length k.factors ≡ 96 → NoneHolds (kits.new_faults k) → position 0 (least_of (get_or k.factors 0 no_factor).precision) ≡ kits.first k
 first_is k long good = ap (λ (l : List Factor). position 0 (first_in factors l)) (sym (factor_at k long good 0 (number_some k long good)))
 
-module _ (k : code.Kit) {v : Judgement} (is : First (kits.new_faults (kit_of k)) (refusal_of v)) where
-  -- a refused kit has no state, whatever stands beside the refusal
-  pub new_refused : {n : ℕ} (s : KitState) → v ≡ Judgement.Refused n → new_of (record { state = s; verdict = v }) ≡ new_state kits (kit_of k)
-  new_refused s e = ap (λ (v : Judgement). new_of (record { state = s; verdict = v })) e ∙ judged_refused is e (fresh kits (kit_of k))
+-- a refused kit has no state
+pub new_refused : (k : code.Kit) {r : Result KitState Refusal} → First (kits.new_faults (kit_of k)) (refusal_of r) → {e : Refusal} → r ≡ Err e → new_of r ≡ new_state kits (kit_of k)
+new_refused k {r} is {e} q = ap new_of q ∙ judged_refused is q (fresh kits (kit_of k))
 
-  -- one that is not has the state at its first significand
-  pub new_passed : {X : ℕ} → length k.factors ≡ 96 → v ≡ Judgement.Passed → X ≡ least_of (get_or k.factors 0 no_factor).precision.bits
-      → new_of (record { state = record { kit = k; place = 0; next = X; finished = false }; verdict = v }) ≡ new_state kits (kit_of k)
-  new_passed {X} long e least =
-      let good = judged_passed is e in
-      ap (λ (v : Judgement). new_of (record { state = record { kit = k; place = 0; next = X; finished = false }; verdict = v })) e
-      ∙ ap (λ (z : ℕ). accepted (record { over = kit_of k; next = z; finished = false })) (ap (position 0) least ∙ first_is (kit_of k) long good)
-      ∙ sym (none_refuses (kits.new_faults (kit_of k)) (fresh kits (kit_of k)) good)
+-- a new state at its first significand is that of the logic
+pub new_passed : (k : code.Kit) {first : ℕ} → length k.factors ≡ 96 → NoneHolds (kits.new_faults (kit_of k)) → first ≡ least_of (get_or k.factors 0 no_factor).precision
+    → new_of (Ok (record { kit = k; place = 0; next = first; finished = false })) ≡ new_state kits (kit_of k)
+new_passed k long good least =
+    ap (λ (z : ℕ). accepted (record { over = kit_of k; next = z; finished = false })) (ap (position 0) least ∙ first_is (kit_of k) long good)
+    ∙ sym (none_refuses (kits.new_faults (kit_of k)) (fresh kits (kit_of k)) good)
 
 -- ---- verdicts
 -- of a state that is refused
-pub verdict_refused : {v : Judgement} {n : ℕ} (s : KitState) (entries : ℕ) → First (kits.faults (view_of s)) (refusal_of v) → v ≡ Judgement.Refused n → refused n ≡ verdict_of (view_of s) entries
+pub verdict_refused : {n : ℕ} (s : KitState) (entries : ℕ) → First (kits.faults (view_of s)) (number n) → refused n ≡ verdict_of (view_of s) entries
 unfolding verdict_of
-verdict_refused s entries is e = judged_refused is e (told s.finished entries)
+verdict_refused s entries is = refuses is (told s.finished entries)
 
 -- of one that is not: by its finished mark and the entries
-pub verdict_told : {finished : Bool} (s : KitState) (entries : ℕ) → NoneHolds (kits.faults (view_of s)) → s.finished ≡ finished → accepted (told finished entries) ≡ verdict_of (view_of s) entries
+pub verdict_told : (s : KitState) (entries : ℕ) {v : Verdict} → NoneHolds (kits.faults (view_of s)) → told s.finished entries ≡ v → accepted v ≡ verdict_of (view_of s) entries
 unfolding verdict_of
-verdict_told s entries good e = ap (λ (b : Bool). accepted (told b entries)) (sym e) ∙ sym (none_refuses (kits.faults (view_of s)) (told s.finished entries) good)
+verdict_told s entries good e = ap accepted (sym e) ∙ sym (none_refuses (kits.faults (view_of s)) (told s.finished entries) good)

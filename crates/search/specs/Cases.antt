@@ -1,6 +1,5 @@
--- The search by cases, one for each sentence of document 01. Laws go by these cases and so know of no fuel. Definitions only.
-use Rattle.std.specs.Prelude.{◌≡◌, ℕ, ◌+◌, ◌-◌, ◌*◌, ◌%◌, ◌≤◌, ◌<◌}
-use Rattle.search.specs.declared.Place.TheVariants.{At, Nowhere}
+-- The search by cases. Laws go by them and so know of no fuel. Definitions only.
+use Rattle.std.specs.Prelude.{◌≡◌, ℕ, ◌+◌, ◌-◌, ◌*◌, ◌%◌, ◌≤◌, ◌<◌, Some, None}
 use Rattle.search.specs.declared.Found.{Found}
 use Rattle.search.specs.Search.{ceil_div, neg_mod, at_once, after_round}
 
@@ -14,10 +13,10 @@ Straight m step l = (0 < l) × (0 < step) × (2 * step ≤ m)
 
 -- a search and its answer, by the sentence that decides it
 pub data Searched : (m step l r : ℕ) → Found → Type 0 where
-  start : {m step l r : ℕ} → l ≡ 0 → Searched m step l r (at_once (At 0))
-  still : {m step l r : ℕ} → 0 < l → step ≡ 0 → Searched m step l r (at_once Nowhere)
+  start : {m step l r : ℕ} → l ≡ 0 → Searched m step l r (at_once (Some 0))
+  still : {m step l r : ℕ} → 0 < l → step ≡ 0 → Searched m step l r (at_once None)
   mirrored : {m step l r : ℕ} {f : Found} → 0 < l → m < 2 * step → Searched m (m - step) (m - r) (m - l) f → Searched m step l r f
-  multiple : {m step l r : ℕ} → Straight m step l → ceil_div l step * step ≤ r → Searched m step l r (at_once (At (ceil_div l step)))
+  multiple : {m step l r : ℕ} → Straight m step l → ceil_div l step * step ≤ r → Searched m step l r (at_once (Some (ceil_div l step)))
   rounded :
       {m step l r : ℕ} {f : Found}
       → Straight m step l

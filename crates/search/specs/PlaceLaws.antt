@@ -1,10 +1,8 @@
 -- What the cases find: the least place that ends in the window, and in how many rounds. Assumes nothing.
-use Rattle.std.specs.Prelude.{ℕ, zero, suc, ◌+◌, ◌-◌, ◌*◌, ◌%◌, ◌^◌, ◌≤◌, ◌<◌}
+use Rattle.std.specs.Prelude.{ℕ, zero, suc, ◌+◌, ◌-◌, ◌*◌, ◌%◌, ◌^◌, ◌≤◌, ◌<◌, Option, Some, None}
 use Rattle.std.proofs.Common.{zero-le, suc-le-suc, mul-le-mul_left}
 use Rattle.std.proofs.Math.Nat.{mul-le-mul_right}
 use native.Mathlib.Omega.{arith}
-use Rattle.search.specs.declared.Place.{Place}
-use Rattle.search.specs.declared.Place.TheVariants.{At, Nowhere}
 use Rattle.search.specs.declared.Found.{Found}
 use Rattle.search.specs.Search.{ceil_div, neg_mod, place_after, after_round}
 use Rattle.search.specs.Finds.{Least}
@@ -15,11 +13,11 @@ use Rattle.search.specs.TurnLaws.{mirror_meets, round_up, round_down, round_plac
 use Rattle.search.specs.CaseLaws.{mirror_ready, round_between, round_ready}
 
 -- Where the same places are wanted, the least one is the same.
-pub least_same : {A B : ℕ → Type 0} → ((x : ℕ) → A x → B x) → ((x : ℕ) → B x → A x) → (p : Place) → Least A p → Least B p
-least_same to back (At k) h = (to k h.0, λ x lt g. h.1 x lt (back x g))
-least_same to back Nowhere h = λ x g. h x (back x g)
+pub least_same : {A B : ℕ → Type 0} → ((x : ℕ) → A x → B x) → ((x : ℕ) → B x → A x) → (p : Option ℕ) → Least A p → Least B p
+least_same to back (Some k) h = (to k h.0, λ x lt g. h.1 x lt (back x g))
+least_same to back None h = λ x g. h x (back x g)
 
-mirror_least : (m s l r : ℕ) → Ready m s l r → 0 < l → (p : Place) → Least (Hits m (m - s) (m - r) (m - l)) p → Least (Hits m s l r) p
+mirror_least : (m s l r : ℕ) → Ready m s l r → 0 < l → (p : Option ℕ) → Least (Hits m (m - s) (m - r) (m - l)) p → Least (Hits m s l r) p
 mirror_least m s l r h pos =
     least_same
     (λ x g. (_, (mirror_meets m (m - s) s (m - r) r (m - l) l x g.0 (omega arith) (omega arith) (omega arith) (omega arith) g.1).1))
@@ -30,10 +28,10 @@ module _ (m s l r : ℕ) (lr : l ≤ r) (p : 0 < s) (b : Between s l r (ceil_div
   pub round_meets : (j : ℕ) → Hits s (m % s) (neg_mod r s) (neg_mod l s) j → Meets m s l r (ceil_div (l + j * m) s) j
   round_meets j h = rw (round_place_lem m s l r (ceil_div l s) lr b j h.0 p h.1) (round_up m s l r (ceil_div l s) lr b j h.0 h.1)
 
-  round_least : (q : Place) → Least (Hits s (m % s) (neg_mod r s) (neg_mod l s)) q → Least (Hits m s l r) (place_after m s l q)
+  round_least : (q : Option ℕ) → Least (Hits s (m % s) (neg_mod r s) (neg_mod l s)) q → Least (Hits m s l r) (place_after m s l q)
   unfolding place_after
-  round_least Nowhere g = λ x h. g h.0 (_, round_down m s l r (ceil_div l s) lr b x h.0 h.1)
-  round_least (At j) g = (
+  round_least None g = λ x h. g h.0 (_, round_down m s l r (ceil_div l s) lr b x h.0 h.1)
+  round_least (Some j) g = (
     (j, round_meets j g.0),
     λ x lt h.
         let w = h.0 in

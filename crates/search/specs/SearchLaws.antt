@@ -1,10 +1,9 @@
 -- The search finds the least place wanted, from the first place or from any start. Assumes nothing.
-use Rattle.std.specs.Prelude.{◌≡◌, ℕ, zero, suc, ◌+◌, ◌-◌, ◌*◌, ◌/◌, ◌%◌, ◌^◌, ◌≤◌, ◌<◌}
+use Rattle.std.specs.Prelude.{◌≡◌, ℕ, zero, suc, ◌+◌, ◌-◌, ◌*◌, ◌/◌, ◌%◌, ◌^◌, ◌≤◌, ◌<◌, Some}
 use Rattle.std.proofs.Common.{ap, ◌∙◌, subst, zero-le, div-add-mod', mod-lt, mod-eq_of_lt, mul-le-mul_right, lt_of_not-le, arith}
 use Rattle.std.proofs.Math.Decide.{dec_le, dec_lt}
 use Rattle.std.proofs.Math.Nat.{add-mul-mod_self_right}
 use Rattle.std.proofs.Math.Arith.{digits_mod}
-use Rattle.search.specs.declared.Place.TheVariants.{At}
 use Rattle.search.specs.declared.Found.{Found}
 use Rattle.search.specs.Search.{at_once, search_window, shift, search_from}
 use Rattle.search.specs.Finds.{Wanted, Least, Finds}
@@ -40,7 +39,7 @@ module _ (m s base l r l' r' c : ℕ) (rm : r < m) (rm' : r' < m) (low : l' + ba
 -- ---- every answer
 
 -- after as many steps as the modulus the remainders come again
-least_below : (m s base l r k : ℕ) → r < m → Least (Wanted m s base l r) (At k) → k < m
+least_below : (m s base l r k : ℕ) → r < m → Least (Wanted m s base l r) (Some k) → k < m
 least_below m s base l r k rm g =
     let parts : base + k * s ≡ base + k % m * s + k / m * s * m = omega (arith, ap (λ (n : ℕ). n * s) (div-add-mod' k m)) in
     let again = ap (λ (n : ℕ). n % m) parts ∙ add-mul-mod_self_right (base + k % m * s) (k / m * s) m in
@@ -111,7 +110,7 @@ module _ (m base l r : ℕ) (lr : l ≤ r) (rm : r < m) (bm : base < m) where
 -- ---- the search from a start
 
 -- Where the shifted window passes over 0, the start is found.
-pub search_from_start : (m s base l r : ℕ) → shift m base r < shift m base l → search_from m s base l r ≡ at_once (At 0)
+pub search_from_start : (m s base l r : ℕ) → shift m base r < shift m base l → search_from m s base l r ≡ at_once (Some 0)
 unfolding search_from
 search_from_start m s base l r over = test_yes _ (dec_lt (shift m base r) (shift m base l)) over
 
@@ -129,7 +128,7 @@ search_from_finds m s base l r h bm =
     (λ over.
     let g = across m base l r h.0 h.1 bm over in
     let steps : base + 0 * s ≡ base = omega arith in
-    finds m s base l r (at_once (At 0)) h.1 (omega (arith, ap (λ (n : ℕ). n % m) steps ∙ mod-eq_of_lt bm), λ x lt g. omega arith)
+    finds m s base l r (at_once (Some 0)) h.1 (omega (arith, ap (λ (n : ℕ). n % m) steps ∙ mod-eq_of_lt bm), λ x lt g. omega arith)
     (λ b small. zero-le))
     (λ apart.
     let a = aside m base l r h.0 h.1 bm apart in

@@ -1,12 +1,10 @@
 -- What the code carries back is the search's answer with its winding, by each of its ways to return. Assumes nothing.
-use Rattle.std.specs.Prelude.{◌≡◌, refl, ℕ, zero, suc, ◌+◌, ◌-◌, ◌*◌, ◌/◌, ◌%◌, ◌^◌, ◌≤◌, ◌<◌}
+use Rattle.std.specs.Prelude.{◌≡◌, refl, ℕ, zero, suc, ◌+◌, ◌-◌, ◌*◌, ◌/◌, ◌%◌, ◌^◌, ◌≤◌, ◌<◌, Option, Some, None}
 use Rattle.std.proofs.Math.Path.{sym, ap}
 use Rattle.std.proofs.Common.{ap₂, ◌∙◌, arith}
 use Rattle.std.proofs.Math.Nat.{div-eq_of_lt}
 use Rattle.std.proofs.Math.Numerals.{add-one}
 use Rattle.std.proofs.Math.Arith.{digits_div}
-use Rattle.search.specs.declared.Place.{Place}
-use Rattle.search.specs.declared.Place.TheVariants.{At, Nowhere}
 use Rattle.search.specs.declared.Trace.{Trace}
 use Rattle.search.specs.Search.{ceil_div, neg_mod, at_once, place_after, after_round, search_window}
 use Rattle.search.specs.Finds.{Least}
@@ -23,19 +21,19 @@ winding_meets m s l r k w rm h = ap (λ (n : ℕ). n / m) (omega arith) ∙ digi
 
 module _ (m s l r : ℕ) (h : Ready m s l r) where
   -- A place that is found at once, before the modulus is passed, has no winding.
-  pub wound_at : (k : ℕ) → k * s < m → Searched m s l r (at_once (At k)) → unwound (At k) ≡ wound m s (search_window m s l r)
+  pub wound_at : (k : ℕ) → k * s < m → Searched m s l r (at_once (Some k)) → unwound (Some k) ≡ wound m s (search_window m s l r)
   wound_at k lt t =
-      ap (λ (w : ℕ). record { found = at_once (At k); winding = w }) (sym (div-eq_of_lt lt)) ∙ ap (wound m s) (sym (searched_unique t h))
+      ap (λ (w : ℕ). record { found = at_once (Some k); winding = w }) (sym (div-eq_of_lt lt)) ∙ ap (wound m s) (sym (searched_unique t h))
 
-  -- Nowhere has no winding.
-  pub wound_none : Searched m s l r (at_once Nowhere) → unwound Nowhere ≡ wound m s (search_window m s l r)
+  -- none has no winding.
+  pub wound_none : Searched m s l r (at_once None) → unwound None ≡ wound m s (search_window m s l r)
   wound_none t = ap (wound m s) (sym (searched_unique t h))
 
   mirror_winding_lem :
-      0 < l → (p : Place) → Least (Hits m (m - s) (m - r) (m - l)) p
+      0 < l → (p : Option ℕ) → Least (Hits m (m - s) (m - r) (m - l)) p
       → WindsBelow p (winding m (m - s) p) × (mirror_winding p (winding m (m - s) p) ≡ winding m s p)
-  mirror_winding_lem pos Nowhere g = (tt, refl)
-  mirror_winding_lem pos (At k) g =
+  mirror_winding_lem pos None g = (tt, refl)
+  mirror_winding_lem pos (Some k) g =
       let w = g.0.0 in
       let turned = mirror_meets m (m - s) s (m - r) r (m - l) l k w (omega arith) (omega arith) (omega arith) (omega arith) g.0.1 in
       let before = winding_meets m (m - s) (m - r) (m - l) k w (omega arith) g.0.1 in
@@ -55,17 +53,17 @@ module _ (m s l r : ℕ) (h : Ready m s l r) where
 
   module _ (straight : Straight m s l) (none : ¬ (ceil_div l s * s ≤ r)) where
     round_winding :
-        (p : Place) → Least (Hits s (m % s) (neg_mod r s) (neg_mod l s)) p
+        (p : Option ℕ) → Least (Hits s (m % s) (neg_mod r s) (neg_mod l s)) p
         → (round_place (ceil_div l s) (m / s) (winding s (m % s) p) p ≡ place_after m s l p) × (number p ≡ winding m s (place_after m s l p))
     unfolding place_after
-    round_winding Nowhere g = (refl, refl)
-    round_winding (At j) g =
+    round_winding None g = (refl, refl)
+    round_winding (Some j) g =
         let i = g.0.0 in
         let apart = round_between m s l r h straight none in
         let before = winding_meets s (m % s) (neg_mod r s) (neg_mod l s) j i (round_ready m s l r h straight none).1 g.0.1 in
         let place = round_place_lem m s l r (ceil_div l s) h.0 apart j i straight.1 g.0.1 in
         let after = winding_meets m s l r (ceil_div (l + j * m) s) j h.1 (round_meets m s l r h.0 straight.1 apart j g.0) in
-        (ap At (omega (arith, before, place)), sym after)
+        (ap Some (omega (arith, before, place)), sym after)
 
     -- The answer of the search that a round goes on with, read back, is the search's.
     pub wound_round :
@@ -92,6 +90,6 @@ search_window_below m s l r h =
     let all = search_window_finds m s l r h in
     (place (search_window m s l r).place all.below, omega (arith, all.few m (below_power m)))
   where
-    place : (p : Place) → ((k : ℕ) → p ≡ At k → k < m) → number p < m
-    place (At k) below = below k refl
-    place Nowhere below = omega arith
+    place : (p : Option ℕ) → ((k : ℕ) → p ≡ Some k → k < m) → number p < m
+    place (Some k) below = below k refl
+    place None below = omega arith

@@ -1,4 +1,4 @@
-// The search by remainders (document 01, "Suspects and rounds"): the least place whose remainder lies in a window.
+// The search by remainders: the least place whose remainder lies in a window.
 
 #![tactic(auto)]
 
@@ -8,17 +8,10 @@ ghost use Rattle.search.specs.Search.{search_window, shift, search_from};
 ghost use Rattle.search.specs.Cases.{Ready};
 ghost use Rattle.search.specs.Trace.{wound, unwound, WindsBelow, mirror_back, round_back, Below};
 
-// Where a search ends: at the least place wanted, or nowhere where none is.
-#[derive(Clone, Copy)]
-pub enum Place {
-    At(u64),
-    Nowhere,
-}
-
-// A search's place, and the rounds that it took.
-#[derive(Clone, Copy)]
+// Where a search ends, at the least place wanted, or nowhere where none is; and the rounds that it took.
+#[derive(Clone, Copy, Debug, PartialEq, Eq)]
 pub struct Found {
-    pub place: Place,
+    pub place: Option<u64>,
     pub rounds: u64,
 }
 
@@ -30,7 +23,7 @@ struct Trace {
 }
 
 // An answer without a round and without a winding.
-fn at_once(place: Place) -> Trace
+fn at_once(place: Option<u64>) -> Trace
     ensures { result ≡ unwound place }
 {
     Trace {
@@ -44,14 +37,12 @@ fn mirror_back(t: Trace) -> Trace
     requires { WindsBelow t.found.place t.winding }
     ensures { result ≡ mirror_back t }
 {
-    let f = t.found;
-    let p = f.place;
-    match p {
-        Place::At(k) => Trace {
-            found: f,
+    match t.found.place {
+        Some(k) => Trace {
             winding: k - 1 - t.winding,
+            ..t
         },
-        Place::Nowhere => t,
+        None => t,
     }
 }
 
@@ -60,20 +51,18 @@ fn round_back(t: Trace, first: u64, turns: u64) -> Trace
     requires { Below half_word (round_back first turns t).found }
     ensures { result ≡ round_back first turns t }
 {
-    let f = t.found;
-    let p = f.place;
-    let rounds = f.rounds + 1;
-    match p {
-        Place::At(j) => Trace {
+    let rounds = t.found.rounds + 1;
+    match t.found.place {
+        Some(j) => Trace {
             found: Found {
-                place: Place::At(first + (j * turns + t.winding)),
+                place: Some(first + (j * turns + t.winding)),
                 rounds,
             },
             winding: j,
         },
-        Place::Nowhere => Trace {
+        None => Trace {
             found: Found {
-                place: Place::Nowhere,
+                place: None,
                 rounds,
             },
             winding: 0,
@@ -87,10 +76,10 @@ fn first_place(m: u64, step: u64, l: u64, r: u64) -> Trace
     ensures { result ≡ wound m step (search_window m step l r) }
 {
     if l == 0 {
-        return at_once(Place::At(0));
+        return at_once(Some(0));
     }
     if step == 0 {
-        return at_once(Place::Nowhere);
+        return at_once(None);
     }
     if m < 2 * step {
         return mirror_back(first_place(m, m - step, m - r, m - l));
@@ -98,7 +87,7 @@ fn first_place(m: u64, step: u64, l: u64, r: u64) -> Trace
     let first = (l + (step - 1)) / step;
     let multiple = first * step;
     if multiple <= r {
-        return at_once(Place::At(first));
+        return at_once(Some(first));
     }
     let next = first_place(step, m % step, multiple - r, multiple - l);
     round_back(next, first, m / step)
@@ -109,8 +98,7 @@ pub fn find(m: u64, step: u64, l: u64, r: u64) -> Found
     requires { (l ≤ r) × (r < m) × (step < m) × (m ≤ half_word) }
     ensures { result ≡ search_window m step l r }
 {
-    let t = first_place(m, step, l, r);
-    t.found
+    first_place(m, step, l, r).found
 }
 
 // x - base modulo m.
@@ -133,7 +121,7 @@ pub fn find_from(m: u64, step: u64, base: u64, l: u64, r: u64) -> Found
     let to = shifted(m, base, r);
     if to < from {
         return Found {
-            place: Place::At(0),
+            place: Some(0),
             rounds: 0,
         };
     }

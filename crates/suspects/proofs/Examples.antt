@@ -1,8 +1,6 @@
--- Suspects and searches worked out by computation: document 01's P1 and P2, at n = 4 and E = 62. Assumes nothing.
-use Rattle.std.specs.Prelude.{◌≡◌, refl, Bool, true, false, List, [], ◌∷◌, map, ℕ, ◌*◌, ◌^◌}
+-- Suspects and searches worked out by computation, of two factors at n = 4 and E = 62. Assumes nothing.
+use Rattle.std.specs.Prelude.{◌≡◌, refl, Bool, true, false, List, [], ◌∷◌, map, ℕ, ◌*◌, ◌^◌, Option, Some}
 use Rattle.std.proofs.Math.Decide.{dec_le, dec_lt, ℕ_discrete}
-use Rattle.search.specs.declared.Place.{Place}
-use Rattle.search.specs.declared.Place.TheVariants.{At}
 use Rattle.search.specs.declared.Found.{Found}
 use Rattle.search.specs.Search.{ceil_div, neg_mod, test, place_after, after_round, search_within, search_window, shift, search_from}
 use Rattle.factor.specs.Precision.{scale_of}
@@ -19,7 +17,7 @@ next : (h c a : ℕ) → Found
 unfolding ceil_div neg_mod test place_after after_round search_within search_window shift search_from dec_le dec_lt ℕ_discrete next_in scale_of
 next h c a = next_from (context_at 4) c c h a
 
-abbrev after : ℕ → Place → Found
+abbrev after : ℕ → Option ℕ → Found
 after rounds place = record { place = place; rounds = rounds }
 
 -- ---- P1: C = 3/2, suspects 9 and 14
@@ -34,21 +32,21 @@ P1_first_high : first_high (context_at 4) P1 ≡ 11
 unfolding first_high scale_of
 P1_first_high = refl
 
-P1_low : next (2 ^ 61) P1 8 ≡ after 0 (At 9)
+P1_low : next (2 ^ 61) P1 8 ≡ after 0 (Some 9)
 unfolding next
 P1_low = refl
 
 -- past the half
-P1_low_none : next (2 ^ 61) P1 10 ≡ after 0 (At 11)
+P1_low_none : next (2 ^ 61) P1 10 ≡ after 0 (Some 11)
 unfolding next
 P1_low_none = refl
 
-P1_high : next (2 ^ 62) P1 11 ≡ after 0 (At 14)
+P1_high : next (2 ^ 62) P1 11 ≡ after 0 (Some 14)
 unfolding next
 P1_high = refl
 
 -- past the range
-P1_high_none : next (2 ^ 62) P1 15 ≡ after 0 (At 18)
+P1_high_none : next (2 ^ 62) P1 15 ≡ after 0 (Some 18)
 unfolding next
 P1_high_none = refl
 
@@ -65,16 +63,16 @@ unfolding first_high scale_of
 P2_first_high = refl
 
 -- the start itself
-P2_low : next (2 ^ 61) P2 8 ≡ after 0 (At 8)
+P2_low : next (2 ^ 61) P2 8 ≡ after 0 (Some 8)
 unfolding next
 P2_low = refl
 
 -- past the half, and a round
-P2_low_none : next (2 ^ 61) P2 9 ≡ after 1 (At 19)
+P2_low_none : next (2 ^ 61) P2 9 ≡ after 1 (Some 19)
 unfolding next
 P2_low_none = refl
 
 -- past the range
-P2_high_none : next (2 ^ 62) P2 14 ≡ after 0 (At 16)
+P2_high_none : next (2 ^ 62) P2 14 ≡ after 0 (Some 16)
 unfolding next
 P2_high_none = refl

@@ -1,5 +1,5 @@
 -- The search in a half finds the least suspect from its start on, and takes few rounds. Assumes nothing.
-use Rattle.std.specs.Prelude.{◌≡◌, ◌↔◌, Bool, true, false, cond, ℕ, suc, ◌+◌, ◌-◌, ◌*◌, ◌/◌, ◌%◌, ◌^◌, ◌≤◌, ◌<◌, ltb}
+use Rattle.std.specs.Prelude.{◌≡◌, ◌↔◌, Bool, true, false, cond, ℕ, suc, ◌+◌, ◌-◌, ◌*◌, ◌/◌, ◌%◌, ◌^◌, ◌≤◌, ◌<◌, ltb, Option, Some, None}
 use Rattle.std.proofs.Common.{sym, ◌∙◌, mul-le-mul_right, le_refl, le_trans, mod-lt, lt_of_not-le, div-add-mod', pow_mono, lt-ltb, le-ltb}
 use Rattle.std.proofs.Math.Path.{ap}
 use Rattle.std.proofs.Math.Bool.{not-eq-not}
@@ -7,8 +7,6 @@ use Rattle.std.proofs.Math.Nat.{mod-add-mod, add-mul-mod_self_right}
 use Rattle.std.proofs.Math.Decide.{dec_lt}
 use native.Mathlib.Omega.{arith}
 use Rattle.std.proofs.Math.Pow.{pow-add, pow_pos}
-use Rattle.search.specs.declared.Place.{Place}
-use Rattle.search.specs.declared.Place.TheVariants.{At, Nowhere}
 use Rattle.search.specs.declared.Found.{Found}
 use Rattle.search.specs.Search.{search_from, ceil_div}
 use Rattle.search.specs.Finds.{Wanted, Least, LeastFrom, Finds}
@@ -102,13 +100,13 @@ module _ (L h W D : ℕ) (some : 0 < W) (fits : W + D ≤ h) where
     unfolding next_in
     near_least = go (searched a).place (found a).least
       where
-        go : (p : Place) → Least (WantedFrom a) p → LeastFrom suspect end a (moved_by a p)
-        go (At k) w = (
+        go : (p : Option ℕ) → Least (WantedFrom a) p → LeastFrom suspect end a (moved_by a p)
+        go (Some k) w = (
           omega arith,
           λ u. told (a + k) (omega arith) u ∙ (wanted_near a k).0 w.0,
           λ Y l x u. clear Y l u (w.1 (Y - a) (omega arith)),
         )
-        go Nowhere w = λ Y l u. clear Y l u (w (Y - a))
+        go None w = λ Y l u. clear Y l u (w (Y - a))
 
 -- ---- ends with the same parts, at two bits or more
 module _ (K : Context) (ok : Fine K) (two : 2 ≤ K.n) (L U : ℕ) (le : End K L) (ue : End K U) (same : parts_at K L ≡ parts_at K U) where

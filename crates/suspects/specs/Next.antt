@@ -1,9 +1,7 @@
--- The search for the next suspect in a half (document 01, "Suspects and rounds"), over a context.
+-- The search for the next suspect in a half, over a context.
 -- h is half the distance of two midpoints: 2 ^ (E - 1) in the low half, 2 ^ E in the high half. Definitions only. Assumes nothing.
-use Rattle.std.specs.Prelude.{◌≡◌, ℕ, ◌+◌, ◌-◌, ◌*◌, ◌%◌, ◌^◌, ◌≤◌, ◌<◌}
+use Rattle.std.specs.Prelude.{◌≡◌, ℕ, ◌+◌, ◌-◌, ◌*◌, ◌%◌, ◌^◌, ◌≤◌, ◌<◌, Option, Some, None}
 use Rattle.wide.specs.Value.{word_bits, half_word}
-use Rattle.search.specs.declared.Place.{Place}
-use Rattle.search.specs.declared.Place.TheVariants.{At, Nowhere}
 use Rattle.search.specs.declared.Found.{Found}
 use Rattle.search.specs.Search.{ceil_div, search_from}
 use Rattle.factor.specs.Context.{Context}
@@ -11,14 +9,14 @@ use Rattle.suspects.specs.declared.Window.{Window}
 use Rattle.suspects.specs.declared.Windows.{Windows}
 use Rattle.suspects.specs.Suspects.{window_w, widening}
 
--- the window of wanted remainders (document 01), which lies near h, with its modulus m = 2 * h and step L mod m
+-- the window of wanted remainders, which lies near h, with its modulus m = 2 * h and step L mod m
 abbrev pub window_near : (L h W D : ℕ) → Window
 window_near L h W D = record { modulus = 2 * h; step = L % (2 * h); from = h - W - D + 1; to = h + W - 1 }
 
 -- a place counted from the significand a, as a significand
-abbrev pub moved_by : ℕ → Place → Place
-moved_by a (At k) = At (a + k)
-moved_by a Nowhere = Nowhere
+abbrev pub moved_by : ℕ → Option ℕ → Option ℕ
+moved_by a (Some k) = Some (a + k)
+moved_by a None = None
 
 -- a search's answer with its place so moved
 abbrev pub found_from : ℕ → Found → Found

@@ -1,4 +1,4 @@
--- Suspects (document 01, "Suspects and rounds"), over a context. Definitions only. Assumes nothing.
+-- Suspects, over a context. Definitions only. Assumes nothing.
 use Rattle.std.specs.Prelude.{Bool, cond, ◌&&◌, ℕ, ◌+◌, ◌-◌, ◌*◌, ◌%◌, ◌^◌, ◌<◌, ltb}
 use Rattle.factor.specs.Context.{Context}
 

@@ -1,15 +1,14 @@
-// Suspects: the significands near a midpoint, among which every failing one is, and the search for the next of them (document 01, "Suspects and rounds").
+// Suspects: the significands near a midpoint, among which every failing one is, and the search for the next of them.
 
 #![tactic(auto)]
 
 ghost use Rattle.std.specs.Prelude.{◌≡◌, ◌+◌, ◌-◌, ◌*◌, ◌%◌, ◌≤◌, ◌<◌, ◌^◌};
 ghost use Rattle.factor.specs.Context.{context_of, lower_of, upper_of};
-ghost use Rattle.factor.specs.SetUp.{Sound};
 ghost use Rattle.wide.specs.Value.{word_bits, half_word};
 ghost use Rattle.suspects.specs.Next.{window_near, window_in, next_in, first_high, windows, Askable};
 
-use factor::Factor;
-use search::{Found, Place};
+use factor::{Factor, SoundFactor};
+use search::Found;
 
 // The window of a half: the remainders from `from` to `to`, both included, that are wanted of the multiples of the step modulo the modulus.
 #[derive(Clone, Copy)]
@@ -29,12 +28,11 @@ pub struct Windows {
 }
 
 // The first high significand: 2 ^ (E + n) over the lower end, rounded up.
-pub fn first_high(f: Factor) -> u64
-    requires { Sound f }
-    ensures { result ≡ first_high (context_of f) (lower_of f) }
+pub fn first_high(f: SoundFactor) -> u64
+    ensures { result ≡ first_high (context_of f.factor) (lower_of f.factor) }
 {
-    let p = f.precision;
-    let divided = wide::divide(wide::wide_power(p.scale() + p.bits), f.lower);
+    let p = f.precision();
+    let divided = wide::wide_power(p.scale() + p.bits).divide(f.factor.lower);
     if divided.remainder == 0 {
         return divided.quotient;
     }
@@ -56,22 +54,22 @@ fn window_near(lower: u64, half: u64, window: u64, widening: u64) -> Window
 }
 
 // The window of the half whose products drop so many digits: two midpoints are 2 ^ dropped apart.
-fn window_in(f: Factor, dropped: u32) -> Window
-    requires { Sound f × ((context_of f).E ≤ dropped) × (dropped ≤ (context_of f).E + 1) }
-    ensures { result ≡ window_in (context_of f) (lower_of f) (upper_of f) (2 ^ (dropped - 1)) }
+fn window_in(f: SoundFactor, dropped: u32) -> Window
+    requires { ((context_of f.factor).E ≤ dropped) × (dropped ≤ (context_of f.factor).E + 1) }
+    ensures { result ≡ window_in (context_of f.factor) (lower_of f.factor) (upper_of f.factor) (2 ^ (dropped - 1)) }
 {
-    let p = f.precision;
+    let p = f.precision();
+    let Factor { lower, upper, .. } = f.factor;
     let window = wide::power(p.window_exponent());
-    let widening = (f.upper - f.lower) * wide::power(p.bits);
-    window_near(f.lower, wide::power(dropped - 1), window, widening)
+    let widening = (upper - lower) * wide::power(p.bits);
+    window_near(lower, wide::power(dropped - 1), window, widening)
 }
 
 // The windows of a factor.
-pub fn windows_of(f: Factor) -> Windows
-    requires { Sound f }
-    ensures { result ≡ windows (context_of f) (lower_of f) (upper_of f) }
+pub fn windows_of(f: SoundFactor) -> Windows
+    ensures { result ≡ windows (context_of f.factor) (lower_of f.factor) (upper_of f.factor) }
 {
-    let p = f.precision;
+    let p = f.precision();
     Windows {
         low: window_in(f, p.low_dropped()),
         high: window_in(f, p.high_dropped()),
@@ -84,8 +82,7 @@ fn remainder(x: u64, y: u64, m: u64) -> u64
     requires { (0 < m) × (2 ^ word_bits % m ≡ 0) }
     ensures { result ≡ x * y % m }
 {
-    let p = wide::product(x, y);
-    p.lo % m
+    wide::product(x, y).lo % m
 }
 
 // The next suspect from the start on, in the half of a window, with the search's rounds.
@@ -95,12 +92,8 @@ pub fn next(w: Window, start: u64) -> Found
 {
     let base = remainder(w.step, start, w.modulus);
     let found = search::find_from(w.modulus, w.step, base, w.from, w.to);
-    let place = found.place;
-    match place {
-        Place::At(k) => Found {
-            place: Place::At(start + k),
-            rounds: found.rounds,
-        },
-        Place::Nowhere => found,
+    Found {
+        place: found.place.map(|k| start + k),
+        ..found
     }
 }

@@ -1,9 +1,11 @@
 -- The engine of all factors is lawful: each search finds the least suspect of its half, in few rounds, and every significand that is not right is a suspect.
 -- Assumes nothing.
-use Rattle.std.specs.Prelude.{◌≡◌, true, false, not, ◌≢◌, ◌↔◌, ℕ, suc, ◌≤◌}
-use Rattle.std.proofs.Common.{subst, arith}
+use Rattle.std.specs.Prelude.{◌≡◌, [], ◌∷◌, true, false, not, ◌≢◌, ◌↔◌, ℕ, suc, ◌≤◌}
+use Rattle.std.proofs.Common.{sym, subst, arith}
 use Rattle.std.proofs.lemmas.Bool.{not-false}
 use Rattle.marks.specs.declared.Mark.TheVariants.{Right}
+use Rattle.marks.specs.Answers.{accepted}
+use Rattle.marks.specs.AnswerLaws.{only_accepted}
 use Rattle.rounding.specs.Round.{HasBits}
 use Rattle.factor.specs.declared.Parts.{Parts}
 use Rattle.factor.specs.declared.Factor.{Factor}
@@ -11,7 +13,7 @@ use Rattle.factor.specs.Precision.{range_out}
 use Rattle.factor.specs.Context.{Context, Fine, context_of, lower_of, upper_of}
 use Rattle.factor.proofs.ContextLaws.{fine_at}
 use Rattle.factor.specs.Parts.{parts_at}
-use Rattle.factor.specs.SetUp.{intact, Sound}
+use Rattle.factor.specs.SetUp.{intact, Sound, checked}
 use Rattle.factor.proofs.SetUpLaws.{intact_sound}
 use Rattle.product.specs.Product.{product, product_by}
 use Rattle.product.specs.Marks.{mark, SaysBy}
@@ -30,9 +32,13 @@ use Rattle.sweep.specs.Engine.{suspect, high_from, find_in, most_rounds, mark_of
 pub sound_of : (f : Factor) → not (intact f) ≡ false → Sound f
 sound_of f q = intact_sound f (not-false _ q)
 
+-- What the check of a factor answers where it accepts one: that factor, which 31 does not refuse.
+pub check_passed : {f g : Factor} → accepted g ≡ checked f → (not (intact f) ≡ false) × (f ≡ g)
+check_passed {f} {g} is = let o = only_accepted ((31, not (intact f)) ∷ []) f g (sym is) in (o.0.0, o.1)
+
 module _ (f : Factor) (s : Sound f) where
   abbrev n : ℕ
-  n = f.precision.bits
+  n = f.precision
 
   abbrev K : Context
   K = context_of f
@@ -49,11 +55,11 @@ module _ (f : Factor) (s : Sound f) where
   fine : Fine K
   fine = fine_at s.precision
 
-  -- The test for a suspect is document 01's definition of one.
+  -- The test for a suspect is the definition of one.
   pub suspect_is : (X : ℕ) → suspect f X ≡ true ↔ Suspect K L U X
   suspect_is = suspect_iff K fine two L U s.lower_end s.upper_end s.ordered s.same
 
-  -- The mark of a significand in range says what demand 2 has it say of every fraction between the ends.
+  -- The mark of a significand in range says what it must of every fraction between the ends.
   pub mark_is : (X : ℕ) → HasBits n X → SaysBy f X (product_by f X) (mark_of f X)
   mark_is X x = mark_tells f s X x (product_by f X) (two_steps f s X x).bits
 
@@ -73,14 +79,14 @@ pub lawful : Lawful suspect_in engine most_in
 lawful =
     record {
       states = λ s.
-          let r = calls.in_range_lem (range_out s.over.factor.precision.bits s.over.first s.over.last) s in (
+          let r = calls.in_range_lem (range_out s.over.factor.precision s.over.first s.over.last) s in (
             (λ h. let i = r.0 h.1.0 in record { sound = (h.0, (i.0, tt)); there = i.1 }),
             (λ h. (h.sound.0, (r.1 (h.sound.1.0, h.there), tt))),
           );
       laws = λ u good.
           let f = u.factor in
           let s = sound_of f good.0 in
-          let r = in_range_lem f.precision.bits u.first u.last good.1.0 in
+          let r = in_range_lem f.precision u.first u.last good.1.0 in
           record {
             ordered = r.ordered;
             begins = (calls.between u u.first).1 (omega arith, r.ordered);

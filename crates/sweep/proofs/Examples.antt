@@ -1,4 +1,4 @@
--- Sweeps worked out by computation: document 01's P1 to P3 at n = 4, over all significands, with the refusals of a call. Assumes nothing.
+-- Sweeps worked out by computation, of three factors at n = 4, over all significands, with the refusals of a call. Assumes nothing.
 use Rattle.std.specs.Prelude.{◌≡◌, refl, Bool, true, false, List, [], ◌∷◌, ℕ, ◌*◌, ◌^◌, pos}
 use Rattle.std.proofs.Math.Decide.{dec_le, dec_lt, ℕ_discrete}
 use Rattle.std.specs.Float.Ieee

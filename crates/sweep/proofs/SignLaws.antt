@@ -1,10 +1,8 @@
--- Laws: a sweep of a factor with another sign is its size's (request W5): states begin alike, and every call is answered alike, with the same words, on a state that keeps its factor's sign. Assumes nothing.
-use Rattle.std.specs.Prelude.{◌≡◌, refl, Bool, not, [], ◌∷◌, ℕ, zero, suc, ◌-◌, length}
+-- Laws: a sweep of a factor with another sign is its size's: states begin alike, and every call is answered alike, with the same words, on a state that keeps its factor's sign. Assumes nothing.
+use Rattle.std.specs.Prelude.{◌≡◌, refl, Bool, not, [], ◌∷◌, ℕ, zero, suc, ◌-◌, length, Option, Some, None}
 use Rattle.std.proofs.Common.{ap, ap₂, ◌∙◌}
-use Rattle.marks.specs.Answers.{Refusal, number, none, judged, answer, each}
+use Rattle.marks.specs.Answers.{Judgement, number, none, judged, answer, each}
 use Rattle.marks.specs.AnswerLaws.{answer_each}
-use Rattle.search.specs.declared.Place.{Place}
-use Rattle.search.specs.declared.Place.TheVariants.{At, Nowhere}
 use Rattle.factor.specs.declared.Factor.{Factor}
 use Rattle.factor.specs.Precision.{range_out}
 use Rattle.factor.proofs.Signs.{factor_as, intact_signed}
@@ -26,7 +24,7 @@ reply_as s r = record { answer = r.answer; state = state_as s r.state; list = r.
 -- a new state
 pub new_signed : (s : Bool) (r : Range Factor) → new_state engine (range_as s r) ≡ each (state_as s) (new_state engine r)
 new_signed s r =
-    ap (λ (i : Bool). answer ((31, not i) ∷ (17, range_out r.factor.precision.bits r.first r.last) ∷ []) (fresh engine (range_as s r))) (intact_signed s r.factor)
+    ap (λ (i : Bool). answer ((31, not i) ∷ (17, range_out r.factor.precision r.first r.last) ∷ []) (fresh engine (range_as s r))) (intact_signed s r.factor)
     ∙ answer_each (state_as s) (engine.new_faults r) (fresh engine r)
 
 -- what a call does: suspects, marks and searches do not look at the sign
@@ -43,10 +41,10 @@ call_signed s t c =
     ap₂ (λ (i : Bool) (r : Run). replied engine (state_as s t) c (judged ((31, not i) ∷ (32, state_out t) ∷ (33, t.finished) ∷ word_list.refuses (terms_of c))) r) (intact_signed s t.over.factor) (run_signed s t.over c.cap _ t.next)
     ∙ go (judged (conditions engine t (terms_of c))) (run_of engine t c)
   where
-    same : (p : Place) → handed engine (state_as s t) p ≡ state_as s (handed engine t p)
-    same (At X) = refl
-    same Nowhere = refl
+    same : (p : Option ℕ) → handed engine (state_as s t) p ≡ state_as s (handed engine t p)
+    same (Some X) = refl
+    same None = refl
 
-    go : (v : Refusal) (r : Run) → replied engine (state_as s t) c v r ≡ reply_as s (replied engine t c v r)
+    go : (v : Judgement) (r : Run) → replied engine (state_as s t) c v r ≡ reply_as s (replied engine t c v r)
     go (number n) r = refl
     go none r = λ i. record { answer = (replied engine t c none r).answer; state = same r.left i; list = (replied engine t c none r).list }

@@ -1,14 +1,12 @@
 -- Laws of a step: the search ahead, what is found, and what is done at it. Assumes nothing.
-use Rattle.std.specs.Prelude.{◌≡◌, refl, Bool, true, false, cond, ◌||◌, ◌⊎◌, ℕ, suc, ◌+◌, ◌^◌, ◌≤◌, ◌<◌, min, max, eqb, ltb}
-use Rattle.std.proofs.Common.{sym, ap, ap₂, ◌∙◌, subst, inl, inr, arith, add-zero, add-one, pow_mono, eqb-true, lt-ltb, le-ltb}
+use Rattle.std.specs.Prelude.{◌≡◌, refl, Bool, true, false, cond, ◌||◌, ◌⊎◌, ℕ, suc, ◌+◌, ◌^◌, ◌≤◌, ◌<◌, min, max, eqb, ltb, Option, Some, None}
+use Rattle.std.proofs.Common.{sym, ap, ap₂, ◌∙◌, subst, inl, inr, arith, add-zero, pow_mono, eqb-true, le-ltb}
 use Rattle.std.proofs.Math.Decide.{dec_le, dec_lt}
 use Rattle.std.proofs.lemmas.Bool.{eqb-false}
 use Rattle.wide.specs.Value.{word_bits}
 use Rattle.marks.specs.declared.Mark.{Mark}
 use Rattle.marks.specs.Answers.{NoneHolds}
 use Rattle.marks.specs.AnswerLaws.{or_false}
-use Rattle.search.specs.declared.Place.{Place}
-use Rattle.search.specs.declared.Place.TheVariants.{At, Nowhere}
 use Rattle.search.specs.declared.Found.{Found}
 use Rattle.rounding.specs.Round.{HasBits}
 use Rattle.factor.specs.declared.Factor.{Factor}
@@ -20,26 +18,15 @@ use Rattle.suspects.proofs.WindowLaws.{low_askable, high_askable}
 use Rattle.factor.specs.Precision.{most_precision}
 use Rattle.product.proofs.AnswerLaws.{in_range_lem}
 use Rattle.calls.specs.Engine.{low, high, low_end}
-use Rattle.calls.specs.Call.{within, none_after, sought, or_else, seek, ahead}
+use Rattle.calls.specs.Call.{none_after, sought, or_else, seek, ahead}
 use Rattle.calls.proofs.RunLaws.{ahead_found}
 use Rattle.sweep.specs.declared.SweepState.{SweepState}
 use Rattle.sweep.specs.declared.Work.{Work}
+use Rattle.sweep.specs.declared.Stepped.{Stepped}
 use Rattle.sweep.specs.Engine.{range, windows_of, high_from, find_in, most_rounds, mark_of, engine}
 use Rattle.sweep.proofs.EngineLaws.{sound_of, few, lawful}
 use Rattle.sweep.specs.Answers.{view_of}
 use Rattle.sweep.specs.Steps.{cut_at, sought_before, ahead_in, Searchable, must_stop, halted_at, tried_at, step_at, ahead_of, step_of, Room, Stepping}
-
--- ---- a place that is cut
-
-module _ (f : Found) (end : ℕ) where
-  pub cut_before : {X : ℕ} → f.place ≡ At X → X < end → f ≡ cut_at end f
-  cut_before {X} q h = let e : f.place ≡ within end f.place = rw (q, lt-ltb X end h) in λ i. record { place = e i; rounds = f.rounds }
-
-  pub cut_past : {X : ℕ} → f.place ≡ At X → end ≤ X → record { place = Nowhere; rounds = f.rounds } ≡ cut_at end f
-  cut_past {X} q h = rw (q, le-ltb X end h)
-
-  pub cut_none : f.place ≡ Nowhere → f ≡ cut_at end f
-  cut_none q = let e : f.place ≡ within end f.place = rw q in λ i. record { place = e i; rounds = f.rounds }
 
 -- ---- the search ahead
 
@@ -63,26 +50,6 @@ module _ {h : Windows} (k : Searchable h) where
   pub high_few : (a end : ℕ) → (sought_before h.high a end).rounds ≤ most_rounds k.of
   high_few a end = sought_few h.high a end (subst (λ (x : Windows). (next_in x.high a).rounds ≤ most_rounds k.of) (sym k.are) (few k.of k.sound high a))
 
--- the low half's search, as code has it
-module _ (h : Windows) (last a : ℕ) {end : ℕ} (ends : end ≡ min h.first_high (last + 1)) {lower : Found} (is : lower ≡ sought_before h.low a end) where
-  abbrev upper : Found
-  upper = sought_before h.high (max a h.first_high) (suc last)
-
-  ahead_by : ahead_in h last a ≡ or_else lower.place lower upper
-  ahead_by =
-      ap (λ (w : Found). or_else w.place w upper) (sym (is ∙ ap (sought_before h.low a) (ends ∙ ap (min h.first_high) (add-one last))))
-
-  -- it finds a suspect
-  pub ahead_low : {X : ℕ} → lower.place ≡ At X → lower ≡ ahead_in h last a
-  ahead_low q = sym (ahead_by ∙ ap (λ (p : Place). or_else p lower upper) q)
-
-  -- it finds none, and the high half's search follows
-  pub ahead_high : {start : ℕ} {v : Found} → start ≡ max a h.first_high → v ≡ sought_before h.high start (last + 1) → lower.place ≡ Nowhere
-      → record { place = v.place; rounds = lower.rounds + v.rounds } ≡ ahead_in h last a
-  ahead_high {start} {v} starts that q =
-      let e : v ≡ upper = that ∙ ap (λ (z : ℕ). sought_before h.high z (last + 1)) starts ∙ ap (sought_before h.high (max a h.first_high)) (add-one last) in
-      ap (λ (v : Found). record { place = v.place; rounds = lower.rounds + v.rounds }) e ∙ sym (ahead_by ∙ ap (λ (p : Place). or_else p lower upper) q)
-
 -- ---- whether the call stops
 
 -- Where it does, the cap is reached or no place is free; where it goes on, neither.
@@ -101,17 +68,17 @@ may_go t c p n q = let o = or_false (eqb t c) (eqb p n) q in (eqb-false t c o.0,
 -- a range that 17 does not refuse ends at a significand of the largest precision at most
 pub last_short : (f : Factor) (first last : ℕ) → NoneHolds (engine.new_faults (range f first last)) → last < 2 ^ most_precision
 last_short f first last good =
-    let n : ℕ = f.precision.bits in
+    let n : ℕ = f.precision in
     omega (arith, (in_range_lem n first last good.1.0).last_bits.most, pow_mono {i = n} {j = most_precision} (sound_of f good.0).precision.most)
 
 -- a suspect that the search ahead finds lies in the range
-pub found_inside : (s : SweepState) → NoneHolds (engine.new_faults (view_of s).over) → (a : ℕ) → s.first ≤ a → a ≤ suc s.last → {X : ℕ} → (ahead_of s a).place ≡ At X → (a ≤ X) × (X ≤ s.last)
+pub found_inside : (s : SweepState) → NoneHolds (engine.new_faults (view_of s).over) → (a : ℕ) → s.first ≤ a → a ≤ suc s.last → {X : ℕ} → (ahead_of s a).place ≡ Some X → (a ≤ X) × (X ≤ s.last)
 found_inside s good a from upto {X} q = ahead_found (lawful.laws (view_of s).over good) a from upto X q
 
 -- nothing follows the last section
-none_follows : (w : Found) (p : Place) → w.place ≡ p → or_else p w (none_after 0) ≡ w
-none_follows w (At X) q = refl
-none_follows w Nowhere q = λ i. record { place = sym q i; rounds = add-zero w.rounds i }
+none_follows : (w : Found) (p : Option ℕ) → w.place ≡ p → or_else p w (none_after 0) ≡ w
+none_follows w (Some X) q = refl
+none_follows w None q = λ i. record { place = sym q i; rounds = add-zero w.rounds i }
 
 -- the windows are the factor's, so the search ahead from a significand of a range on is the engine's
 pub ahead_in_lem : (f : Factor) (first last a : ℕ) → first ≤ a → ahead_in (windows_of f) last a ≡ ahead engine (range f first last) a
@@ -136,7 +103,7 @@ ahead_in_lem f first last a from =
 
 module _ {s : SweepState} {h : Windows} {cap size : ℕ} {w : Work} (k : Stepping s h cap size w) where
   abbrev n : ℕ
-  n = s.factor.precision.bits
+  n = s.factor.precision
 
   pub step_sound : Sound s.factor
   step_sound = sound_of s.factor k.sound.0
@@ -159,31 +126,31 @@ module _ {s : SweepState} {h : Windows} {cap size : ℕ} {w : Work} (k : Steppin
     pub step_rounds : w.rounds + found.rounds < 2 ^ word_bits
     step_rounds = rw step_ahead k.turns
 
-    step_found : {X : ℕ} → found.place ≡ At X → (w.at ≤ X) × (X ≤ s.last)
+    step_found : {X : ℕ} → found.place ≡ Some X → (w.at ≤ X) × (X ≤ s.last)
     step_found q = found_inside s k.sound w.at k.from k.upto (ap (λ (w : Found). w.place) (sym step_ahead) ∙ q)
 
-    pub found_bits : {X : ℕ} → found.place ≡ At X → HasBits n X
+    pub found_bits : {X : ℕ} → found.place ≡ Some X → HasBits n X
     found_bits q =
         let z = step_found q in
         let r = in_range_lem n s.first s.last k.sound.1.0 in
         record { least = omega (arith, r.first_bits.least, k.from); most = omega (arith, r.last_bits.most) }
 
     -- where the call does not stop, one more can be counted
-    pub step_room : {X b : _} → found.place ≡ At X → b ≡ stop → b ≡ false → cap < 2 ^ word_bits → size < 2 ^ word_bits → Room w X
+    pub step_room : {X b : _} → found.place ≡ Some X → b ≡ stop → b ≡ false → cap < 2 ^ word_bits → size < 2 ^ word_bits → Room w X
     step_room q told b c d =
         let g = may_go w.trials cap w.place size (sym told ∙ b) in
         record { tried = omega (arith, k.capped, g.0); placed = omega (arith, k.fits, g.1); found = omega (arith, step_found q, step_last) }
 
-    step_by : (b : Bool) → stop ≡ b → (p : Place) → found.place ≡ p → step_at mark b w (w.rounds + found.rounds) p ≡ step_of s cap size w
+    step_by : (b : Bool) → stop ≡ b → (p : Option ℕ) → found.place ≡ p → step_at mark b w (w.rounds + found.rounds) p ≡ step_of s cap size w
     step_by b e p q =
         sym (λ i. step_at mark (e i) w (w.rounds + found.rounds) (q i)) ∙ ap (λ (f : Found). step_at mark stop w (w.rounds + f.rounds) f.place) step_ahead
 
-    pub stop_step : {X : ℕ} {b : Bool} {r : Work} → found.place ≡ At X → b ≡ stop → b ≡ true → r ≡ halted_at w (w.rounds + found.rounds) (At X) → r ≡ step_of s cap size w
-    stop_step {X} q told b e = e ∙ step_by true (sym told ∙ b) (At X) q
+    pub stop_step : {X : ℕ} {b : Bool} {r : Stepped} → found.place ≡ Some X → b ≡ stop → b ≡ true → r ≡ halted_at w (w.rounds + found.rounds) (Some X) → r ≡ step_of s cap size w
+    stop_step {X} q told b e = e ∙ step_by true (sym told ∙ b) (Some X) q
 
-    pub trial_step : {X : ℕ} {b : Bool} {m : Mark} {r : Work} → found.place ≡ At X → b ≡ stop → b ≡ false → m ≡ mark X → r ≡ tried_at w (w.rounds + found.rounds) X m
+    pub trial_step : {X : ℕ} {b : Bool} {m : Mark} {r : Stepped} → found.place ≡ Some X → b ≡ stop → b ≡ false → m ≡ mark X → r ≡ tried_at w (w.rounds + found.rounds) X m
         → r ≡ step_of s cap size w
-    trial_step {X} q told b marked e = e ∙ ap (tried_at w (w.rounds + found.rounds) X) marked ∙ step_by false (sym told ∙ b) (At X) q
+    trial_step {X} q told b marked e = e ∙ ap (tried_at w (w.rounds + found.rounds) X) marked ∙ step_by false (sym told ∙ b) (Some X) q
 
-    pub over_step : {r : Work} → found.place ≡ Nowhere → r ≡ halted_at w (w.rounds + found.rounds) found.place → r ≡ step_of s cap size w
-    over_step q e = e ∙ ap (halted_at w (w.rounds + found.rounds)) q ∙ step_by stop refl Nowhere q
+    pub over_step : {r : Stepped} → found.place ≡ None → r ≡ halted_at w (w.rounds + found.rounds) None → r ≡ step_of s cap size w
+    over_step q e = e ∙ step_by stop refl None q

@@ -1,4 +1,4 @@
--- Definitions: a factor as a sweep sees it (document 01, "Suspects and rounds" and "A sweep"). What stands in quotes is document 01's. Assumes nothing.
+-- Definitions: a factor as a sweep sees it. Assumes nothing.
 use Rattle.std.specs.Prelude.{Bool, not, [], ◌∷◌, ℕ, ◌-◌, ◌^◌}
 use Rattle.marks.specs.declared.Mark.{Mark}
 use Rattle.search.specs.declared.Found.{Found}
@@ -22,9 +22,9 @@ suspect f X = is_suspect (context_of f) (lower_of f) (upper_of f) X
 abbrev pub range : Factor → (first last : ℕ) → Range Factor
 range f first last = record { factor = f; first = first; last = last }
 
--- 32: "the range is one that 17 refuses, or the next significand lies outside it"
+-- 32: the range is one that 17 refuses, or the next significand lies outside it
 abbrev pub state_out : State (Range Factor) → Bool
-state_out s = out_of_range (range_out s.over.factor.precision.bits s.over.first s.over.last) s
+state_out s = out_of_range (range_out s.over.factor.precision s.over.first s.over.last) s
 
 -- the window of each half, and the first high significand
 abbrev pub windows_of : Factor → Windows
@@ -41,17 +41,17 @@ find_in f high a = next_from (context_of f) (lower_of f) (upper_of f) (2 ^ (cont
 
 -- the most rounds of a search
 abbrev pub most_rounds : Factor → ℕ
-most_rounds f = rounds_of f.precision.bits
+most_rounds f = rounds_of f.precision
 
 -- the mark of a significand's product
 abbrev pub mark_of : Factor → ℕ → Mark
 mark_of f X = mark_by f X (product_by f X)
 
--- the engine of all factors and ranges; "at most 64 × (trials + 2)" rounds are two searches more than trials
+-- the engine of all factors and ranges; at most 64 × (trials + 2) rounds are two searches more than trials
 abbrev pub engine : Engine (Range Factor)
 engine =
     record {
-      new_faults = λ r. (31, not (intact r.factor)) ∷ (17, range_out r.factor.precision.bits r.first r.last) ∷ [];
+      new_faults = λ r. (31, not (intact r.factor)) ∷ (17, range_out r.factor.precision r.first r.last) ∷ [];
       faults = λ s. (31, not (intact s.over.factor)) ∷ (32, state_out s) ∷ [];
       listing = λ r. word_list;
       first = λ r. r.first;

@@ -1,12 +1,10 @@
 -- Definitions: a step of a sweep call, and what the functions that make it may be asked. Assumes nothing.
-use Rattle.std.specs.Prelude.{◌≡◌, Bool, true, false, cond, ◌||◌, List, [], ◌∷◌, ℕ, suc, ◌+◌, ◌-◌, ◌*◌, ◌^◌, ◌≤◌, ◌<◌, min, max, eqb, ltb, length}
+use Rattle.std.specs.Prelude.{◌≡◌, Bool, cond, ◌||◌, List, [], ◌∷◌, ℕ, suc, ◌+◌, ◌-◌, ◌*◌, ◌^◌, ◌≤◌, ◌<◌, min, max, eqb, ltb, length, Option, Some, None}
 use Rattle.std.proofs.lemmas.List.Edits.{sets}
 use Rattle.wide.specs.Value.{word_bits}
 use Rattle.marks.specs.declared.Mark.{Mark}
 use Rattle.marks.specs.declared.Mark.TheVariants.{Right, Open, Wrong}
 use Rattle.marks.specs.Answers.{none, judged, NoneHolds}
-use Rattle.search.specs.declared.Place.{Place}
-use Rattle.search.specs.declared.Place.TheVariants.{At, Nowhere}
 use Rattle.search.specs.declared.Found.{Found}
 use Rattle.factor.specs.declared.Factor.{Factor}
 use Rattle.factor.specs.SetUp.{Sound}
@@ -18,12 +16,14 @@ use Rattle.calls.specs.State.{Listing, entries}
 use Rattle.calls.specs.Call.{Run, run, Result, conditions, within, none_after, or_else, ahead}
 use Rattle.sweep.specs.declared.SweepState.{SweepState}
 use Rattle.sweep.specs.declared.Work.{Work}
+use Rattle.sweep.specs.declared.Halt.{Halt}
+use Rattle.sweep.specs.declared.Stepped.{Stepped}
 use Rattle.sweep.specs.Engine.{windows_of, mark_of, engine}
 use Rattle.sweep.specs.Answers.{view_of, terms_by}
 
 -- ---- searches
 
--- "A place past the half or past the range is none found"; the rounds count
+-- a place past the half or past the range is none found; the rounds count
 abbrev pub cut_at : (end : ℕ) → Found → Found
 cut_at end f = record { place = within end f.place; rounds = f.rounds }
 
@@ -45,50 +45,53 @@ pub record Searchable (h : Windows) : Type 0 where
 
 -- ---- a step
 
--- "the call stops if the cap is reached or no place is free"
+-- the call stops if the cap is reached or no place is free
 abbrev pub must_stop : (trials cap place size : ℕ) → Bool
 must_stop trials cap place size = eqb trials cap || eqb place size
 
 -- at first nothing is done, and the call goes on from a
 abbrev pub begun_at : ℕ → Work
-begun_at a = record { at = a; trials = 0; rounds = 0; place = 0; going = true; word = 0; left = Nowhere }
+begun_at a = record { at = a; trials = 0; rounds = 0; place = 0 }
 
--- the call stops at a suspect, or is over
-abbrev pub halted_at : Work → (rounds : ℕ) → Place → Work
-halted_at w n p = record { at = w.at; trials = w.trials; rounds = n; place = w.place; going = false; word = 0; left = p }
+-- the call stops at a suspect, or none is left
+abbrev pub halted_at : Work → (rounds : ℕ) → Option ℕ → Stepped
+halted_at w n p = Stepped.Halted (record { trials = w.trials; rounds = n; place = w.place; left = p })
 
 -- X was tried, and the call goes on past it
 abbrev pub passed_at : Work → (rounds X : ℕ) → Work
-passed_at w n X = record { at = X + 1; trials = w.trials + 1; rounds = n; place = w.place; going = true; word = 0; left = Nowhere }
+passed_at w n X = record { at = X + 1; trials = w.trials + 1; rounds = n; place = w.place }
 
 -- a word goes into the next free place
-abbrev pub with_word : Work → (word : ℕ) → Work
-with_word w v = record { at = w.at; trials = w.trials; rounds = w.rounds; place = w.place + 1; going = w.going; word = v; left = w.left }
+abbrev pub with_word : Work → Work
+with_word w = record { at = w.at; trials = w.trials; rounds = w.rounds; place = w.place + 1 }
+
+abbrev pub listed_at : Work → (word : ℕ) → Stepped
+listed_at w v = Stepped.Listed (with_word w) v
 
 -- X was tried, with its word if it has one: 2X, plus 1 for open
-abbrev pub tried_at : Work → (rounds X : ℕ) → Mark → Work
-tried_at w n X Right = passed_at w n X
-tried_at w n X Open = with_word (passed_at w n X) (2 * X + 1)
-tried_at w n X Wrong = with_word (passed_at w n X) (2 * X)
+abbrev pub tried_at : Work → (rounds X : ℕ) → Mark → Stepped
+tried_at w n X Right = Stepped.Passed (passed_at w n X)
+tried_at w n X Open = listed_at (passed_at w n X) (2 * X + 1)
+tried_at w n X Wrong = listed_at (passed_at w n X) (2 * X)
 
 -- what is done at a place: a suspect is tried, or the call stops at it; none found is the end
-abbrev pub step_at : (ℕ → Mark) → (stop : Bool) → Work → (rounds : ℕ) → Place → Work
-step_at mark stop w n (At X) = cond stop (halted_at w n (At X)) (tried_at w n X (mark X))
-step_at mark stop w n Nowhere = halted_at w n Nowhere
+abbrev pub step_at : (ℕ → Mark) → (stop : Bool) → Work → (rounds : ℕ) → Option ℕ → Stepped
+step_at mark stop w n (Some X) = cond stop (halted_at w n (Some X)) (tried_at w n X (mark X))
+step_at mark stop w n None = halted_at w n None
 
 -- the search ahead
 abbrev pub ahead_of : SweepState → (a : ℕ) → Found
 ahead_of s a = ahead engine (view_of s).over a
 
 -- the step of a call
-abbrev pub step_of : SweepState → (cap size : ℕ) → Work → Work
+abbrev pub step_of : SweepState → (cap size : ℕ) → Work → Stepped
 step_of s cap size w =
     let found = ahead_of s w.at in
     step_at (mark_of s.factor) (must_stop w.trials cap w.place size) w (w.rounds + found.rounds) found.place
 
 -- what a call answers as numbers, once it is done
-abbrev pub result_in : Work → Result
-result_in w = record { trials = w.trials; rounds = w.rounds; place = w.place }
+abbrev pub result_in : Halt → Result
+result_in h = record { trials = h.trials; rounds = h.rounds; place = h.place }
 
 -- ---- what is asked
 
@@ -114,9 +117,10 @@ Taken s cap size = judged (conditions engine (view_of s) (terms_by cap size 0)) 
 
 -- ---- all steps in one factor
 
--- how its entries are kept: the word alone, or behind the place of a kit's factor
-abbrev pub part_list : (paired : Bool) (lead : ℕ) → Listing
-part_list paired lead = record { refuses = λ t. []; places = cond paired 2 1; entry = λ w. cond paired (lead ∷ w ∷ []) (w ∷ []) }
+-- how its entries are kept: the word alone, or behind the place in the kit of a kit's factor
+abbrev pub part_list : (lead : Option ℕ) → Listing
+part_list None = record { refuses = λ t. []; places = 1; entry = λ w. w ∷ [] }
+part_list (Some place) = record { refuses = λ t. []; places = 2; entry = λ w. place ∷ w ∷ [] }
 
 -- what is left to do from where a call is
 abbrev pub part_run : SweepState → (cap room : ℕ) → Work → Run
@@ -127,20 +131,18 @@ abbrev pub part_written : Listing → Work → Run → List ℕ → List ℕ
 part_written l w all list = sets list (l.places * w.place) (entries l all.words)
 
 -- it is done: r is what was done before, w, and that
-pub record Parted (all : Run) (w r : Work) : Type 0 where
+pub record Parted (all : Run) (w : Work) (r : Halt) : Type 0 where
   pub trials : r.trials ≡ w.trials + all.trials
   pub rounds : r.rounds ≡ w.rounds + all.rounds
   pub place : r.place ≡ w.place + length all.words
   pub left : r.left ≡ all.left
-  pub going : r.going ≡ false
 
 -- the steps may be made: a new state over the factor and the range is not refused, and the counts and the entries fit
-pub record Partible (s : SweepState) (cap room : ℕ) (paired : Bool) (size : ℕ) (w : Work) : Type 0 where
+pub record Partible (s : SweepState) (cap room : ℕ) (lead : Option ℕ) (size : ℕ) (w : Work) : Type 0 where
   pub sound : NoneHolds (engine.new_faults (view_of s).over)
-  pub going : w.going ≡ true
   pub from : s.first ≤ w.at
   pub upto : w.at ≤ suc s.last
   pub capped : w.trials ≤ cap
   pub fits : w.place ≤ room
-  pub wide : cond paired 2 1 * room ≤ size
+  pub wide : (part_list lead).places * room ≤ size
   pub turns : w.rounds + 64 * (2 ^ most_precision + 3) < 2 ^ word_bits

@@ -13,35 +13,35 @@ use Rattle.kit.proofs.kit_call.Goals as goal
 pub offset_bounds-list-free : goal.offset_bounds-list-free
 offset_bounds-list-free c =
     let short : length c.args.list.now * 4 < 2 ^ 64 = search rules in
-    omega (arith, tail_free kits_lawful (view_of c.args.state) (call_of c.args.cap c.args.list.now c.args.free) c.in-Passed.ensures.is)
+    omega (arith, tail_free kits_lawful (view_of c.args.state) (call_of c.args.cap c.args.list.now c.args.free) c.in-Ok.ensures.is)
 
 pub slice_bounds-sweep_on-count : goal.slice_bounds-sweep_on-count
 slice_bounds-sweep_on-count c =
-    omega (arith, tail_free kits_lawful (view_of c.args.state) (call_of c.args.cap c.args.list.now c.args.free) c.in-Passed.ensures.is)
+    omega (arith, tail_free kits_lawful (view_of c.args.state) (call_of c.args.cap c.args.list.now c.args.free) c.in-Ok.ensures.is)
 
 pub slice_bounds-sweep_on-start : goal.slice_bounds-sweep_on-start
 slice_bounds-sweep_on-start c = slice_bounds-sweep_on-count c
 
-pub sweep_on-e-requires : goal.sweep_on-e-requires
-sweep_on-e-requires c = tail_taken kits_lawful (view_of c.args.state) (call_of c.args.cap c.args.list.now c.args.free) c.in-Passed.ensures.is
+pub sweep_on-requires : goal.sweep_on-requires
+sweep_on-requires c = tail_taken kits_lawful (view_of c.args.state) (call_of c.args.cap c.args.list.now c.args.free) c.in-Ok.ensures.is
 
-pub overflow_add-counts : goal.overflow_add-counts
-overflow_add-counts c =
+pub overflow_add-result : goal.overflow_add-result
+overflow_add-result c =
     let short : length c.args.list.now < 2 ^ 64 = search rules in
     omega (
       arith,
-      tail_free kits_lawful (view_of c.args.state) (call_of c.args.cap c.args.list.now c.args.free) c.in-Passed.ensures.is,
-      c.sweep_on-e.ensures.1,
+      tail_free kits_lawful (view_of c.args.state) (call_of c.args.cap c.args.list.now c.args.free) c.in-Ok.ensures.is,
+      c.sweep_on.ensures.1,
       lent_length c.args.list.now c.args.free,
     )
 
 -- ---- the reply
 
-pub returns-in-Refused : goal.returns-in-Refused
-returns-in-Refused c =
-    call_refused kits (view_of c.args.state) (call_of c.args.cap c.args.list.now c.args.free) c.in-Refused.number c.in-Refused.ensures.is
+pub returns-in-Err : goal.returns-in-Err
+returns-in-Err c =
+    call_refused kits (view_of c.args.state) (call_of c.args.cap c.args.list.now c.args.free) _ c.in-Err.ensures.is
 
-pub returns-in-Passed : goal.returns-in-Passed
-returns-in-Passed c =
-    ap (moved c.args.list.now c.args.free) c.sweep_on-e.ensures.0
-    ∙ tail_moved kits_lawful (view_of c.args.state) (call_of c.args.cap c.args.list.now c.args.free) c.in-Passed.ensures.is
+pub returns-in-Ok : goal.returns-in-Ok
+returns-in-Ok c =
+    ap (moved c.args.list.now c.args.free) c.sweep_on.ensures.0
+    ∙ tail_moved kits_lawful (view_of c.args.state) (call_of c.args.cap c.args.list.now c.args.free) c.in-Ok.ensures.is

@@ -1,24 +1,23 @@
 -- Refused, or told by the finished mark and the entries.
-use Rattle.std.proofs.Common.{Bool, cond, sym, ap, ◌∙◌, eq-eqb, ne_eqb}
-use Rattle.std.proofs.lemmas.Bool.{not-true, not-false}
-use Rattle.marks.specs.Answers.{accepted}
-use Rattle.marks.specs.AnswerLaws.{judged_passed}
-use Rattle.kit.specs.Answers.{clean, not_clean}
+use Rattle.std.proofs.Common.{◌∙◌, eq-eqb, ne_eqb}
+use Rattle.marks.specs.AnswerLaws.{none_holds, said_err}
+use Rattle.kit.specs.Engine.{kits}
+use Rattle.kit.specs.Answers.{Verdict, view_of}
 use Rattle.kit.specs.StateLaws.{verdict_refused, verdict_told}
 use Rattle.kit.proofs.kit_verdict.Goals as goal
 
-pub returns-then-not-state : goal.returns-then-not-state
-returns-then-not-state c = verdict_told c.args.state c.args.entries (judged_passed c.state_check.ensures c.in-Passed.is) (not-true c.args.state.finished c.if-not-state.true)
+pub returns-in_err-state_check : goal.returns-in_err-state_check
+returns-in_err-state_check c =
+    said_err _ c.from_residual.result c.from_residual.ensures.1 ∙ verdict_refused c.args.state c.args.entries c.in_err-state_check.ensures
 
-pub returns-then-entries-eq0 : goal.returns-then-entries-eq0
-returns-then-entries-eq0 c =
-    ap (λ (b : Bool). accepted (cond b clean not_clean)) (sym (eq-eqb c.args.entries 0 c.if-entries-eq0.true))
-    ∙ verdict_told c.args.state c.args.entries (judged_passed c.state_check.ensures c.in-Passed.is) (not-false c.args.state.finished c.if-not-state.false)
+pub returns-in-true-eq0 : goal.returns-in-true-eq0
+returns-in-true-eq0 c =
+    verdict_told c.args.state c.args.entries {v = Verdict.Clean} (none_holds (kits.faults (view_of c.args.state)) c.in_ok-state_check.ensures.is) (rw (c.in-true-eq0.is-0, eq-eqb _ 0 c.in-true-eq0.is-1))
 
-pub returns-in-Refused : goal.returns-in-Refused
-returns-in-Refused c = verdict_refused c.args.state c.args.entries c.state_check.ensures c.in-Refused.is
+pub returns-in-true-default : goal.returns-in-true-default
+returns-in-true-default c =
+    verdict_told c.args.state c.args.entries {v = Verdict.NotClean} (none_holds (kits.faults (view_of c.args.state)) c.in_ok-state_check.ensures.is) (rw (c.in-true-default.is-0, ne_eqb _ 0 c.in-true-default.is-1.1))
 
-pub returns-else-entries-eq0 : goal.returns-else-entries-eq0
-returns-else-entries-eq0 c =
-    ap (λ (b : Bool). accepted (cond b clean not_clean)) (sym (ne_eqb c.args.entries 0 c.if-entries-eq0.false))
-    ∙ verdict_told c.args.state c.args.entries (judged_passed c.state_check.ensures c.in-Passed.is) (not-false c.args.state.finished c.if-not-state.false)
+pub returns-in-false-default : goal.returns-in-false-default
+returns-in-false-default c =
+    verdict_told c.args.state c.args.entries {v = Verdict.Unfinished} (none_holds (kits.faults (view_of c.args.state)) c.in_ok-state_check.ensures.is) (rw c.in-false-default.is-0)

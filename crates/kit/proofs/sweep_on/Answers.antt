@@ -1,98 +1,90 @@
 -- A call makes its steps factor by factor: what is done so far and what is left to do are what the call does.
-use Rattle.std.proofs.Common.{◌≡◌, ◌*◌, ◌^◌, ◌<◌, length, refl, sym, ap, ◌∙◌, arith, rules, length-take}
-use Rattle.kit.specs.declared.Halt.{Halt}
-use Rattle.kit.specs.Steps.{end_of}
-use Rattle.kit.specs.SweepLaws.{taken_inside, taken_few, start_sound, work_start, place_inside, count_few, work_steps, work_stops, stops_less, goes_inside, moved_sound, work_goes, ended_place}
+use Rattle.std.proofs.Common.{◌≡◌, true, false, ◌-◌, ◌*◌, ◌^◌, ◌<◌, length, refl, ap, ◌∙◌, arith, rules}
+use Rattle.sweep.specs.declared.SweepState.{SweepState}
+use Rattle.sweep.specs.declared.Work.{Work}
+use Rattle.kit.specs.declared.KitState.{KitState}
+use Rattle.kit.specs.declared.KitCounts.{KitCounts}
+use Rattle.kit.specs.Steps.{counts_of, end_of}
+use Rattle.kit.specs.SweepLaws.{kit_number, last_sound, work_start, begun_is, work_fits, count_few, place_sound, work_steps, went_fits, work_stops, work_goes, work_ends}
 use Rattle.kit.proofs.sweep_on.Goals as goal
 
 -- ---- the start
 
-pub bounds-k-i : goal.bounds-k-i
-bounds-k-i c =
-    let s = c.args.s in
-    let n : length s.kit.factors ≡ 96 = search rules in
-    omega (arith, taken_inside s c.args.cap (length c.args.tail.now) c.requires (search rules), length-take s.kit.count s.kit.factors)
-
-pub offset_bounds-k-i : goal.offset_bounds-k-i
-offset_bounds-k-i c = omega (arith, bounds-k-i c)
-
-pub part_of-part-requires : goal.part_of-part-requires
-part_of-part-requires c =
-    let s = c.args.s in
-    let few = taken_few s c.args.cap (length c.args.tail.now) c.requires in
-    let n : length s.kit.factors ≡ 96 = search rules in
-    (start_sound s c.args.cap (length c.args.tail.now) c.requires (search rules) (omega (arith, few))).precision
-
-pub loop-w-init : goal.loop-w-init
-loop-w-init c =
-    let s = c.args.s in
-    let few = taken_few s c.args.cap (length c.args.tail.now) c.requires in
-    let n : length s.kit.factors ≡ 96 = search rules in
-    work_start s c.args.cap (length c.args.tail.now) c.requires refl (search rules) (omega (arith, few)) c.part_of-part.ensures c.begun-w.ensures
+pub loop-place-init : goal.loop-place-init
+loop-place-init c = work_start c.args.s c.args.cap (length c.args.tail.now) c.requires refl (search rules) (search rules)
 
 -- ---- a turn
 
-pub overflow_cast-i : goal.overflow_cast-i
-overflow_cast-i c = omega (arith, place_inside c.loop-w.invariant, count_few c.loop-w.invariant)
+pub bounds-s-place : goal.bounds-s-place
+bounds-s-place c = omega (arith, c.loop-place-test.true, count_few c.loop-place.invariant)
 
-pub steps_on-w-requires : goal.steps_on-w-requires
-steps_on-w-requires c = work_steps c.loop-w.invariant c.loop-w-test.true
+pub offset_bounds-s-place : goal.offset_bounds-s-place
+offset_bounds-s-place c = omega (arith, bounds-s-place c)
 
-pub overflow_add-i : goal.overflow_add-i
-overflow_add-i c = omega (arith, place_inside c.loop-w.invariant, count_few c.loop-w.invariant)
+pub invariant_of-whole : goal.invariant_of-whole
+invariant_of-whole c = record { sound = place_sound c.loop-place.invariant (search rules) c.loop-place-test.true }
 
--- ---- the next factor
+pub overflow_cast-place : goal.overflow_cast-place
+overflow_cast-place c = omega (arith, c.loop-place-test.true, count_few c.loop-place.invariant)
 
-pub overflow_add-i-then-goes_on : goal.overflow_add-i-then-goes_on
-overflow_add-i-then-goes_on c = omega (arith, place_inside c.loop-w.invariant, count_few c.loop-w.invariant)
+pub steps_on-halt-requires : goal.steps_on-halt-requires
+steps_on-halt-requires c =
+    let is = c.whole-part.ensures in
+    work_steps c.loop-place.invariant (search rules) c.loop-place-test.true is (begun_is c.loop-place.work is c.max.ensures)
 
-pub bounds-k-i-then-goes_on : goal.bounds-k-i-then-goes_on
-bounds-k-i-then-goes_on c =
-    let k = c.loop-w.invariant in
-    let few = count_few k in
-    let n : length c.args.s.kit.factors ≡ 96 = search rules in
-    omega (arith, goes_inside k c.loop-w-test.true c.steps_on-w.ensures.0 c.steps_on-w.ensures.1 refl (sym c.goes_on.ensures ∙ c.if-goes_on.true) (omega (arith, few)))
+pub counts-requires : goal.counts-requires
+counts-requires c =
+    let short : length c.args.tail.now * 4 < 2 ^ 64 = search rules in
+    let is = c.whole-part.ensures in
+    let fits = went_fits c.loop-place.invariant (search rules) c.loop-place-test.true is (begun_is c.loop-place.work is c.max.ensures) c.steps_on-halt.ensures.0 c.steps_on-halt.ensures.1 in
+    omega (arith, short, ap (λ (w : Work). w.place) c.resumed-work.ensures, fits)
 
-pub offset_bounds-k-i-then-goes_on : goal.offset_bounds-k-i-then-goes_on
-offset_bounds-k-i-then-goes_on c = omega (arith, bounds-k-i-then-goes_on c)
+pub returns-in-Some : goal.returns-in-Some
+returns-in-Some c =
+    let s = c.args.s in
+    let long : length s.kit.factors ≡ 96 = search rules in
+    let k = c.loop-place.invariant in
+    let is = c.whole-part.ensures in
+    let begun = begun_is c.loop-place.work is c.max.ensures in
+    let did = c.steps_on-halt.ensures in
+    let state : KitState = record { kit = s.kit; place = c.loop-place.place; next = c.in-Some.next; finished = false } in
+    let counts = c.counts.ensures ∙ ap counts_of c.resumed-work.ensures in (
+      ap (λ (x : KitCounts). end_of (state, x) c.steps_on-halt.new.tail) counts ∙ work_stops k long c.loop-place-test.true is begun did.0 did.1 c.in-Some.is,
+      omega (arith, ap (λ (x : KitCounts). x.place) counts, went_fits k long c.loop-place-test.true is begun did.0 did.1),
+    )
 
-pub part_of-part-requires-then-goes_on : goal.part_of-part-requires-then-goes_on
-part_of-part-requires-then-goes_on c =
-    let k = c.loop-w.invariant in
-    let few = count_few k in
-    let n : length c.args.s.kit.factors ≡ 96 = search rules in
-    (moved_sound k c.loop-w-test.true c.steps_on-w.ensures.0 c.steps_on-w.ensures.1 refl (sym c.goes_on.ensures ∙ c.if-goes_on.true) (omega (arith, few))).precision
-
-pub loop-w-smaller-then-goes_on : goal.loop-w-smaller-then-goes_on
-loop-w-smaller-then-goes_on c =
-    let k = c.loop-w.invariant in
-    let few = count_few k in
-    let n : length c.args.s.kit.factors ≡ 96 = search rules in
-    (work_goes k c.loop-w-test.true c.steps_on-w.ensures.0 c.steps_on-w.ensures.1 refl (sym c.goes_on.ensures ∙ c.if-goes_on.true) (omega (arith, few)) c.part_of-part-then-goes_on.ensures c.resumed-w.ensures).1
-
-pub loop-w-preserved-then-goes_on : goal.loop-w-preserved-then-goes_on
-loop-w-preserved-then-goes_on c =
-    let k = c.loop-w.invariant in
-    let few = count_few k in
-    let n : length c.args.s.kit.factors ≡ 96 = search rules in
-    (work_goes k c.loop-w-test.true c.steps_on-w.ensures.0 c.steps_on-w.ensures.1 refl (sym c.goes_on.ensures ∙ c.if-goes_on.true) (omega (arith, few)) c.part_of-part-then-goes_on.ensures c.resumed-w.ensures).0
+pub loop-place-preserved : goal.loop-place-preserved
+loop-place-preserved c =
+    let is = c.whole-part.ensures in
+    let did = c.steps_on-halt.ensures in
+    rw c.resumed-work.ensures
+    (work_goes c.loop-place.invariant (search rules) c.loop-place-test.true is (begun_is c.loop-place.work is c.max.ensures) did.0 did.1 c.in_default.is)
 
 -- ---- the end
 
-pub loop-w-smaller : goal.loop-w-smaller
-loop-w-smaller c = stops_less c.loop-w.invariant c.loop-w-test.true c.steps_on-w.ensures.0 c.steps_on-w.ensures.1
+pub overflow_sub-place : goal.overflow_sub-place
+overflow_sub-place c = omega (arith, kit_number c.args.s c.args.cap (length c.args.tail.now) c.requires)
 
-pub loop-w-preserved : goal.loop-w-preserved
-loop-w-preserved c = work_stops c.loop-w.invariant c.loop-w-test.true c.steps_on-w.ensures.0 c.steps_on-w.ensures.1 refl (sym c.goes_on.ensures ∙ c.if-goes_on.false)
+pub bounds-s-place-2 : goal.bounds-s-place-2
+bounds-s-place-2 c = omega (arith, kit_number c.args.s c.args.cap (length c.args.tail.now) c.requires, count_few c.loop-place.invariant)
 
-pub ended-requires : goal.ended-requires
-ended-requires c =
+pub offset_bounds-s-place-2 : goal.offset_bounds-s-place-2
+offset_bounds-s-place-2 c = omega (arith, bounds-s-place-2 c)
+
+pub invariant_of-whole-2 : goal.invariant_of-whole-2
+invariant_of-whole-2 c = record { sound = last_sound c.args.s c.args.cap (length c.args.tail.now) c.requires (search rules) }
+
+pub counts-requires-2 : goal.counts-requires-2
+counts-requires-2 c =
     let short : length c.args.tail.now * 4 < 2 ^ 64 = search rules in
-    omega (arith, c.loop-w.invariant.fits)
+    omega (arith, short, work_fits c.loop-place.invariant)
 
 pub returns : goal.returns
 returns c =
-    let l = c.loop-w in (
-      ap (λ (r : Halt). end_of c.args.s r l.tail) c.ended.ensures ∙ l.invariant.off c.loop-w-test.false,
-      omega (arith, ap (λ (r : Halt). r.place) c.ended.ensures, ended_place l.i l.part.last l.w, l.invariant.fits),
+    let s = c.args.s in
+    let k = c.loop-place.invariant in
+    let state : KitState = record { kit = s.kit; place = s.kit.count - 1; next = c.whole-last.result.last; finished = true } in (
+      ap (λ (x : KitCounts). end_of (state, x) c.loop-place.tail) c.counts-2.ensures
+          ∙ work_ends k (search rules) c.loop-place-test.false (ap (λ (p : SweepState). p.last) c.whole-last.ensures),
+      omega (arith, ap (λ (x : KitCounts). x.place) c.counts-2.ensures, work_fits k),
     )

@@ -1,20 +1,23 @@
--- A turn finds a pair or leaves the rest to decide.
-use Rattle.std.proofs.Common.{sym, ◌∙◌}
-use Rattle.kit.specs.Answers.{no_factor}
-use Rattle.kit.specs.LoopLaws.{seek_hit, seek_miss, pair_seek, pair_next, pair_end}
+-- The first of those that are left is like another of them, or the others decide.
+use Rattle.std.proofs.Common.{◌≡◌, rules, sym, ap, ◌∙◌, ◌∷◌}
+use Rattle.calls.specs.Kit.{two_alike}
+use Rattle.kit.specs.Engine.{alike}
+use Rattle.kit.specs.LoopLaws.{alike_first, alike_others, none_alike_in}
 use Rattle.kit.proofs.two_alike.Goals as goal
 
-pub loop-j-init : goal.loop-j-init
-loop-j-init c = pair_seek c.loop-i.invariant no_factor c.loop-i-test.true
+pub returns-then-is_like_one : goal.returns-then-is_like_one
+returns-then-is_like_one c =
+    let f = c.in-Some.f.now in
+    let l = c.in-Some.others.now in
+    let at : c.loop-f.rest.now ≡ f ∷ l = search rules in
+    sym (c.loop-f.invariant ∙ ap (two_alike alike) at ∙ alike_first alike f l (sym c.is_like_one.ensures ∙ c.if-is_like_one.true))
 
-pub returns-then-is_alike : goal.returns-then-is_alike
-returns-then-is_alike c = seek_hit c.loop-j.invariant no_factor c.loop-j-test.true (sym c.is_alike.ensures ∙ c.if-is_alike.true)
-
-pub loop-j-preserved : goal.loop-j-preserved
-loop-j-preserved c = seek_miss c.loop-j.invariant no_factor c.loop-j-test.true (sym c.is_alike.ensures ∙ c.if-is_alike.false)
-
-pub loop-i-preserved : goal.loop-i-preserved
-loop-i-preserved c = pair_next c.loop-j.invariant c.loop-j-test.false
+pub loop-f-preserved : goal.loop-f-preserved
+loop-f-preserved c =
+    let f = c.in-Some.f.now in
+    let l = c.in-Some.others.now in
+    let at : c.loop-f.rest.now ≡ f ∷ l = search rules in
+    c.loop-f.invariant ∙ ap (two_alike alike) at ∙ alike_others alike f l (sym c.is_like_one.ensures ∙ c.if-is_like_one.false)
 
 pub returns : goal.returns
-returns c = pair_end c.loop-i.invariant c.loop-i-test.false
+returns c = sym (c.loop-f.invariant ∙ none_alike_in alike c.loop-f.rest.now (search rules))

@@ -11,5 +11,5 @@ low_word hi lo z m whole e =
 pub returns : goal.returns
 returns c =
     let a = c.args in
-    let p = c.product-p in
+    let p = c.product in
     low_word p.result.hi p.result.lo (a.x * a.y) a.m c.requires.1 p.ensures

@@ -13,6 +13,6 @@ sought_before-upper-requires c = (high_asks c.requires.0, omega arith)
 pub overflow_add-result : goal.overflow_add-result
 overflow_add-result c =
     let k = c.requires.0 in
-    let low : c.sought_before-lower.result.rounds ≤ most_rounds k.of = rw c.sought_before-lower.ensures (low_few k c.args.at c.smaller.result) in
-    let high : c.sought_before-upper.result.rounds ≤ most_rounds k.of = rw c.sought_before-upper.ensures (high_few k c.larger.result (c.args.last + 1)) in
+    let low : c.sought_before-lower.result.rounds ≤ most_rounds k.of = rw c.sought_before-lower.ensures (low_few k c.args.at c.min.result) in
+    let high : c.sought_before-upper.result.rounds ≤ most_rounds k.of = rw c.sought_before-upper.ensures (high_few k c.max.result (c.args.last + 1)) in
     record { fits = omega arith }

@@ -11,19 +11,19 @@ ahead-found-requires c =
 pub overflow_add-rounds : goal.overflow_add-rounds
 overflow_add-rounds c = record { fits = step_rounds c.requires c.ahead-found.ensures }
 
-pub returns-then-must_stop : goal.returns-then-must_stop
-returns-then-must_stop c = stop_step c.requires c.ahead-found.ensures c.in-At.is c.must_stop.ensures c.if-must_stop.true c.halted.ensures
+pub returns-in-Some : goal.returns-in-Some
+returns-in-Some c = stop_step c.requires c.ahead-found.ensures c.in-Some.is c.must_stop.ensures c.if-must_stop.true c.halted.ensures
 
-pub trial-requires : goal.trial-requires
-trial-requires c = (step_sound c.requires, found_bits c.requires c.ahead-found.ensures c.in-At.is)
+pub invariant_of-suspect : goal.invariant_of-suspect
+invariant_of-suspect c = record { sound = step_sound c.requires; in_range = found_bits c.requires c.ahead-found.ensures c.in-Some-2.is }
 
 pub tried-requires : goal.tried-requires
 tried-requires c =
-    step_room c.requires c.ahead-found.ensures c.in-At.is c.must_stop.ensures c.if-must_stop.false (omega arith) (omega arith)
+    step_room c.requires c.ahead-found.ensures c.in-Some-2.is c.must_stop.ensures c.if-must_stop.false (omega arith) (omega arith)
 
-pub returns-else-must_stop : goal.returns-else-must_stop
-returns-else-must_stop c =
-    trial_step c.requires c.ahead-found.ensures c.in-At.is c.must_stop.ensures c.if-must_stop.false c.trial.ensures c.tried.ensures
+pub returns-in-Some-2 : goal.returns-in-Some-2
+returns-in-Some-2 c =
+    trial_step c.requires c.ahead-found.ensures c.in-Some-2.is c.must_stop.ensures c.if-must_stop.false c.trial.ensures c.tried.ensures
 
-pub returns-in-Nowhere : goal.returns-in-Nowhere
-returns-in-Nowhere c = over_step c.requires c.ahead-found.ensures c.in-Nowhere.is c.halted-in-Nowhere.ensures
+pub returns-in-None : goal.returns-in-None
+returns-in-None c = over_step c.requires c.ahead-found.ensures c.in-None.is c.halted-in-None.ensures

@@ -2,8 +2,8 @@
 use Rattle.sweep.proofs.LoopLaws.{Working, steps_left}
 use Rattle.sweep.proofs.steps_on.Given as goal
 
-abbrev pub invariant-loop-w : goal.invariant-loop-w
-invariant-loop-w l = Working l.s l.cap l.room l.paired l.lead l.fn.done l.fn.tail l.w l.tail
+abbrev pub invariant-loop-next : goal.invariant-loop-next
+invariant-loop-next l = Working l.s l.cap l.room l.lead l.fn.done l.fn.tail l.w l.tail
 
-abbrev pub decreases-loop-w : goal.decreases-loop-w
-decreases-loop-w l = steps_left l.s l.w
+abbrev pub decreases-loop-next : goal.decreases-loop-next
+decreases-loop-next l = steps_left l.s l.w
