@@ -1,4 +1,4 @@
--- Document 01's example, line by line, factors below zero (request W5), and lines that are no frames, worked out by computation. Assumes nothing.
+-- The example of frames and reports, line by line, factors below zero, and lines that are no frames, worked out by computation. Assumes nothing.
 use Rattle.std.specs.Prelude.{◌≡◌, refl, Bool, true, false, List, [] as []ᴸ, ◌∷◌ as ◌∷ᴸ◌, ℕ, ℤ, pos, negsuc}
 use Prim.Native.Char.{code}
 use Prim.Native.String.{String, [], ◌∷◌}
@@ -42,7 +42,7 @@ least_scale : frame_of (bytes "7F 80 0000000000000000 FFFFFFFFFFFFFFFF") ≡ fra
 unfolding bytes
 least_scale = refl
 
--- Factors below zero: 80 hexadecimal is added to the precision, 4, 24, 3, 0 and 127 (request W5).
+-- Factors below zero: 80 hexadecimal is added to the precision, 4, 24, 3, 0 and 127.
 below_zero :
     (frame_of (bytes "84 00 6000000000000000 6000000000000000") ≡ signed true 4 (pos 0) 0x6000000000000000 0x6000000000000000)
     × (frame_of (bytes "98 F9 624DD2F1A9FBE76C 624DD2F1A9FBE76D") ≡ signed true 24 (negsuc 6) 0x624DD2F1A9FBE76C 0x624DD2F1A9FBE76D)

@@ -1,12 +1,9 @@
--- A frame (document 01, "Frames and report"): what a line says, and refusal 24 of a line that is not exactly of that form.
+-- A frame: what a line says, and refusal 24 of a line that is not exactly of that form.
 -- A line is the bytes before its line feed. Definitions only. Assumes nothing.
-use Rattle.std.specs.Prelude.{Bool, cond, not, ◌&&◌, List, [], ◌∷◌, ℕ, ◌+◌, ◌-◌, ◌*◌, ◌%◌, ◌^◌, ◌<◌, eqb, ltb, leb, ℤ, pos, negsuc, ◌-ℤ◌, length, get_or}
+use Rattle.std.specs.Prelude.{Bool, cond, not, ◌&&◌, List, [], ◌∷◌, ℕ, ◌+◌, ◌-◌, ◌*◌, ◌%◌, ◌^◌, ◌<◌, eqb, ltb, leb, ℤ, pos, negsuc, ◌-ℤ◌, length, get_or, Option, Some, None}
 use Rattle.std.specs.Int.Signed.{mag}
 use Rattle.marks.specs.Answers.{Outcome, refused, accepted, answer}
 use Rattle.factor.specs.declared.Description.{Description}
-use Rattle.frame.specs.declared.Field.{Field}
-use Rattle.frame.specs.declared.FrameAnswer.{FrameAnswer}
-use Rattle.frame.specs.declared.FrameAnswer.TheVariants.{Frame, Refused}
 use Rattle.frame.specs.Digits.{hex_digits, field_at, malformed, number_of}
 use Rattle.frame.specs.Lines.{blank, joined}
 
@@ -19,7 +16,7 @@ end_digits = 16
 abbrev pub signed_byte : ℕ → ℤ
 signed_byte b = cond (ltb b 128) (pos b) (pos b -ℤ pos 256)
 
--- what the precision's byte has added for a negative factor (request W5), whether a byte has it, and the precision without it
+-- what the precision's byte has added for a negative factor, whether a byte has it, and the precision without it
 abbrev pub sign_added : ℕ
 sign_added = 0x80
 
@@ -38,16 +35,16 @@ unfoldable pub spaced : (e : ℕ) → List ℕ → Bool
 spaced e line = eqb (length line) (7 + 2 * e) && (blank_at line 2 && (blank_at line 5 && blank_at line (6 + e)))
 
 -- the four fields of a line
-abbrev pub precision_field : List ℕ → Field
+abbrev pub precision_field : List ℕ → Option ℕ
 precision_field line = field_at line 0 2
 
-abbrev pub scale_field : List ℕ → Field
+abbrev pub scale_field : List ℕ → Option ℕ
 scale_field line = field_at line 3 2
 
-abbrev pub lower_field : List ℕ → Field
+abbrev pub lower_field : List ℕ → Option ℕ
 lower_field line = field_at line 6 end_digits
 
-abbrev pub upper_field : List ℕ → Field
+abbrev pub upper_field : List ℕ → Option ℕ
 upper_field line = field_at line (7 + end_digits) end_digits
 
 -- 24, the line is not a frame: its fields do not stand where a frame's do, or one of them is no number of its digits
@@ -71,15 +68,15 @@ described_by line =
       upper = number_of (upper_field line);
     }
 
--- a **frame** (document 01): precision with the sign (request W5), scale, L and U, each in its place; 24 stands alone, whatever else is wrong with the line
+-- a **frame**: precision with the sign, scale, lower and upper end, each in its place; 24 stands alone, whatever else is wrong with the line
 unfoldable pub frame_of : List ℕ → Outcome Description
 unfolding spaced field_at
 frame_of line = answer (conditions line) (described_by line)
 
--- what each case of the answer says
-abbrev pub outcome_of : FrameAnswer → Outcome Description
-outcome_of (Frame d) = accepted d
-outcome_of (Refused k) = refused k
+-- what a description says, and that there is none
+abbrev pub framed : Option Description → Outcome Description
+framed (Some d) = accepted d
+framed None = refused 24
 
 -- ---- printed
 -- the byte that is a number in two's complement

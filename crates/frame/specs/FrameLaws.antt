@@ -1,5 +1,5 @@
--- A line is a frame exactly if it is what the frame's fields print; and a line with 80 hexadecimal added to its first byte says the same with a minus (request W5). Assumes nothing.
-use Rattle.std.specs.Prelude.{◌≡◌, Bool, true, ℕ, suc, ◌+◌, ◌-◌, ◌*◌, ◌^◌, ◌<◌, eqb, ℤ, pos, negsuc, length, get_or, drop}
+-- A line is a frame exactly if it is what the frame's fields print; and a line with 80 hexadecimal added to its first byte says the same with a minus. Assumes nothing.
+use Rattle.std.specs.Prelude.{◌≡◌, Bool, true, ℕ, suc, ◌+◌, ◌-◌, ◌*◌, ◌^◌, ◌<◌, eqb, ℤ, pos, negsuc, length, get_or, drop, Option, Some}
 use Rattle.std.proofs.Math.Path.{refl, sym, ap, ap₂}
 use Rattle.std.proofs.Common.{subst, ◌∙◌, mod-eq_of_lt, mod-lt, arith, drop_of_length-le, drop-cons, lt-ltb, le-ltb, le-leb, eqb-true}
 use Rattle.std.proofs.Math.Bool.{false, not}
@@ -11,8 +11,6 @@ use Rattle.marks.specs.Answers.{NoneHolds, Outcome, accepted, answer, each}
 use Rattle.marks.specs.AnswerLaws.{pass, end, accepts, answer_each, only_accepted, and_true}
 use Rattle.factor.specs.declared.Description.{Description}
 use Rattle.factor.proofs.Signs.{described_as}
-use Rattle.frame.specs.declared.Field.{Field}
-use Rattle.frame.specs.declared.Field.TheVariants.{Value}
 use Rattle.frame.specs.Digits.{digits, hex_digits, value_after, field_at, malformed, number_of}
 use Rattle.frame.specs.DigitLaws.{value_read}
 use Rattle.frame.specs.FieldLaws.{Held, field_inside, field_held, well_formed, rest_of}
@@ -60,10 +58,10 @@ byte_small false n h = omega arith
 pub frame_is :
     (line : List ℕ) {p k l u : ℕ}
     → not (spaced end_digits line) ≡ false
-    → precision_field line ≡ Value p
-    → scale_field line ≡ Value k
-    → lower_field line ≡ Value l
-    → upper_field line ≡ Value u
+    → precision_field line ≡ Some p
+    → scale_field line ≡ Some k
+    → lower_field line ≡ Some l
+    → upper_field line ≡ Some u
     → ◌≡◌ {A = Outcome Description} (accepted (record { minus = minus_in p; precision = precision_in p; scale = signed_byte k; lower = l; upper = u })) (frame_of line)
 unfolding frame_of
 frame_is line {p} {k} {l} {u} s hp hk hl hu =
@@ -72,8 +70,8 @@ frame_is line {p} {k} {l} {u} s hp hk hl hu =
 
 -- ---- printed, then read
 -- a number that its digits hold is read back
-read_back : (w v : ℕ) → v < 16 ^ w → value_after 0 (hex_digits w v) ≡ Value v
-read_back w v h = value_read w 0 v ∙ ap Value (omega (arith, mod-eq_of_lt h))
+read_back : (w v : ℕ) → v < 16 ^ w → value_after 0 (hex_digits w v) ≡ Some v
+read_back w v h = value_read w 0 v ∙ ap Some (omega (arith, mod-eq_of_lt h))
 
 module _ (d : Description) (p : Printable d) where
   abbrev text : List ℕ
@@ -147,7 +145,7 @@ frame_printed line d e =
 
 -- ---- 80 hexadecimal more in the first byte
 -- a byte before the rest of a line, whatever that is, is the precision's field
-byte_first : (v : ℕ) → v < 256 → (rest : List ℕ) → precision_field (hex_digits 2 v ++ rest) ≡ Value v
+byte_first : (v : ℕ) → v < 256 → (rest : List ℕ) → precision_field (hex_digits 2 v ++ rest) ≡ Some v
 unfolding digits
 byte_first v h rest = field_inside (hex_digits 2 v ++ rest) 0 2 (omega arith) ∙ read_back 2 v h
 
@@ -161,15 +159,15 @@ module _ (rest : List ℕ) where
   said_with s n = record { minus = s; precision = n; scale = signed_byte (number_of (scale_field line)); lower = number_of (lower_field line); upper = number_of (upper_field line) }
 
   -- by what its first field says
-  conditions_by : Field → List (ℕ × Bool)
+  conditions_by : Option ℕ → List (ℕ × Bool)
   unfolding digits spaced field_at
   conditions_by f = (24, not (spaced end_digits line)) ∷ (24, malformed f) ∷ (24, malformed (scale_field line)) ∷ (24, malformed (lower_field line)) ∷ (24, malformed (upper_field line)) ∷ []
 
-  said_by : Field → Outcome Description
+  said_by : Option ℕ → Outcome Description
   unfolding conditions_by said_with
   said_by f = answer (conditions_by f) (said_with (minus_in (number_of f)) (precision_in (number_of f)))
 
-  said : (v : ℕ) → v < 256 → frame_of (hex_digits 2 v ++ rest) ≡ said_by (Value v)
+  said : (v : ℕ) → v < 256 → frame_of (hex_digits 2 v ++ rest) ≡ said_by (Some v)
   unfolding said_by frame_of
   said v h = ap said_by (byte_first v h rest)
 
@@ -179,6 +177,6 @@ module _ (rest : List ℕ) where
   sign_read s p h =
       let byte = byte_apart s p h in
       said (precision_byte s p) (byte_small s p h)
-      ∙ ap₂ (λ (m : Bool) (n : ℕ). answer (conditions_by (Value p)) (said_with m n)) byte.0 (byte.1 ∙ sym (mod-eq_of_lt h))
-      ∙ answer_each (described_as s) (conditions_by (Value p)) (said_with (minus_in p) (precision_in p))
+      ∙ ap₂ (λ (m : Bool) (n : ℕ). answer (conditions_by (Some p)) (said_with m n)) byte.0 (byte.1 ∙ sym (mod-eq_of_lt h))
+      ∙ answer_each (described_as s) (conditions_by (Some p)) (said_with (minus_in p) (precision_in p))
       ∙ ap (each (described_as s)) (sym (said p (byte_small false p h)))

@@ -1,4 +1,4 @@
--- The lines that are printed (document 01, "Frames and report"), byte for byte, each with its line feed. Definitions only. Assumes nothing.
+-- The lines that are printed, byte for byte, each with its line feed. Definitions only. Assumes nothing.
 use Rattle.std.specs.Prelude.{cond, List, [], ◌∷◌, ℕ, eqb}
 use Rattle.frame.specs.declared.Report.{Report}
 use Rattle.frame.specs.Digits.{hex_digits, decimal_digits}
@@ -8,11 +8,11 @@ use Rattle.frame.specs.Lines.{line_of}
 unfoldable pub word_line : (w v : ℕ) → List ℕ
 word_line w v = line_of (hex_digits w v ∷ [])
 
--- the **verdict** (document 01): 00 clean, 01 some wrong, 02 open only
+-- the **verdict**: 00 clean, 01 some wrong, 02 open only
 abbrev pub verdict_of : (wrongs opens : ℕ) → ℕ
 verdict_of wrongs opens = cond (eqb wrongs 0) (cond (eqb opens 0) 0 2) 1
 
--- a **report** (document 01) whose counts have w digits
+-- a **report** whose counts have w digits
 unfoldable pub report_line : (w : ℕ) → Report → List ℕ
 report_line w r =
     line_of

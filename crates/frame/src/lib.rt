@@ -1,50 +1,36 @@
-// Frames and report (document 01): a line read as a frame, and the lines that are printed, byte for byte.
+// Frames and report: a line read as a frame, and the lines that are printed, byte for byte.
 
 #![tactic(auto)]
 
 ghost use Rattle.std.specs.Prelude.{◌≡◌, [], ◌∷◌, ◌++◌, ◌+◌, ◌*◌, ◌<◌, ◌≤◌, length};
+ghost use Rattle.marks.specs.Answers.{said};
 ghost use Rattle.frame.specs.Digits.{digit_byte, digits, digit_value, field_at};
-ghost use Rattle.frame.specs.Frame.{signed_byte, spaced, frame_of, outcome_of};
+ghost use Rattle.frame.specs.Frame.{signed_byte, spaced, frame_of, framed};
 ghost use Rattle.frame.specs.Report.{verdict_of, word_line, report_line, refusal_line};
 ghost use Rattle.frame.specs.Written.{Written};
 
 use factor::Description;
-
-// Refusal 24: the line is not a frame.
-const NOT_A_FRAME: u32 = 24;
+use marks::Refusal;
 
 // An end has so many digits.
 const END_DIGITS: usize = 16;
 
-// What the precision's byte has added for a negative factor: 80 hexadecimal.
-const SIGN: u64 = 128;
+// What the precision's byte has added for a negative factor.
+const SIGN: u64 = 0x80;
 
-// The bytes between fields and at a line's end.
-const BLANK: u8 = 32;
+// The byte between fields.
+const BLANK: u8 = b' ';
 
-const LINE_FEED: u8 = 10;
+// The byte at a line's end.
+pub const LINE_FEED: u8 = b'\n';
 
 // The bases in which numbers are printed.
 const HEXADECIMAL: u64 = 16;
 
 const DECIMAL: u64 = 10;
 
-// What is read of a field of hexadecimal digits: its value, or that it is no such field.
-#[derive(Clone, Copy)]
-pub enum Field {
-    Value(u64),
-    Malformed,
-}
-
-// The answer to a line: the factor that it describes, or refusal 24.
-#[derive(Clone, Copy)]
-pub enum FrameAnswer {
-    Frame(Description),
-    Refused(u32),
-}
-
 // What is reported of a frame: its line's number, and how many significands were tried, found wrong and found open.
-#[derive(Clone, Copy)]
+#[derive(Clone, Copy, Debug, PartialEq, Eq)]
 pub struct Report {
     pub number: u64,
     pub trials: u64,
@@ -54,46 +40,26 @@ pub struct Report {
 
 // The value of an upper-case hexadecimal digit.
 #[tactic(auto, unfolding(crate::specs::Digits::digit_value))]
-fn digit_value(b: u8) -> Field
+fn digit_value(b: u8) -> Option<u64>
     ensures { result ≡ digit_value b }
 {
-    if b < 48 {
-        return Field::Malformed;
+    match b {
+        b'0'..=b'9' => Some((b - b'0') as u64),
+        b'A'..=b'F' => Some(10 + (b - b'A') as u64),
+        _ => None,
     }
-    if b <= 57 {
-        return Field::Value((b - 48) as u64);
-    }
-    if b < 65 {
-        return Field::Malformed;
-    }
-    if b <= 70 {
-        return Field::Value(10 + (b - 65) as u64);
-    }
-    Field::Malformed
 }
 
-// The value of the `width` digits from `at` on.
-pub fn read_field(line: &[u8], at: usize, width: usize) -> Field
+// The value of the `width` digits from `at` on; none where one of them is no digit, or the line ends before them.
+pub fn read_field(line: &[u8], at: usize, width: usize) -> Option<u64>
     requires { width ≤ 16 }
     ensures { result ≡ field_at line.now at width }
 {
-    if line.len() < at {
-        return Field::Malformed;
+    let mut value = 0;
+    for b in line.get(at..)?.get(..width)? {
+        value = value * 16 + digit_value(*b)?;
     }
-    if line.len() - at < width {
-        return Field::Malformed;
-    }
-    let mut value: u64 = 0;
-    let mut i: usize = 0;
-    while i < width {
-        let digit = digit_value(line[at + i]);
-        let Field::Value(d) = digit else {
-            return Field::Malformed;
-        };
-        value = value * 16 + d;
-        i += 1;
-    }
-    Field::Value(value)
+    Some(value)
 }
 
 // Whether blanks stand where the fields of a frame meet, and the line ends where the last field does; each end has e digits.
@@ -102,16 +68,7 @@ fn is_spaced(line: &[u8], e: usize) -> bool
     requires { e ≤ 32 }
     ensures { result ≡ spaced e line.now }
 {
-    if line.len() != 7 + 2 * e {
-        return false;
-    }
-    if line[2] != BLANK {
-        return false;
-    }
-    if line[5] != BLANK {
-        return false;
-    }
-    line[6 + e] == BLANK
+    line.len() == 7 + 2 * e && line[2] == BLANK && line[5] == BLANK && line[6 + e] == BLANK
 }
 
 // A byte in two's complement.
@@ -119,42 +76,34 @@ fn signed_byte(b: u64) -> i32
     requires { b < 256 }
     ensures { result ≡ signed_byte b }
 {
-    if b < 128 {
-        return b as i32;
+    i32::from((b as u8).cast_signed())
+}
+
+// The description of a factor that a line says, if it is a frame.
+fn description_in(line: &[u8]) -> Option<Description>
+    ensures { framed result ≡ frame_of line.now }
+{
+    if !is_spaced(line, END_DIGITS) {
+        return None;
     }
-    b as i32 - 256
+    let precision = read_field(line, 0, 2)?;
+    let scale = read_field(line, 3, 2)?;
+    let lower = read_field(line, 6, END_DIGITS)?;
+    let upper = read_field(line, 7 + END_DIGITS, END_DIGITS)?;
+    Some(Description {
+        minus: SIGN <= precision,
+        precision: (precision % SIGN) as u32,
+        scale: signed_byte(scale),
+        lower,
+        upper,
+    })
 }
 
 // What a line says: the description of a factor, or refusal 24.
-pub fn read_frame(line: &[u8]) -> FrameAnswer
-    ensures { outcome_of result ≡ frame_of line.now }
+pub fn read_frame(line: &[u8]) -> Result<Description, Refusal>
+    ensures { said result ≡ frame_of line.now }
 {
-    if !is_spaced(line, END_DIGITS) {
-        return FrameAnswer::Refused(NOT_A_FRAME);
-    }
-    let precision = read_field(line, 0, 2);
-    let Field::Value(p) = precision else {
-        return FrameAnswer::Refused(NOT_A_FRAME);
-    };
-    let scale = read_field(line, 3, 2);
-    let Field::Value(k) = scale else {
-        return FrameAnswer::Refused(NOT_A_FRAME);
-    };
-    let lower = read_field(line, 6, END_DIGITS);
-    let Field::Value(l) = lower else {
-        return FrameAnswer::Refused(NOT_A_FRAME);
-    };
-    let upper = read_field(line, 7 + END_DIGITS, END_DIGITS);
-    let Field::Value(u) = upper else {
-        return FrameAnswer::Refused(NOT_A_FRAME);
-    };
-    FrameAnswer::Frame(Description {
-        minus: SIGN <= p,
-        precision: (p % SIGN) as u32,
-        scale: signed_byte(k),
-        lower: l,
-        upper: u,
-    })
+    description_in(line).ok_or(Refusal::NotAFrame)
 }
 
 // The digit for a number below 16.
@@ -164,9 +113,10 @@ fn digit_byte(d: u64) -> u8
     ensures { result ≡ digit_byte d }
 {
     if d < 10 {
-        return 48 + d as u8;
+        b'0' + d as u8
+    } else {
+        b'A' + (d - 10) as u8
     }
-    65 + (d - 10) as u8
 }
 
 // The last `width` digits of v in a base up to 16, written from `at` on; the answer is the place after them.
@@ -175,12 +125,9 @@ pub fn put_digits(buf: &mut [u8], at: usize, width: usize, base: u64, v: u64) ->
     ensures { Written buf.old at (digits base width v) buf.new result }
 {
     let mut rest = v;
-    let mut done: usize = 0;
-    while done < width {
-        let place = at + (width - (done + 1));
+    for place in (at..at + width).rev() {
         buf[place] = digit_byte(rest % base);
-        rest = rest / base;
-        done += 1;
+        rest /= base;
     }
     at + width
 }
@@ -208,13 +155,11 @@ pub fn put_word(buf: &mut [u8], at: usize, width: usize, v: u64) -> usize
 fn verdict(wrongs: u64, opens: u64) -> u64
     ensures { result ≡ verdict_of wrongs opens }
 {
-    if wrongs != 0 {
-        return 1;
+    match (wrongs, opens) {
+        (0, 0) => 0,
+        (0, _) => 2,
+        _ => 1,
     }
-    if opens != 0 {
-        return 2;
-    }
-    0
 }
 
 // The report on a frame, its counts of `width` digits.

@@ -1,4 +1,4 @@
-// `plotconst`: reads frames on standard input, sweeps each, and prints words and reports (document 01, "Frames and report").
+// `plotconst`: reads frames on standard input, sweeps each, and prints words and reports.
 // All that it computes is `stream::work`'s; here bytes are read and written. No contract can speak of that, so it is kept in sight: the loop of `main`.
 
 #![tactic(auto)]
@@ -22,53 +22,47 @@ fn tell_unread(rt: &HostRuntime, why: io::Error) -> io::Result<()> {
     )
 }
 
-// Writes all bytes, by as many writes as that takes. A write that fails is the last, whatever the reason.
+// Writes all bytes, by as many writes as that takes. A write that fails is the last, whatever the reason: the library's `write_all` tries one that was interrupted again.
 fn write_all(out: &mut impl Write, bytes: &[u8]) -> io::Result<()> {
-    let mut at: usize = 0;
-    while at < bytes.len() {
-        let put = out.write(&bytes[at..])?;
+    let mut rest = bytes;
+    while !rest.is_empty() {
+        let put = out.write(rest)?;
         if put == 0 {
             return Err(io::Error::from(ErrorKind::WriteZero));
         }
-        at += put;
+        rest = &rest[put..];
     }
     Ok(())
 }
 
 // Reads where that is asked for, works off what there is, and writes: `program` of `stream`'s specs. A read or a write that fails is the last.
-// A proved loop has to end, and nothing says that an input does: this one counts its turns down from a number that no run uses up.
+// A proved loop has to end, and nothing says that an input does: this one ends after a number of turns that no run uses up.
 fn main(rt: HostRuntime) -> io::Result<()> {
-    let mut space = [0u8; 65536];
-    let input: &mut [u8] = &mut space;
-    let mut room = [0u8; 65536];
-    let out: &mut [u8] = &mut room;
+    let mut input = [0; 65536];
+    let mut out = [0; 65536];
     let mut progress = stream::new();
     let mut next = Next::Read;
-    let mut count: usize = 0;
-    let mut at: usize = 0;
-    let mut turns = u64::MAX;
-    while turns > 0 {
+    let mut count = 0;
+    let mut at = 0;
+    for _ in 0..u64::MAX {
         match next {
             Next::Again => {}
             Next::Read => {
-                count = match rt.stdin().read(input) {
-                    Ok(got) => got,
+                count = match rt.stdin().read(&mut input) {
+                    Ok(count) => count,
                     Err(why) => return tell_unread(&rt, why),
                 };
                 at = 0;
             }
             Next::Stop => return Ok(()),
         }
-        let worked = stream::work(progress, &input[..count], at, out);
-        let moved = worked.moved;
-        match write_all(&mut rt.stdout(), &out[..moved.used]) {
-            Ok(()) => {}
-            Err(why) => return tell_unwritten(&rt, why),
+        let worked = stream::work(progress, &input[..count], at, &mut out);
+        if let Err(why) = write_all(&mut rt.stdout(), &out[..worked.moved.used]) {
+            return tell_unwritten(&rt, why);
         }
-        progress = moved.progress;
-        at = moved.at;
+        progress = worked.moved.progress;
+        at = worked.moved.at;
         next = worked.next;
-        turns -= 1;
     }
     Ok(())
 }

@@ -1,4 +1,4 @@
--- Document 01's whole example, to the byte, by computation, as one input and in chunks; and what other inputs print. Assumes nothing.
+-- The whole example of frames and reports, to the byte, by computation, as one input and in chunks; and what other inputs print. Assumes nothing.
 use Rattle.std.specs.Prelude.{◌≡◌, refl, List, [] as []ᴸ, ◌∷◌ as ◌∷ᴸ◌, ℕ}
 use Prim.Native.Char.{code}
 use Prim.Native.String.{String, [], ◌∷◌}
@@ -28,7 +28,7 @@ unfolding answer digit_byte digits digit_value value_after field_at spaced frame
 bytes [] = []ᴸ
 bytes (c ∷ s) = code c ∷ᴸ bytes s
 
--- the example of document 01
+-- three frames: a clean one, one with a wrong significand, one with an open one
 example :
     output (bytes "04 00 6000000000000000 6000000000000000\n04 00 4BFFFC0000000000 4BFFFC0000000000\n04 00 51C71C71C71C71C7 51C71C71C71C71C8\n")
     ≡ bytes "0001 00 00000002 00000000 00000000\n00000010\n0002 01 00000001 00000001 00000000\n00000013\n0003 02 00000001 00000000 00000001\n"
@@ -49,7 +49,7 @@ refused : output (bytes "03 00 6000000000000000 6000000000000000\n03 00 60000000
 unfolding bytes
 refused = refl
 
--- 84 is a good byte, 83 is refused with 11, FF too (request W5)
+-- 84 is a good byte, 83 is refused with 11, FF too
 below_zero : output (bytes "84 00 6000000000000000 6000000000000000\n83 00 6000000000000000 6000000000000000\nFF 00 6000000000000000 6000000000000000\n") ≡ bytes "0001 00 00000002 00000000 00000000\n0002 FF 11\n0003 FF 11\n"
 unfolding bytes
 below_zero = refl

@@ -1,20 +1,19 @@
 -- What holds of all that was read between two steps of the program, and what its functions may be asked. Definitions only. Assumes nothing.
-use Rattle.std.specs.Prelude.{◌≡◌, true, false, ℕ, suc, ◌+◌, ◌-◌, ◌^◌, ◌≤◌, ◌<◌, length}
+use Rattle.std.specs.Prelude.{◌≡◌, true, false, ℕ, suc, ◌+◌, ◌-◌, ◌^◌, ◌≤◌, ◌<◌, length, Option, Some, None}
 use Rattle.wide.specs.Value.{word_bits}
 use Rattle.factor.specs.Precision.{most_precision, range_out}
 use Rattle.factor.specs.SetUp.{intact}
 use Rattle.sweep.specs.declared.SweepState.{SweepState}
 use Rattle.stream.specs.declared.Tally.{Tally}
-use Rattle.stream.specs.declared.Task.{Task}
 use Rattle.stream.specs.declared.Progress.{Progress}
 use Rattle.stream.specs.Output.{most_lines}
-use Rattle.stream.specs.Keep.{most_kept, Part}
+use Rattle.stream.specs.Keep.{Part}
 use Rattle.stream.specs.Step.{left_of, Read, read_of}
 
 -- a state whose call is not refused for the state
 pub record Going (s : SweepState) : Type 0 where
   pub whole : intact s.factor ≡ true
-  pub inside : range_out s.factor.precision.bits s.first s.last ≡ false
+  pub inside : range_out s.factor.precision s.first s.last ≡ false
   pub from : s.first ≤ s.next
   pub upto : s.next ≤ s.last
   pub going : s.finished ≡ false
@@ -24,19 +23,17 @@ pub record Counted (t : Tally) : Type 0 where
   pub few : t.trials + length (left_of t.state) ≤ 2 ^ most_precision
   pub failing : t.wrongs + t.opens ≤ t.trials
 
-abbrev pub GoodTask : ℕ → Task → Type 0
-GoodTask i Task.Reading = Unit {0}
-GoodTask i (Task.Sweeping t) = (i ≤ most_lines) × Going t.state × Counted t
+abbrev pub GoodTask : ℕ → Option Tally → Type 0
+GoodTask i None = Unit {0}
+GoodTask i (Some t) = (i ≤ most_lines) × Going t.state × Counted t
 
 pub record Good (r : Read) : Type 0 where
   pub number : r.number ≤ suc most_lines
   pub line : Part r.line
-  pub task : GoodTask r.number r.task
+  pub sweeping : GoodTask r.number r.sweeping
 
 -- what holds of the progress
 pub record Fit (p : Progress) : Type 0 where
-  pub size : length p.held ≡ most_kept
-  pub few : p.length ≤ most_kept
   pub good : Good (read_of p)
 
 -- with a call's state and trials, and its words, of which so many are open

@@ -61,7 +61,7 @@ module _ (all : Stepped) (input out₀ : List ℕ) (m : Move) (out : List ℕ) (
 
   -- the loop's test
   abbrev test : Bool
-  test = wants_step r.task left && leb most_written (length out - m.used)
+  test = wants_step r.sweeping left && leb most_written (length out - m.used)
 
   same_size : length out ≡ length out₀
   same_size = written_length b.bytes
@@ -70,15 +70,15 @@ module _ (all : Stepped) (input out₀ : List ℕ) (m : Move) (out : List ℕ) (
   used_within = omega (arith, same_size, b.within)
 
   pub room_for_step : test ≡ true → m.used + most_written ≤ length out
-  room_for_step t = omega (arith, used_within, leb-true most_written (length out - m.used) (and_true (wants_step r.task left) (leb most_written (length out - m.used)) t).1)
+  room_for_step t = omega (arith, used_within, leb-true most_written (length out - m.used) (and_true (wants_step r.sweeping left) (leb most_written (length out - m.used)) t).1)
 
   -- one step more
   module _ (t : test ≡ true) (n : Move) (out' : List ℕ) (moved : Moved (step_of r left) input n out m.used out') where
     abbrev s : Stepped
     s = step_of r left
 
-    w : wants_step r.task left ≡ true
-    w = (and_true (wants_step r.task left) (leb most_written (length out - m.used)) t).0
+    w : wants_step r.sweeping left ≡ true
+    w = (and_true (wants_step r.sweeping left) (leb most_written (length out - m.used)) t).0
 
     h : most_written ≤ room
     h = omega (arith, same_size, room_for_step t)
@@ -126,7 +126,7 @@ module _ (all : Stepped) (input out₀ : List ℕ) (m : Move) (out : List ℕ) (
   -- no step is wanted, or there is no room for it
   pub all_done : test ≡ false → Moved all input m out₀ 0 out × (m.used ≤ length out₀)
   all_done t =
-      let over : (wants_step r.task left && leb most_written room) ≡ false = ap (λ (n : ℕ). wants_step r.task left && leb most_written (n - m.used)) (sym same_size) ∙ t in
+      let over : (wants_step r.sweeping left && leb most_written room) ≡ false = ap (λ (n : ℕ). wants_step r.sweeping left && leb most_written (n - m.used)) (sym same_size) ∙ t in
       let e : all ≡ and_then b.done (no_step r left) = b.is ∙ ap (and_then b.done) (steps_over b.most room r left over) in (
         record {
           fit = b.fit;
@@ -145,12 +145,12 @@ pub worked_front : (w : Batch) (input : List ℕ) (r : Worked) (out after : List
 worked_front w input r out after d = written_front d.moved.bytes d.within
 
 module _ (p : Progress) (fit : Fit p) (input : List ℕ) (at : ℕ) (h : at ≤ length input) (out after : List ℕ) where
-  pub worked_ended : wants_step p.task (drop at input) ≡ false → (used : ℕ) → Written out 0 (end_of (read_of p)) after used → used ≤ length out
+  pub worked_ended : wants_step p.sweeping (drop at input) ≡ false → (used : ℕ) → Written out 0 (end_of (read_of p)) after used → used ≤ length out
       → WorkedOff (work_of (length out) (read_of p) (drop at input)) input (record { moved = record { progress = p; at = at; used = used }; next = Next.Stop }) out after
   unfolding work_of
   worked_ended w used e k = rw w (record { moved = record { fit = fit; read = refl; inside = h; left = refl; bytes = e }; within = k; next = refl })
 
-  pub worked_made : wants_step p.task (drop at input) ≡ true → (m : Move) (n : Next) → Moved (all_steps (length out) (read_of p) (drop at input)) input m out 0 after × (m.used ≤ length out)
+  pub worked_made : wants_step p.sweeping (drop at input) ≡ true → (m : Move) (n : Next) → Moved (all_steps (length out) (read_of p) (drop at input)) input m out 0 after × (m.used ≤ length out)
       → n ≡ next_of (read_of m.progress) (drop m.at input)
       → WorkedOff (work_of (length out) (read_of p) (drop at input)) input (record { moved = m; next = n }) out after
   unfolding work_of

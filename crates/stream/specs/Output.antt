@@ -1,4 +1,4 @@
--- The whole program (document 01, "Frames and report"): from the bytes that come in to the bytes that go out. Definitions only. Assumes nothing.
+-- The whole program: from the bytes that come in to the bytes that go out. Definitions only. Assumes nothing.
 use Rattle.std.specs.Prelude.{cond, List, [], ◌∷◌, ◌++◌, ℕ, suc, ◌+◌, ◌^◌, ◌%◌, eqb, leb, length}
 use Rattle.marks.specs.declared.Mark.{Mark}
 use Rattle.marks.specs.declared.Mark.TheVariants.{Right, Open, Wrong}
@@ -18,7 +18,7 @@ use Rattle.frame.specs.Report.{word_line, report_line, refusal_line}
 -- ---- a factor, swept over all its significands
 -- the suspects of the whole range, ascending
 unfoldable pub suspects_of : Factor → List ℕ
-suspects_of f = let n = f.precision.bits in row (is_suspect (context_of f) (lower_of f) (upper_of f)) (least_of n) (2 ^ n)
+suspects_of f = let n = f.precision in row (is_suspect (context_of f) (lower_of f) (upper_of f)) (least_of n) (2 ^ n)
 
 -- 1 for a wrong one, and for an open one
 abbrev pub is_wrong : Mark → ℕ
@@ -45,7 +45,7 @@ word_lines (w ∷ l) = word_line 8 w ++ word_lines l
 abbrev pub report_of : ℕ → Factor → Report
 report_of i f = record { number = i; trials = length (suspects_of f); wrongs = counted is_wrong (mark_of f) (suspects_of f); opens = counted is_open (mark_of f) (suspects_of f) }
 
--- "It prints the listed words (8 digits), each on a line of its own, then a report on one line"
+-- the listed words, each on a line of its own, then a report on one line
 unfoldable pub swept_output : ℕ → Factor → List ℕ
 swept_output i f = word_lines (words_of (mark_of f) (suspects_of f)) ++ report_line 8 (report_of i f)
 
@@ -55,7 +55,7 @@ unfoldable pub judged_line : List ℕ → Outcome Factor
 unfolding frame_of set_up
 judged_line line = and_then (frame_of line) set_up
 
--- "A refused line prints its number, FF and the refusal"
+-- a refused line prints its number, FF and the refusal
 abbrev pub judged_output : ℕ → Outcome Factor → List ℕ
 judged_output i (accepted f) = swept_output i f
 judged_output i (refused j) = refusal_line i j
@@ -83,14 +83,14 @@ unfoldable pub pieces : List ℕ → Pieces
 pieces [] = record { lines = []; rest = [] }
 pieces (b ∷ input) = put b (pieces input)
 
--- "It stops after 65,535 lines": what is numbered higher prints nothing
+-- the program stops after 65,535 lines: what is numbered higher prints nothing
 abbrev pub most_lines : ℕ
 most_lines = 65535
 
 abbrev pub among : ℕ → List ℕ → List ℕ
 among i bytes = cond (leb i most_lines) bytes []
 
--- "a last line without its line feed is not a frame", and nothing is no line
+-- a last line without its line feed is no frame, and nothing is no line
 abbrev pub last_output : ℕ → List ℕ → List ℕ
 last_output i [] = []
 last_output i (b ∷ rest) = refusal_line i 24

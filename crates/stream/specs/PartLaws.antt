@@ -1,5 +1,5 @@
 -- One sweep call of the program: what it answers, read off the suspects that are left. Assumes nothing.
-use Rattle.std.specs.Prelude.{◌≡◌, refl, List, ℕ, ◌+◌, ◌-◌, ◌≤◌, length, take}
+use Rattle.std.specs.Prelude.{◌≡◌, refl, List, ℕ, ◌+◌, ◌-◌, ◌≤◌, length, take, Result, Ok, Err}
 use Rattle.std.proofs.Common.{sym, ap, ◌∙◌, arith}
 use Rattle.std.proofs.lemmas.List.Edits.{sets}
 use Rattle.std.proofs.Math.Seq.{length-sets}
@@ -9,13 +9,15 @@ use Rattle.marks.specs.Answers.{none, judged, Outcome, refused, accepted}
 use Rattle.factor.specs.declared.Factor.{Factor}
 use Rattle.calls.specs.State.{Range}
 use Rattle.calls.specs.Engine.{handed}
-use Rattle.calls.specs.Call.{conditions, Result, Reply, sweep_call}
+use Rattle.calls.specs.Call as calls
+use Rattle.calls.specs.Call.{conditions, Reply, sweep_call}
 use Rattle.calls.specs.Plain.{words_of}
 use Rattle.calls.specs.ByRow.{head_of, row_run}
 use Rattle.calls.proofs.TrialLaws.{tries_within, words_fit}
 use Rattle.calls.proofs.ListLaws.{entries_are, read_back}
 use Rattle.sweep.specs.declared.SweepState.{SweepState}
-use Rattle.sweep.specs.declared.SweepAnswer.{SweepAnswer}
+use Rattle.sweep.specs.declared.Swept.{Swept}
+use Rattle.sweep.specs.declared.SweepRefusal.{SweepRefusal}
 use Rattle.sweep.specs.Engine.{mark_of, engine}
 use Rattle.sweep.specs.Answers.{view_of, code_of, call_of, terms_by, reply_of}
 use Rattle.sweep.proofs.Demand3.{call_by_row}
@@ -38,9 +40,9 @@ pub record Answered (s : SweepState) (after : SweepState) (t p : ℕ) (list : Li
   pub long : length list ≡ list_size
   pub fits : length (words_by s) ≤ list_size
 
-abbrev pub AnsweredBy : SweepState → SweepAnswer → List ℕ → Type 0
-AnsweredBy s (SweepAnswer.Accepted r) list = Answered s r.state r.trials r.place list
-AnsweredBy s (SweepAnswer.Refused r) list = ⊥
+abbrev pub AnsweredBy : SweepState → Result Swept SweepRefusal → List ℕ → Type 0
+AnsweredBy s (Ok r) list = Answered s r.state r.trials r.place list
+AnsweredBy s (Err r) list = ⊥
 
 -- ---- the tally
 
@@ -75,7 +77,7 @@ module _ (t : Tally) (c : Counted t) (after : SweepState) (trials place : ℕ) (
 -- ---- the call
 
 -- what a reply tells
-abbrev result_in : Outcome Result → Result
+abbrev result_in : Outcome calls.Result → calls.Result
 result_in (refused n) = record { trials = 0; rounds = 0; place = 0 }
 result_in (accepted r) = r
 
@@ -102,8 +104,8 @@ module _ (s : SweepState) (g : Going s) (list : List ℕ) (size : length list �
   reply_is = call_by_row (view_of s) (call_of no_cap list 0) ∙ rw (not_refused, size, entries_are (words_by s)) refl
 
   -- What the call answers.
-  pub answered : (a : SweepAnswer) (left : List ℕ) → reply_of a left ≡ sweep_call engine (view_of s) (call_of no_cap list 0) → AnsweredBy s a left
-  answered (SweepAnswer.Accepted r) left e =
+  pub answered : (a : Result Swept SweepRefusal) (left : List ℕ) → reply_of a left ≡ sweep_call engine (view_of s) (call_of no_cap list 0) → AnsweredBy s a left
+  answered (Ok r) left e =
       let all = e ∙ reply_is in
       let p : r.place ≡ length (words_by s) = ap (λ (x : Reply (Range Factor)). (result_in x.answer).place) all ∙ omega arith in
       let l : left ≡ sets list 0 (words_by s) = ap (λ (x : Reply (Range Factor)). x.list) all in
@@ -115,7 +117,7 @@ module _ (s : SweepState) (g : Going s) (list : List ℕ) (size : length list �
         long = ap length l ∙ length-sets list 0 (words_by s) ∙ size;
         fits = few_words;
       }
-  answered (SweepAnswer.Refused r) left e = let z : ◌≡◌ {A = ℕ} 0 1 = cc (ap (λ (x : Reply (Range Factor)). x.answer) (e ∙ reply_is)) in omega arith
+  answered (Err r) left e = let z : ◌≡◌ {A = ℕ} 0 1 = cc (ap (λ (x : Reply (Range Factor)). x.answer) (e ∙ reply_is)) in omega arith
 
 -- A part prints at most 576 bytes.
 pub part_short : (s : SweepState) → length (part_lines s) ≤ 576

@@ -1,17 +1,17 @@
 -- The program over an input that comes in chunks: whatever their sizes it comes to an end and writes the output of the whole input, and wherever it is cut short it has
 -- written a prefix of that. Assumes nothing.
 use Rattle.std.proofs.Math.Path.{◌≡◌, sym, ap}
-use Rattle.std.specs.Prelude.{refl, Bool, true, false, leb}
+use Rattle.std.specs.Prelude.{refl, Bool, true, false, leb, Option, Some, None, is_some}
 use Rattle.std.proofs.Common.{◌∙◌, true≢false, arith, length-append, leb-false}
 use Rattle.std.proofs.Math.Bool.{cond}
 use mathlib.Core.List.{List, [], ◌∷◌, ◌++◌, append_assoc, append-nil}
 use Prim.Native.Nat.{ℕ, zero, suc, ◌+◌, ◌≤◌, ◌<◌}
 use Rattle.std.proofs.Math.ListN.{length}
 use Rattle.stream.specs.declared.Next.{Next}
-use Rattle.stream.specs.declared.Task.{Task}
+use Rattle.stream.specs.declared.Tally.{Tally}
 use Rattle.stream.specs.Output.{most_lines, output}
 use Rattle.stream.specs.PieceLaws.{by_test, reading_past}
-use Rattle.stream.specs.Step.{most_written, Read, Stepped, sweeping_task, wants_step, at_line, end_of}
+use Rattle.stream.specs.Step.{most_written, Read, Stepped, wants_step, at_line, end_of}
 use Rattle.stream.specs.StepLaws.{rest_task, rest_of, begin_good, end_tells, begin_tells}
 use Rattle.stream.specs.Good.{Good}
 use Rattle.stream.specs.Work.{all_steps, Batch, next_if, next_of, work_if, work_of, chunk_of, chunks_after, onward, loop_output, program, input_of}
@@ -20,19 +20,19 @@ use Rattle.stream.specs.WorkLaws.{steps_tell, steps_good, steps_end}
 -- ---- where no step is wanted
 
 -- a line is being read, and the chunk is used up
-record Idle (task : Task) (left : List ℕ) : Type 0 where
-  reading : task ≡ Task.Reading
+record Idle (sweep : Option Tally) (left : List ℕ) : Type 0 where
+  reading : sweep ≡ None
   empty : left ≡ []
 
-idle : (task : Task) (left : List ℕ) → wants_step task left ≡ false → Idle task left
-idle Task.Reading [] w = record { reading = refl; empty = refl }
-idle Task.Reading (b ∷ left) w = absurd (true≢false w)
-idle (Task.Sweeping t) [] w = absurd (true≢false w)
-idle (Task.Sweeping t) (b ∷ left) w = absurd (true≢false w)
+idle : (sweep : Option Tally) (left : List ℕ) → wants_step sweep left ≡ false → Idle sweep left
+idle None [] w = record { reading = refl; empty = refl }
+idle None (b ∷ left) w = absurd (true≢false w)
+idle (Some t) [] w = absurd (true≢false w)
+idle (Some t) (b ∷ left) w = absurd (true≢false w)
 
 -- nor would one be without a chunk
-idle_ended : (task : Task) (left : List ℕ) → wants_step task left ≡ false → wants_step task [] ≡ false
-idle_ended task left w = ap sweeping_task (idle task left w).reading
+idle_ended : (sweep : Option Tally) (left : List ℕ) → wants_step sweep left ≡ false → wants_step sweep [] ≡ false
+idle_ended sweep left w = ap is_some (idle sweep left w).reading
 
 -- what each answer says of the two tests
 again_wanted : (wanted few : Bool) → next_if wanted few ≡ Next.Again → wanted ≡ true
@@ -53,20 +53,20 @@ stop_past false false e = (refl, refl)
 pub nothing_lost : (r : Read) (left : List ℕ) → next_of r left ≡ Next.Stop → (later : List ℕ) → rest_of r later ≡ []
 unfolding rest_of
 nothing_lost r left e later =
-    let past = stop_past (wants_step r.task left) (leb r.number most_lines) e in
-    ap (λ (t : Task). rest_task r.number r.line t later) (idle r.task left past.0).reading ∙ reading_past r.number r.line later (leb-false r.number most_lines past.1)
+    let past = stop_past (wants_step r.sweeping left) (leb r.number most_lines) e in
+    ap (λ (t : Option Tally). rest_task r.number r.line t later) (idle r.sweeping left past.0).reading ∙ reading_past r.number r.line later (leb-false r.number most_lines past.1)
 
 -- ---- what is due
 
 -- From what was read, what is left of a chunk and the chunks to come: where no step is wanted, the input has ended.
 abbrev due : Read → (left : List ℕ) → (chunks : List (List ℕ)) → List ℕ
-due r left chunks = cond (wants_step r.task left) (rest_of r (left ++ input_of chunks)) (rest_of r [])
+due r left chunks = cond (wants_step r.sweeping left) (rest_of r (left ++ input_of chunks)) (rest_of r [])
 
 -- after a read
-read_due : (r : Read) (left : List ℕ) → wants_step r.task left ≡ false → (chunks : List (List ℕ)) → rest_of r (input_of chunks) ≡ due r (chunk_of chunks) (chunks_after chunks)
+read_due : (r : Read) (left : List ℕ) → wants_step r.sweeping left ≡ false → (chunks : List (List ℕ)) → rest_of r (input_of chunks) ≡ due r (chunk_of chunks) (chunks_after chunks)
 unfolding input_of
-read_due r left w [] = rw (idle_ended r.task left w)
-read_due r left w ([] ∷ chunks) = rw (idle_ended r.task left w)
+read_due r left w [] = rw (idle_ended r.sweeping left w)
+read_due r left w ([] ∷ chunks) = rw (idle_ended r.sweeping left w)
 read_due r left w ((b ∷ chunk) ∷ chunks) = refl
 
 -- after steps
@@ -75,9 +75,9 @@ steps_due : (r : Read) (left : List ℕ) (chunks : List (List ℕ))
 steps_due r left chunks =
     let all = rest_of r (left ++ input_of chunks) in
     let more = due r (chunk_of chunks) (chunks_after chunks) in
-    by_test (λ b. all ≡ onward (next_if b (leb r.number most_lines)) (cond b all (rest_of r [])) more) (wants_step r.task left) (λ w. refl)
+    by_test (λ b. all ≡ onward (next_if b (leb r.number most_lines)) (cond b all (rest_of r [])) more) (wants_step r.sweeping left) (λ w. refl)
     (λ w. by_test (λ few. all ≡ onward (next_if false few) (rest_of r []) more) (leb r.number most_lines)
-    (λ e. ap (λ (l : List ℕ). rest_of r (l ++ input_of chunks)) (idle r.task left w).empty ∙ read_due r left w chunks)
+    (λ e. ap (λ (l : List ℕ). rest_of r (l ++ input_of chunks)) (idle r.sweeping left w).empty ∙ read_due r left w chunks)
     (λ e. nothing_lost r left (rw (w, e)) (left ++ input_of chunks)))
 
 -- ---- one turn
@@ -94,7 +94,7 @@ module _ (room : ℕ) (r : Read) (g : Good r) (left : List ℕ) where
 
   after_good : Good after
   unfolding work_of
-  after_good = by_test (λ b. Good (work_if b room r left).steps.read) (wants_step r.task left) (λ w. steps_good (length left + room) room r g left) (λ w. g)
+  after_good = by_test (λ b. Good (work_if b room r left).steps.read) (wants_step r.sweeping left) (λ w. steps_good (length left + room) room r g left) (λ w. g)
 
   module _ (chunks : List (List ℕ)) where
     -- A turn loses nothing: what it writes, and what is due after it, is what was due.
@@ -102,25 +102,25 @@ module _ (room : ℕ) (r : Read) (g : Good r) (left : List ℕ) where
     unfolding work_of
     turn_tells =
         let all : Batch → List ℕ = λ w. w.steps.bytes ++ onward w.next (due w.steps.read w.steps.left chunks) (due w.steps.read (chunk_of chunks) (chunks_after chunks)) in
-        by_test (λ b. cond b (rest_of r (left ++ input_of chunks)) (rest_of r []) ≡ all (work_if b room r left)) (wants_step r.task left)
+        by_test (λ b. cond b (rest_of r (left ++ input_of chunks)) (rest_of r []) ≡ all (work_if b room r left)) (wants_step r.sweeping left)
         (λ w. steps_tell (input_of chunks) (length left + room) room r g left ∙ ap (λ (l : List ℕ). steps.bytes ++ l) (steps_due steps.read steps.left chunks))
-        (λ w. end_tells r g (idle r.task left w).reading ∙ sym (append-nil (end_of r)))
+        (λ w. end_tells r g (idle r.sweeping left w).reading ∙ sym (append-nil (end_of r)))
 
   -- a turn that goes on without a read has written something
   again_writes : most_written ≤ room → work.next ≡ Next.Again → 0 < length work.steps.bytes
   unfolding work_of
   again_writes h =
-      by_test (λ b. (work_if b room r left).next ≡ Next.Again → 0 < length (work_if b room r left).steps.bytes) (wants_step r.task left)
-      (λ w e. let full = steps_end (length left + room) room r g left (omega arith) (again_wanted (wants_step steps.read.task steps.left) (leb steps.read.number most_lines) e) in
+      by_test (λ b. (work_if b room r left).next ≡ Next.Again → 0 < length (work_if b room r left).steps.bytes) (wants_step r.sweeping left)
+      (λ w e. let full = steps_end (length left + room) room r g left (omega arith) (again_wanted (wants_step steps.read.sweeping steps.left) (leb steps.read.number most_lines) e) in
       omega arith)
       (λ w e. let z : ◌≡◌ {A = ℕ} 0 1 = cc in absurd (omega arith))
 
   -- a turn that reads wants no step
-  read_ended : work.next ≡ Next.Read → wants_step after.task [] ≡ false
+  read_ended : work.next ≡ Next.Read → wants_step after.sweeping [] ≡ false
   unfolding work_of
   read_ended =
-      by_test (λ b. (work_if b room r left).next ≡ Next.Read → wants_step (work_if b room r left).steps.read.task [] ≡ false) (wants_step r.task left)
-      (λ w e. idle_ended steps.read.task steps.left (read_unwanted (wants_step steps.read.task steps.left) (leb steps.read.number most_lines) e))
+      by_test (λ b. (work_if b room r left).next ≡ Next.Read → wants_step (work_if b room r left).steps.read.sweeping [] ≡ false) (wants_step r.sweeping left)
+      (λ w e. idle_ended steps.read.sweeping steps.left (read_unwanted (wants_step steps.read.sweeping steps.left) (leb steps.read.number most_lines) e))
       (λ w e. let z : ◌≡◌ {A = ℕ} 0 1 = cc in absurd (omega arith))
 
 -- ---- the program is cut short
@@ -184,7 +184,7 @@ module _ (room : ℕ) (h : most_written ≤ room) where
   turn_completes r g left chunks Next.Stop e again more = by_turn r g left chunks 0 (λ m k. rw e)
 
   -- nothing is left to read
-  ended_completes : (r : Read) → Good r → wants_step r.task [] ≡ false → (chunks : List (List ℕ)) → Completes room r [] chunks
+  ended_completes : (r : Read) → Good r → wants_step r.sweeping [] ≡ false → (chunks : List (List ℕ)) → Completes room r [] chunks
   unfolding work_of
   ended_completes r g w chunks = let stop : (work_of room r []).next ≡ Next.Stop = rw w in by_turn r g [] chunks 0 (λ m k. rw stop)
 
@@ -199,7 +199,7 @@ module _ (room : ℕ) (h : most_written ≤ room) where
 
   -- a chunk, of which less than so much is still to print
   chunk_completes : (chunks : List (List ℕ))
-      → ((r : Read) → Good r → wants_step r.task [] ≡ false → Completes room r (chunk_of chunks) (chunks_after chunks))
+      → ((r : Read) → Good r → wants_step r.sweeping [] ≡ false → Completes room r (chunk_of chunks) (chunks_after chunks))
       → (n : ℕ) (r : Read) → Good r → (left : List ℕ) → length (due r left chunks) < n → Completes room r left chunks
   chunk_completes chunks later zero r g left k = absurd (omega arith)
   chunk_completes chunks later (suc n) r g left k =

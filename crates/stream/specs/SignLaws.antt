@@ -1,4 +1,4 @@
--- Laws: what a line prints does not depend on its factor's sign (request W5): with 80 hexadecimal added to its first byte it prints what it prints without, whatever stands behind that byte. Assumes nothing.
+-- Laws: what a line prints does not depend on its factor's sign: with 80 hexadecimal added to its first byte it prints what it prints without, whatever stands behind that byte. Assumes nothing.
 use Rattle.std.specs.Prelude.{◌≡◌, Bool, true, List, ◌++◌, ℕ, ◌+◌, ◌<◌}
 use Rattle.std.proofs.Math.Path.{refl, ap}
 use Rattle.std.proofs.Common.{◌∙◌}

@@ -1,5 +1,5 @@
 -- A step of the program loses nothing: the bytes that it writes, and what is still to print after it, are what was to print before. Assumes nothing.
-use Rattle.std.specs.Prelude.{◌≡◌, Bool, true, ℕ, suc, ◌+◌, ◌-◌, ◌*◌, ◌^◌, ◌≤◌, ◌<◌, eqb, leb, length}
+use Rattle.std.specs.Prelude.{◌≡◌, Bool, true, ℕ, suc, ◌+◌, ◌-◌, ◌*◌, ◌^◌, ◌≤◌, ◌<◌, eqb, leb, length, Option, Some, None}
 use Rattle.std.proofs.Math.Path.{refl, sym, ap}
 use Rattle.std.proofs.Common.{◌∙◌, pow-suc, arith, pow_pos, pow_mono, take-append-drop, length-drop, length-take-le, eqb-true, leb-true, leb-false, le-leb, le-ltb}
 use Rattle.std.proofs.Math.Bool.{cond}
@@ -21,7 +21,6 @@ use Rattle.frame.specs.Frame.{frame_of}
 use Rattle.sweep.specs.declared.SweepState.{SweepState}
 use Rattle.sweep.specs.Engine.{mark_of, suspect}
 use Rattle.stream.specs.declared.Tally.{Tally}
-use Rattle.stream.specs.declared.Task.{Task}
 use Rattle.stream.specs.Output.{most_lines, among, suspects_of, judged_line, judged_output, last_output, line_output, output}
 use Rattle.stream.specs.PieceLaws.{by_test, reading, reading_all, reading_feed, reading_end, reading_past}
 use Rattle.stream.specs.SweepLaws.{told, sweeping, sweeping_all, sweeping_some, sweeping_none}
@@ -32,24 +31,24 @@ use Rattle.stream.specs.Step.{list_size, no_cap, left_of, tried_by, tried_of, af
 
 -- ---- what is still to print
 
-abbrev pub rest_task : (i : ℕ) (line : List ℕ) → Task → (input : List ℕ) → List ℕ
-rest_task i line Task.Reading input = reading i line input
-rest_task i line (Task.Sweeping t) input =
+abbrev pub rest_task : (i : ℕ) (line : List ℕ) → Option Tally → (input : List ℕ) → List ℕ
+rest_task i line None input = reading i line input
+rest_task i line (Some t) input =
     sweeping i (mark_of t.state.factor) (left_of t.state) t.trials t.wrongs t.opens (reading (suc i) [] input)
 
 unfoldable pub rest_of : Read → (input : List ℕ) → List ℕ
-rest_of r input = rest_task r.number r.line r.task input
+rest_of r input = rest_task r.number r.line r.sweeping input
 
 -- ---- what holds of all that was read
 
 pub begin_good : Good (at_line 1)
-begin_good = record { number = omega arith; line = none_kept; task = Prim.tt }
+begin_good = record { number = omega arith; line = none_kept; sweeping = Prim.tt }
 
 -- ---- a sweep that begins
 
 module _ (f : Factor) (whole : intact f ≡ true) where
   abbrev n : ℕ
-  n = f.precision.bits
+  n = f.precision
 
   sound : Sound f
   sound = intact_sound f whole
@@ -110,7 +109,7 @@ up_head (x ∷ input) b rest e =
 
 -- while a line is read: it counts, or it comes after the last that does
 pub reading_by : (P : Stepped → Type 0) (i : ℕ) (line input : List ℕ) → (i ≤ most_lines → P (line_step i (kept line input) (up_to_feed input))) → (most_lines < i → P (line_step i line []))
-    → P (task_step i line Task.Reading input)
+    → P (task_step i line None input)
 reading_by P i line input counts past =
     by_test (λ t. P (cond t (line_step i (kept line input) (up_to_feed input)) (line_step i line []))) (leb i most_lines) (λ e. counts (leb-true i most_lines e)) (λ e. past (leb-false i most_lines e))
 
@@ -120,7 +119,7 @@ module _ (later : List ℕ) where
   Tells before s = before ≡ s.bytes ++ rest_of s.read (s.left ++ later)
 
   -- a part of a sweep
-  part_tells : (i : ℕ) (line : List ℕ) (t : Tally) (input : List ℕ) → Tells (rest_task i line (Task.Sweeping t) (input ++ later)) (task_step i line (Task.Sweeping t) input)
+  part_tells : (i : ℕ) (line : List ℕ) (t : Tally) (input : List ℕ) → Tells (rest_task i line (Some t) (input ++ later)) (task_step i line (Some t) input)
   unfolding rest_of
   part_tells i line t input = go (after_of s) refl
     where
@@ -134,14 +133,14 @@ module _ (later : List ℕ) where
       k = tries_within (mark_of s.factor) no_cap list_size (left_of s)
 
       start : (l : List ℕ) → after_of s ≡ l
-          → rest_task i line (Task.Sweeping t) (input ++ later)
+          → rest_task i line (Some t) (input ++ later)
           ≡ part_lines s ++ sweeping i (mark_of s.factor) l (t.trials + tried_by s) (tallied t).wrongs (tallied t).opens r
       start l e =
           ap (λ (m : List ℕ). sweeping i (mark_of s.factor) m t.trials t.wrongs t.opens r) (sym (take-append-drop (tried_by s) (left_of s)) ∙ ap (λ (m : List ℕ). tried_of s ++ m) e)
           ∙ sweeping_some i (mark_of s.factor) (tried_of s) l t.trials t.wrongs t.opens r
           ∙ ap (λ (m : ℕ). part_lines s ++ sweeping i (mark_of s.factor) l (t.trials + m) (tallied t).wrongs (tallied t).opens r) (length-take-le (tried_by s) (left_of s) k)
 
-      go : (l : List ℕ) → after_of s ≡ l → Tells (rest_task i line (Task.Sweeping t) (input ++ later)) (swept_step i (tallied_to t l) (tallied_to t l).state.finished (part_lines s) input)
+      go : (l : List ℕ) → after_of s ≡ l → Tells (rest_task i line (Some t) (input ++ later)) (swept_step i (tallied_to t l) (tallied_to t l).state.finished (part_lines s) input)
       go [] e =
           start [] e
           ∙ ap (λ (m : List ℕ). part_lines s ++ m) (sweeping_none i (mark_of s.factor) (t.trials + tried_by s) (tallied t).wrongs (tallied t).opens r)
@@ -169,7 +168,7 @@ module _ (later : List ℕ) where
       ∙ ap (λ (t : Bool). cond t (line_output i line) [] ++ reading (suc i) [] (rest ++ later)) (le-leb i most_lines h)
       ∙ judged_tells i line rest (judged_line line) refl
 
-  reading_tells : (i : ℕ) (line input : List ℕ) → Part line → Tells (reading i line (input ++ later)) (task_step i line Task.Reading input)
+  reading_tells : (i : ℕ) (line input : List ℕ) → Part line → Tells (reading i line (input ++ later)) (task_step i line None input)
   unfolding rest_of
   reading_tells i line input p =
       reading_by (Tells (reading i line (input ++ later))) i line input
@@ -179,11 +178,11 @@ module _ (later : List ℕ) where
   -- A step loses nothing.
   pub step_tells : (r : Read) → Good r → (input : List ℕ) → Tells (rest_of r (input ++ later)) (step_of r input)
   unfolding rest_of step_of
-  step_tells r g input = go r.task
+  step_tells r g input = go r.sweeping
     where
-      go : (t : Task) → Tells (rest_task r.number r.line t (input ++ later)) (task_step r.number r.line t input)
-      go Task.Reading = reading_tells r.number r.line input g.line
-      go (Task.Sweeping t) = part_tells r.number r.line t input
+      go : (t : Option Tally) → Tells (rest_task r.number r.line t (input ++ later)) (task_step r.number r.line t input)
+      go None = reading_tells r.number r.line input g.line
+      go (Some t) = part_tells r.number r.line t input
 
 -- ---- what holds of all that was read, after a step
 
@@ -198,21 +197,21 @@ tallied_counted t l e left c =
       failing = omega (arith, c.failing, told (mark_of s.factor) (tried_of s), length-take-le (tried_by s) (left_of s) k);
     }
 
-part_good : (i : ℕ) (t : Tally) (input : List ℕ) → i ≤ most_lines → Going t.state → Counted t → Good (task_step i [] (Task.Sweeping t) input).read
+part_good : (i : ℕ) (t : Tally) (input : List ℕ) → i ≤ most_lines → Going t.state → Counted t → Good (task_step i [] (Some t) input).read
 part_good i t input h g c = go (after_of s) refl
   where
     s : SweepState
     s = t.state
 
     go : (l : List ℕ) → after_of s ≡ l → Good (swept_step i (tallied_to t l) (tallied_to t l).state.finished (part_lines s) input).read
-    go [] e = record { number = omega arith; line = none_kept; task = Prim.tt }
+    go [] e = record { number = omega arith; line = none_kept; sweeping = Prim.tt }
     go (x ∷ l) e =
         let b = begins (suspect s.factor) s.next (suc s.last) (tried_by s) x l e in
         let from = b.from in
         record {
           number = omega arith;
           line = none_kept;
-          task = (
+          sweeping = (
             h,
             record { whole = g.whole; inside = g.inside; from = omega (arith, g.from); upto = omega (arith, b.below); going = refl },
             tallied_counted t (x ∷ l) e (sym b.is) c,
@@ -221,31 +220,31 @@ part_good i t input h g c = go (after_of s) refl
 
 pub judged_good : (i : ℕ) (line input : List ℕ) (a : Outcome Factor) → judged_line line ≡ a → i ≤ most_lines → Good (judged_step i a input).read
 judged_good i line input (accepted f) e h =
-    record { number = omega arith; line = none_kept; task = (h, begun_going f (judged_intact line f e), begun_counted f (judged_intact line f e)) }
-judged_good i line input (refused j) e h = record { number = omega arith; line = none_kept; task = Prim.tt }
+    record { number = omega arith; line = none_kept; sweeping = (h, begun_going f (judged_intact line f e), begun_counted f (judged_intact line f e)) }
+judged_good i line input (refused j) e h = record { number = omega arith; line = none_kept; sweeping = Prim.tt }
 
 line_good : (i : ℕ) (line rest : List ℕ) → i ≤ most_lines → Part line → Good (line_step i line rest).read
-line_good i line [] h p = record { number = omega arith; line = p; task = Prim.tt }
+line_good i line [] h p = record { number = omega arith; line = p; sweeping = Prim.tt }
 line_good i line (b ∷ rest) h p = judged_good i line rest (judged_line line) refl h
 
 pub step_good : (r : Read) → Good r → (input : List ℕ) → Good (step_of r input).read
 unfolding step_of
-step_good r g input = go r.task g.task
+step_good r g input = go r.sweeping g.sweeping
   where
-    go : (t : Task) → GoodTask r.number t → Good (task_step r.number r.line t input).read
-    go (Task.Sweeping t) q = part_good r.number t input q.0 q.1 q.2
-    go Task.Reading q =
+    go : (t : Option Tally) → GoodTask r.number t → Good (task_step r.number r.line t input).read
+    go (Some t) q = part_good r.number t input q.0 q.1 q.2
+    go None q =
         reading_by (λ s. Good s.read) r.number r.line input
         (λ h. line_good r.number (kept r.line input) (up_to_feed input) h (kept_part r.line input g.line))
-        (λ h. record { number = g.number; line = g.line; task = Prim.tt })
+        (λ h. record { number = g.number; line = g.line; sweeping = Prim.tt })
 
 -- ---- at the end of the input
 
-pub end_tells : (r : Read) → Good r → r.task ≡ Task.Reading → rest_of r [] ≡ end_of r
+pub end_tells : (r : Read) → Good r → r.sweeping ≡ None → rest_of r [] ≡ end_of r
 unfolding rest_of end_of
 end_tells r g e = rw e (reading_end r.number r.line g.line.plain ∙ go r.line)
   where
-    go : (l : List ℕ) → among r.number (last_output r.number l) ≡ end_task r.number l Task.Reading
+    go : (l : List ℕ) → among r.number (last_output r.number l) ≡ end_task r.number l None
     go [] = by_test (λ t. ◌≡◌ {A = List ℕ} (cond t [] []) []) (leb r.number most_lines) (λ e. refl) (λ e. refl)
     go (b ∷ l) = refl
 

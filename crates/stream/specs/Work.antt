@@ -19,7 +19,7 @@ unfoldable pub steps_of : (most room : ℕ) → Read → (input : List ℕ) → 
 steps_of zero room r input = no_step r input
 steps_of (suc most) room r input =
     let s = step_of r input in
-    cond (wants_step r.task input && leb most_written room) (and_then s.bytes (steps_of most (room - length s.bytes) s.read s.left)) (no_step r input)
+    cond (wants_step r.sweeping input && leb most_written room) (and_then s.bytes (steps_of most (room - length s.bytes) s.read s.left)) (no_step r input)
 
 -- All steps that there is room for: each uses up a byte of the input or of the room, so that there are no more of them than such bytes.
 abbrev pub all_steps : (room : ℕ) → Read → (input : List ℕ) → Stepped
@@ -32,14 +32,14 @@ pub record Batch : Type 0 where
   pub steps : Stepped
   pub next : Next
 
--- it goes on where a step is still wanted, for which there was no room; else it reads; "it stops after 65,535 lines"
+-- it goes on where a step is still wanted, for which there was no room; else it reads; it stops after 65,535 lines
 abbrev pub next_if : (wanted few : Bool) → Next
 next_if true few = Next.Again
 next_if false true = Next.Read
 next_if false false = Next.Stop
 
 abbrev pub next_of : Read → (left : List ℕ) → Next
-next_of r left = next_if (wants_step r.task left) (leb r.number most_lines)
+next_of r left = next_if (wants_step r.sweeping left) (leb r.number most_lines)
 
 -- where a step is wanted, all steps that there is room for; else the read before it gave nothing: that is the end of the input
 abbrev pub work_if : (wanted : Bool) (room : ℕ) → Read → (left : List ℕ) → Batch
@@ -48,7 +48,7 @@ work_if false room r left = record { steps = record { read = r; left = left; byt
 
 -- All that the program does between a read and a write.
 unfoldable pub work_of : (room : ℕ) → Read → (left : List ℕ) → Batch
-work_of room r left = work_if (wants_step r.task left) room r left
+work_of room r left = work_if (wants_step r.sweeping left) room r left
 
 -- ---- the program's loop
 

@@ -1,5 +1,5 @@
 -- Steps one after another lose nothing, and stop only where none is wanted or the room may not do. Assumes nothing.
-use Rattle.std.specs.Prelude.{◌≡◌, refl, Bool, true, false, cond, ◌&&◌, List, [], ◌∷◌, ◌++◌, ℕ, zero, suc, ◌+◌, ◌-◌, ◌≤◌, ◌<◌, eqb, length}
+use Rattle.std.specs.Prelude.{◌≡◌, refl, Bool, true, false, cond, ◌&&◌, List, [], ◌∷◌, ◌++◌, ℕ, zero, suc, ◌+◌, ◌-◌, ◌≤◌, ◌<◌, eqb, length, Option, Some, None}
 use Rattle.std.proofs.Common.{sym, ap, ◌∙◌, append_assoc, arith, length-append, length-drop}
 use Rattle.std.proofs.lemmas.Bool.{false≢true}
 use Rattle.std.proofs.Math.Dec.{leb}
@@ -14,7 +14,6 @@ use Rattle.calls.proofs.TrialLaws.{tries_full}
 use Rattle.sweep.specs.declared.SweepState.{SweepState}
 use Rattle.sweep.specs.Engine.{mark_of}
 use Rattle.stream.specs.declared.Tally.{Tally}
-use Rattle.stream.specs.declared.Task.{Task}
 use Rattle.stream.specs.Output.{judged_line}
 use Rattle.stream.specs.PieceLaws.{by_test}
 use Rattle.stream.specs.SweepLaws.{length_lines}
@@ -32,7 +31,7 @@ abbrev Uses : ℕ → Stepped → Type 0
 Uses size s = length s.left < size + length s.bytes
 
 -- a part of a sweep ends with its report, or fills its list
-part_writes : (i : ℕ) (t : Tally) (input : List ℕ) → Counted t → (line : List ℕ) → 0 < length (task_step i line (Task.Sweeping t) input).bytes
+part_writes : (i : ℕ) (t : Tally) (input : List ℕ) → Counted t → (line : List ℕ) → 0 < length (task_step i line (Some t) input).bytes
 part_writes i t input c line = go (after_of s) refl
   where
     s : SweepState
@@ -67,25 +66,25 @@ up_short (b ∷ input) =
     by_test (λ t. length (cond t (b ∷ input) (up_to_feed input)) ≤ suc (length input)) (eqb b line_feed) (λ e. omega arith) (λ e. omega (arith, up_short input))
 
 -- A step that is wanted uses up a byte of the input, or writes one.
-pub step_uses : (r : Read) → Good r → (input : List ℕ) → wants_step r.task input ≡ true → length (step_of r input).left < length input + length (step_of r input).bytes
+pub step_uses : (r : Read) → Good r → (input : List ℕ) → wants_step r.sweeping input ≡ true → length (step_of r input).left < length input + length (step_of r input).bytes
 unfolding step_of
-step_uses r g input w = go r.task g.task w
+step_uses r g input w = go r.sweeping g.sweeping w
   where
-    reads : (input : List ℕ) → wants_step Task.Reading input ≡ true → Uses (length input) (task_step r.number r.line Task.Reading input)
+    reads : (input : List ℕ) → wants_step None input ≡ true → Uses (length input) (task_step r.number r.line None input)
     reads [] w = absurd (false≢true w)
     reads (b ∷ chunk) w =
         reading_by (Uses (suc (length chunk))) r.number r.line (b ∷ chunk)
         (λ h. line_uses r.number (kept r.line (b ∷ chunk)) (up_to_feed (b ∷ chunk)) (suc (length chunk)) (up_short (b ∷ chunk)) (omega arith))
         (λ h. omega arith)
 
-    go : (t : Task) → GoodTask r.number t → wants_step t input ≡ true → Uses (length input) (task_step r.number r.line t input)
-    go (Task.Sweeping t) q w = swept_uses r.number (tallied t) (tallied t).state.finished (part_lines t.state) input (part_writes r.number t input q.2 r.line)
-    go Task.Reading q w = reads input w
+    go : (t : Option Tally) → GoodTask r.number t → wants_step t input ≡ true → Uses (length input) (task_step r.number r.line t input)
+    go (Some t) q w = swept_uses r.number (tallied t) (tallied t).state.finished (part_lines t.state) input (part_writes r.number t input q.2 r.line)
+    go None q w = reads input w
 
 -- ---- steps one after another
 
 -- none is made where the test fails
-pub steps_over : (most room : ℕ) (r : Read) (input : List ℕ) → (wants_step r.task input && leb most_written room) ≡ false → steps_of most room r input ≡ no_step r input
+pub steps_over : (most room : ℕ) (r : Read) (input : List ℕ) → (wants_step r.sweeping input && leb most_written room) ≡ false → steps_of most room r input ≡ no_step r input
 unfolding steps_of
 steps_over zero room r input t = refl
 steps_over (suc most) room r input t = rw t
@@ -97,17 +96,17 @@ module _ (most room : ℕ) (r : Read) (input : List ℕ) where
   abbrev further : Stepped
   further = steps_of most (room - length one.bytes) one.read one.left
 
-  pub steps_more : wants_step r.task input ≡ true → most_written ≤ room → steps_of (suc most) room r input ≡ and_then one.bytes further
+  pub steps_more : wants_step r.sweeping input ≡ true → most_written ≤ room → steps_of (suc most) room r input ≡ and_then one.bytes further
   unfolding steps_of
   steps_more w h = rw (w, le-leb most_written room h)
 
   -- what holds of a step and further ones, and of none where none is wanted or the room may not do, holds of them
-  steps_by : (P : Stepped → Type 0) → (wants_step r.task input ≡ true → most_written ≤ room → P (and_then one.bytes further))
-      → ((wants_step r.task input ≡ true → room < most_written) → P (no_step r input))
+  steps_by : (P : Stepped → Type 0) → (wants_step r.sweeping input ≡ true → most_written ≤ room → P (and_then one.bytes further))
+      → ((wants_step r.sweeping input ≡ true → room < most_written) → P (no_step r input))
       → P (steps_of (suc most) room r input)
   unfolding steps_of
   steps_by P more none =
-      by_test (λ b. P (cond (b && leb most_written room) (and_then one.bytes further) (no_step r input))) (wants_step r.task input)
+      by_test (λ b. P (cond (b && leb most_written room) (and_then one.bytes further) (no_step r input))) (wants_step r.sweeping input)
       (λ w. by_test (λ b. P (cond b (and_then one.bytes further) (no_step r input))) (leb most_written room) (λ h. more w (leb-true most_written room h)) (λ h. none (λ v. leb-false most_written room h)))
       (λ w. none (λ v. absurd (false≢true (sym w ∙ v))))
 
@@ -135,14 +134,14 @@ steps_good (suc most) room r g input =
 
 -- With as many steps as there are bytes of input and room, one is wanted after them only where the room that is left may not do.
 pub steps_end : (most room : ℕ) (r : Read) → Good r → (input : List ℕ) → length input + room ≤ most
-    → wants_step (steps_of most room r input).read.task (steps_of most room r input).left ≡ true
+    → wants_step (steps_of most room r input).read.sweeping (steps_of most room r input).left ≡ true
     → room < most_written + length (steps_of most room r input).bytes
 unfolding steps_of
 steps_end zero room r g input h = λ w. omega arith
 steps_end (suc most) room r g input h =
     let s = step_of r input in
     let t = steps_of most (room - length s.bytes) s.read s.left in
-    steps_by most room r input (λ z. wants_step z.read.task z.left ≡ true → room < most_written + length z.bytes)
+    steps_by most room r input (λ z. wants_step z.read.sweeping z.left ≡ true → room < most_written + length z.bytes)
     (λ w k v. let short = step_short r input in
     let used = step_uses r g input w in
     omega (arith, steps_end most (room - length s.bytes) s.read (step_good r g input) s.left (omega arith) v, length-append s.bytes t.bytes))

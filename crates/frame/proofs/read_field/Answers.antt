@@ -1,76 +1,72 @@
 -- What is read, with the digits that are left, is the field.
-use Rattle.std.proofs.Common.{◌≡◌, sym, ap, ◌∙◌, List, length, get_or, ℕ, suc, ◌+◌, ◌*◌, ◌^◌, ◌≤◌, ◌<◌, add-zero, add-one, pow-suc, arith}
+use Rattle.std.proofs.Common.{◌≡◌, sym, ap, ◌∙◌, List, length, get_or, drop, ℕ, Option, Some, None, ◌+◌, ◌*◌, ◌^◌, ◌≤◌, ◌<◌, ◌⊎◌, add-one, pow-suc, arith}
 use Rattle.std.proofs.Math.Nat.{pow-le-pow_right}
 use Rattle.std.proofs.Math.Arith.{digits_lt}
-use Rattle.std.proofs.Math.Seq.{slice}
-use Rattle.frame.specs.declared.Field.TheVariants.{Value, Malformed}
-use Rattle.frame.specs.Digits.{digit_value, and_then, value_after, field_at}
+use Rattle.frame.specs.Digits.{digit_value, and_then, value_after}
 use Rattle.frame.specs.DigitLaws.{digit_printed}
-use Rattle.frame.specs.FieldLaws.{field_inside, field_outside, value_step, value_end}
+use Rattle.frame.specs.FieldLaws.{field_outside, field_taken, value_next, value_none}
 use Rattle.frame.proofs.read_field.Goals as goal
 
-module _ (line : List ℕ) (at width value i : ℕ) (inside : at + width ≤ length line) where
-  -- the digits that are left come to the field
-  abbrev Left : Type 0
-  Left = value_after value (slice (at + i) (at + width) line) ≡ field_at line at width
-
-  next_digit :
-      Left
-      → i < width
-      → and_then (digit_value (get_or line (at + i) 0)) (λ (d : ℕ). value_after (value * 16 + d) (slice (at + (i + 1)) (at + width) line))
-      ≡ field_at line at width
-  next_digit left h =
-      let e : at + (i + 1) ≡ suc (at + i) = omega arith in
-      ap (λ (k : ℕ). and_then (digit_value (get_or line (at + i) 0)) (λ (d : ℕ). value_after (value * 16 + d) (slice k (at + width) line))) e
-      ∙ sym (value_step line value (at + i) (at + width) (omega arith) inside)
-      ∙ left
-
-  one_more : (d : ℕ) → Left → i < width → digit_value (get_or line (at + i) 0) ≡ Value d → value_after (value * 16 + d) (slice (at + (i + 1)) (at + width) line) ≡ field_at line at width
-  one_more d left h e = rw e at (next_digit left h)
-
-  no_more : Left → i < width → digit_value (get_or line (at + i) 0) ≡ Malformed → Malformed ≡ field_at line at width
-  no_more left h e = rw e at (next_digit left h)
-
-  all_read : Left → i ≡ width → Value value ≡ field_at line at width
-  all_read left e = sym (value_end line value (at + width)) ∙ ap (λ (k : ℕ). value_after value (slice (at + k) (at + width) line)) (sym e) ∙ left
+-- the next digit decides
+next_digit :
+    (bytes : List ℕ) (value i : ℕ) (d : Option ℕ)
+    → i < length bytes
+    → d ≡ digit_value (get_or bytes i 0)
+    → value_after value (drop i bytes) ≡ and_then d (λ (x : ℕ). value_after (value * 16 + x) (drop (i + 1) bytes))
+next_digit bytes value i d h e =
+    value_next bytes value i h ∙ ap (λ (f : Option ℕ). and_then f (λ (x : ℕ). value_after (value * 16 + x) (drop (i + 1) bytes))) (sym e)
 
 -- a value of so many digits, and a digit more
-small_more : (value i d b : ℕ) → value < 16 ^ i → digit_value b ≡ Value d → value * 16 + d < 16 ^ (i + 1)
-small_more value i d b h e = rw (add-one i, pow-suc 16 i) (digits_lt h (digit_printed b d e).1)
+small_more : (value i d b : ℕ) → value < 16 ^ i → Some d ≡ digit_value b → value * 16 + d < 16 ^ (i + 1)
+small_more value i d b h e = rw (add-one i, pow-suc 16 i) (digits_lt h (digit_printed b d (sym e)).1)
 
-fits : (value i d b width : ℕ) → value < 16 ^ i → digit_value b ≡ Value d → i < width → width ≤ 16 → value * 16 + d < 2 ^ 64
-fits value i d b width h e l w = omega (arith, small_more value i d b h e, pow-le-pow_right {n = 16} (omega arith) {i = i + 1} {j = 16} (omega arith))
+-- fewer than 16 digits leave room for one more
+few : (i n width : ℕ) → i < n → n + 0 ≡ width → width ≤ 16 → i < 16
+few i n width h e w = omega arith
 
-pub returns-then-line-at : goal.returns-then-line-at
-returns-then-line-at c = sym (field_outside _ _ _ (omega arith))
+room : (value i : ℕ) → value < 16 ^ i → i < 16 → value * 16 + 16 ≤ 2 ^ 64
+room value i h l = let p : value < 16 ^ 15 = omega (arith, pow-le-pow_right {n = 16} (omega arith) {i = i} {j = 15} (omega arith)) in omega arith
 
-pub returns-then-line-at-2 : goal.returns-then-line-at-2
-returns-then-line-at-2 c = sym (field_outside _ _ _ (omega arith))
+fits : (value i d b : ℕ) → value < 16 ^ i → Some d ≡ digit_value b → i < 16 → value * 16 + d < 2 ^ 64
+fits value i d b h e l = omega (arith, room value i h l, (digit_printed b d (sym e)).1)
 
-pub loop-i-init : goal.loop-i-init
-loop-i-init c = record {
-  within = omega arith;
-  small = omega arith;
-  rest = ap (λ (k : ℕ). value_after 0 (slice k (c.args.at + c.args.width) c.args.line.now)) (add-zero c.args.at) ∙ sym (field_inside _ _ _ (omega arith));
-}
+-- a line that ends before the place, or before the digits from there on
+past_place : (n at w : ℕ) → (n < at) ⊎ (n < n) → n < at + w
+past_place n at w h = grind arith
 
-pub returns-in_default : goal.returns-in_default
-returns-in_default c = no_more _ _ _ _ _ (omega arith) c.loop-i.invariant.rest c.loop-i-test.true (sym c.in_default.ensures)
+past_digits : (n m at w : ℕ) → m + at ≡ n → (w < 0) ⊎ (m < w) → n < at + w
+past_digits n m at w e h = grind arith
+
+pub returns-in_err-get : goal.returns-in_err-get
+returns-in_err-get c = c.from_residual.ensures ∙ sym (field_outside _ _ _ (past_place _ _ _ c.in_err-get.ensures.lookup.0))
+
+pub returns-in_err-b-items : goal.returns-in_err-b-items
+returns-in_err-b-items c =
+    c.from_residual-in_err-b-items.ensures
+    ∙ sym (field_outside _ _ _ (past_digits _ _ _ _ c.in_ok-get.ensures.lookup.0.3 c.in_err-b-items.ensures.lookup.0))
+
+pub loop-b-init : goal.loop-b-init
+loop-b-init c =
+    let part = c.in_ok-get.ensures.lookup.0 in
+    let bytes = c.in_ok-b-items.ensures.lookup.0 in
+    record { small = omega arith; rest = field_taken _ _ _ _ _ (omega (arith, part.0, part.3, bytes.1)) part.2 bytes.2 }
 
 pub overflow_mul-value : goal.overflow_mul-value
-overflow_mul-value c =
-    omega (arith, fits _ _ _ _ _ c.loop-i.invariant.small (sym c.in-Value.ensures) c.loop-i-test.true c.requires)
+overflow_mul-value c = omega (arith, room _ _ c.loop-b.invariant.small (few _ _ _ c.loop-b-test.true c.in_ok-b-items.ensures.lookup.0.3 c.requires))
+
+pub returns-in_err-value : goal.returns-in_err-value
+returns-in_err-value c =
+    c.from_residual-in_err-value.ensures ∙ sym (next_digit _ c.loop-b.value _ None c.loop-b-test.true c.in_err-value.ensures) ∙ c.loop-b.invariant.rest
 
 pub overflow_add-value : goal.overflow_add-value
 overflow_add-value c =
-    omega (arith, fits _ _ _ _ _ c.loop-i.invariant.small (sym c.in-Value.ensures) c.loop-i-test.true c.requires)
+    omega (arith, fits _ _ _ _ c.loop-b.invariant.small c.in_ok-value.ensures (few _ _ _ c.loop-b-test.true c.in_ok-b-items.ensures.lookup.0.3 c.requires))
 
-pub loop-i-preserved : goal.loop-i-preserved
-loop-i-preserved c = record {
-  within = omega arith;
-  small = small_more _ _ _ _ c.loop-i.invariant.small (sym c.in-Value.ensures);
-  rest = one_more _ _ _ _ _ (omega arith) _ c.loop-i.invariant.rest c.loop-i-test.true (sym c.in-Value.ensures);
+pub loop-b-preserved : goal.loop-b-preserved
+loop-b-preserved c = record {
+  small = small_more _ _ _ _ c.loop-b.invariant.small c.in_ok-value.ensures;
+  rest = sym (next_digit _ c.loop-b.value _ _ c.loop-b-test.true c.in_ok-value.ensures) ∙ c.loop-b.invariant.rest;
 }
 
 pub returns : goal.returns
-returns c = all_read _ _ _ _ _ (omega arith) c.loop-i.invariant.rest (omega arith)
+returns c = sym (value_none _ c.loop-b.value _ c.loop-b-test.false) ∙ c.loop-b.invariant.rest

@@ -4,13 +4,10 @@ use Rattle.stream.specs.Step.{most_written}
 use Rattle.stream.specs.Good.{Fit}
 use Rattle.plotconst.proofs.main.Given as goal
 
-abbrev pub invariant-loop-turns : goal.invariant-loop-turns
-invariant-loop-turns l = record {
+abbrev pub invariant-loop : goal.invariant-loop
+invariant-loop l = record {
   fit : Fit l.progress;
   ahead : l.at ≤ l.count;
   chunk : l.count ≤ length l.input;
   room : most_written ≤ length l.out;
 }
-
-abbrev pub decreases-loop-turns : goal.decreases-loop-turns
-decreases-loop-turns l = l.turns

@@ -1,9 +1,6 @@
--- So many bytes are written.
-use Rattle.std.proofs.Common.{◌≤◌, ◌-◌, length}
+-- What is left gets shorter.
+use Rattle.std.proofs.Common.{length}
 use Rattle.plotconst.proofs.write_all.Given as goal
 
-abbrev pub invariant-loop-at : goal.invariant-loop-at
-invariant-loop-at g l = l.at ≤ length l.bytes
-
-abbrev pub decreases-loop-at : goal.decreases-loop-at
-decreases-loop-at g l = length l.bytes - l.at
+abbrev pub decreases-loop-rest : goal.decreases-loop-rest
+decreases-loop-rest g l = length l.rest

@@ -11,26 +11,25 @@ use Rattle.stream.proofs.put_words.Goals as goal
 one_more : (list : List ℕ) (i word : ℕ) → i < length list → word ≡ get_or list i 0 → take (i + 1) list ≡ take i list ++ (word ∷ [])
 one_more list i word h g = ap (λ (k : ℕ). take k list) (add-one i) ∙ take-suc list i 0 h ∙ ap (λ (x : ℕ). take i list ++ (x ∷ [])) (sym g)
 
-pub loop-i-init : goal.loop-i-init
+pub loop-word-init : goal.loop-word-init
 unfolding word_lines odds
-loop-i-init c = record { within = omega arith; written = record { list = refl; place = omega arith }; odd = refl }
+loop-word-init c = record { written = record { list = refl; place = omega arith }; odd = refl }
 
 pub put_word-place-requires : goal.put_word-place-requires
 put_word-place-requires c =
-    let b = c.loop-i.invariant in
-    omega (arith, written_length b.written, length_lines (take c.loop-i.i c.args.list.now), length-take-le c.loop-i.i c.args.list.now (omega arith))
+    let b = c.loop-word.invariant in
+    omega (arith, written_length b.written, b.written.place, length_lines (take c.loop-word.word-index c.args.words.now), length-take-le c.loop-word.word-index c.args.words.now (omega arith))
 
 pub overflow_add-opens : goal.overflow_add-opens
-overflow_add-opens c = omega (arith, odds_few (take c.loop-i.i c.args.list.now), length-take-le c.loop-i.i c.args.list.now (omega arith))
+overflow_add-opens c = omega (arith, odds_few (take c.loop-word.word-index c.args.words.now), length-take-le c.loop-word.word-index c.args.words.now (omega arith))
 
-pub loop-i-preserved : goal.loop-i-preserved
-loop-i-preserved c =
-    let b = c.loop-i.invariant in
-    let word = c.widened-word.result in
-    let first = take c.loop-i.i c.args.list.now in
-    let e = one_more c.args.list.now c.loop-i.i word (omega arith) c.widened-word.ensures in
+pub loop-word-preserved : goal.loop-word-preserved
+loop-word-preserved c =
+    let b = c.loop-word.invariant in
+    let word = c.from-word.result in
+    let first = take c.loop-word.word-index c.args.words.now in
+    let e = one_more c.args.words.now c.loop-word.word-index word c.loop-word-test.true c.from-word.ensures in
     record {
-      within = omega arith;
       written = subst (λ (l : List ℕ). Written c.args.out.now c.args.at l c.put_word-place.new.buf c.put_word-place.result) (sym (ap word_lines e ∙ lines_last first word)) (written_then b.written c.put_word-place.ensures);
       odd = ap (λ (n : ℕ). n + word % 2) b.odd ∙ sym (ap odds e ∙ odds_last first word);
     }

@@ -5,8 +5,8 @@ use Rattle.stream.specs.Work.{all_steps}
 use Rattle.stream.specs.LoopLaws.{Begun}
 use Rattle.stream.proofs.steps.Given as goal
 
-abbrev pub invariant-loop-progress : goal.invariant-loop-progress
-invariant-loop-progress l = Begun (all_steps (length l.fn.out) (read_of l.fn.p) (drop l.at l.input)) l.input l.fn.out l.moved l.out
+abbrev pub invariant-loop-out : goal.invariant-loop-out
+invariant-loop-out l = Begun (all_steps (length l.fn.out) (read_of l.fn.progress) (drop l.at l.input)) l.input l.fn.out l.moved l.out
 
-abbrev pub decreases-loop-progress : goal.decreases-loop-progress
-decreases-loop-progress l = length l.input - l.moved.at + (length l.fn.out - l.moved.used)
+abbrev pub decreases-loop-out : goal.decreases-loop-out
+decreases-loop-out l = length l.input - l.moved.at + (length l.fn.out - l.moved.used)
