@@ -25,536 +25,491 @@
 #![tactic(auto)]
 
 ghost use Rattle.std.specs.Prelude.{◌<◌, ◌≤◌};
-ghost use Rattle.factor.specs.SetUp.{Sound};
 ghost use Rattle.wide.specs.Value.{half_word};
 
-use exports::TakenFactor;
-use factor::Factor;
-use frame::Field;
-use search::{Found, Place};
+use exports::Failure;
+use factor::{Description, SoundFactor};
+use frame::read_field;
+use marks::Refusal;
+use product::Device;
+use search::Found;
 
-const BLANK: u8 = 32;
+// The words of a sweep's state, of the list and of a kit's state.
+const STATE_WORDS: usize = 14;
 
-const LINE_FEED: u8 = 10;
+const LIST_WORDS: usize = 64;
 
-// ---- writing
-fn put_byte(b: u8) {
-    let text = [b];
-    io::write_all(1, &text);
+const KIT_WORDS: usize = 964;
+
+// A kit has so many places, each with the words of a factor, with which a state begins.
+const KIT_PLACES: usize = 96;
+
+const FACTOR_WORDS: usize = 10;
+
+// ---- lines
+// Which half of a factor's significands a search looks at.
+#[derive(Clone, Copy, Debug, PartialEq, Eq)]
+enum Half {
+    Low,
+    High,
 }
 
-// A number of `width` digits in a base.
+// What a line says.
+#[derive(Clone, Copy, Debug, PartialEq, Eq)]
+enum Line {
+    SetUp(Description),
+    Change { at: usize, value: u64 },
+    Multiply(Device, u64),
+    Read(Device, u32),
+    Divide(u64),
+    DivideReading(u32),
+    Tally { first: u64, last: u64 },
+    Search { half: Half, start: u64 },
+    NewSweep { first: u64, last: u64 },
+    Sweep { cap: u64, words: usize, free: usize },
+    Fill(u32),
+    PlaceFactor { place: usize },
+    ChangeKit { at: usize, value: u64 },
+    FormKit,
+    NewKitSweep,
+    SweepKit { cap: u64, words: usize, free: usize },
+    Clean { entries: u64 },
+}
+
+// What of a line is not read yet.
+#[derive(Drop)]
+struct Fields<'a> {
+    rest: &'a [u8],
+}
+
+impl<'a> Fields<'a> {
+    // The next field: a blank, and so many digits.
+    fn next(&mut self, width: usize) -> Option<u64>
+        requires { width ≤ 16 }
+    {
+        let (field, rest) = self.rest.split_at_checked(1 + width)?;
+        self.rest = rest;
+        if field[0] == b' ' {
+            read_field(field, 1, width)
+        } else {
+            None
+        }
+    }
+
+    // One of 16 digits.
+    fn word(&mut self) -> Option<u64> {
+        self.next(16)
+    }
+
+    // One of 8.
+    fn half_word(&mut self) -> Option<u32> {
+        Some(words::low_half(self.next(8)?))
+    }
+
+    // One that is a place, or a number of words.
+    fn place(&mut self, width: usize) -> Option<usize>
+        requires { width ≤ 16 }
+    {
+        Some(self.next(width)? as usize)
+    }
+
+    // A line of a kind.
+    fn line(&mut self, kind: u64) -> Option<Line> {
+        Some(match kind {
+            0x01 => Line::SetUp(Description {
+                minus: self.half_word()? != 0,
+                precision: self.half_word()?,
+                scale: self.half_word()?.cast_signed(),
+                lower: self.word()?,
+                upper: self.word()?,
+            }),
+            0x02 => Line::Change {
+                at: self.place(2)?,
+                value: self.word()?,
+            },
+            0x03 => Line::Multiply(Device::TwoStep, self.word()?),
+            0x04 => Line::Read(Device::TwoStep, self.half_word()?),
+            0x05 => Line::Search {
+                half: match self.next(2)? {
+                    0 => Half::Low,
+                    1 => Half::High,
+                    _ => return None,
+                },
+                start: self.word()?,
+            },
+            0x06 => Line::NewSweep {
+                first: self.word()?,
+                last: self.word()?,
+            },
+            0x07 => Line::Sweep {
+                cap: self.word()?,
+                words: self.place(2)?,
+                free: self.place(16)?,
+            },
+            0x08 => Line::Fill(self.half_word()?),
+            0x09 => Line::Divide(self.word()?),
+            0x0a => Line::DivideReading(self.half_word()?),
+            0x0b => Line::Multiply(Device::OneStep, self.word()?),
+            0x0c => Line::Read(Device::OneStep, self.half_word()?),
+            0x0d => Line::Tally {
+                first: self.word()?,
+                last: self.word()?,
+            },
+            0x0e => Line::PlaceFactor {
+                place: self.place(2)?,
+            },
+            0x0f => Line::ChangeKit {
+                at: self.place(4)?,
+                value: self.word()?,
+            },
+            0x10 => Line::FormKit,
+            0x11 => Line::NewKitSweep,
+            0x12 => Line::SweepKit {
+                cap: self.word()?,
+                words: self.place(2)?,
+                free: self.place(16)?,
+            },
+            0x13 => Line::Clean {
+                entries: self.word()?,
+            },
+            _ => return None,
+        })
+    }
+}
+
+impl Line {
+    // The line that some bytes are, if they are one: two digits for its kind, and the fields of that.
+    fn of(bytes: &[u8]) -> Option<Line> {
+        let (kind, rest) = bytes.split_at_checked(2)?;
+        let kind = read_field(kind, 0, 2)?;
+        let mut fields = Fields { rest };
+        let line = fields.line(kind)?;
+        if fields.rest.is_empty() {
+            Some(line)
+        } else {
+            None
+        }
+    }
+}
+
+// ---- answers
+// A field: a blank, then a number of `width` digits in a base.
 fn put_number(width: usize, base: u64, v: u64)
     requires { (width ≤ 16) × (0 < base) × (base ≤ 16) }
 {
-    let mut text = [0u8; 16];
-    frame::put_digits(&mut text, 0, width, base, v);
-    io::write_all(1, &text[..width]);
+    let mut text = [b' '; 17];
+    frame::put_digits(&mut text, 1, width, base, v);
+    io::write_all(1, &text[..width + 1]);
 }
 
-// A field behind a blank.
 fn put_field(width: usize, v: u64)
     requires { width ≤ 16 }
 {
-    put_byte(BLANK);
     put_number(width, 16, v);
 }
 
 // A mark, a refusal, or 0 for accepted.
 fn put_outcome(number: u32) {
-    put_byte(BLANK);
-    put_number(2, 10, number as u64);
+    put_number(2, 10, u64::from(number));
 }
 
-fn not_a_line() {
-    put_outcome(24);
+fn put_refusal(refusal: Refusal) {
+    put_outcome(u32::from(refusal));
 }
 
-// ---- reading
-// What is read of a line so far: where its next field's blank stands, the last number, and whether all is well.
-#[derive(Clone, Copy)]
-struct Cursor {
-    good: bool,
-    at: usize,
-    value: u64,
+fn put_reading(answer: [u32; 2]) {
+    put_field(8, u64::from(answer[0]));
+    put_field(2, u64::from(answer[1]));
 }
 
-// What a line says after its kind: up to five numbers, and whether they are all that it says.
-#[derive(Clone, Copy)]
-struct Numbers {
-    good: bool,
-    a: u64,
-    b: u64,
-    c: u64,
-    d: u64,
-    e: u64,
-}
-
-// The next field, of `width` digits behind a blank; none where the width is 0.
-fn next_field(line: &[u8], c: Cursor, width: usize) -> Cursor
-    requires { width ≤ 16 }
-{
-    let at = c.at;
-    let bad = Cursor {
-        good: false,
-        at,
-        value: 0,
-    };
-    if width == 0 {
-        return c;
-    }
-    if line.len() <= at {
-        return bad;
-    }
-    if line.len() - at <= width {
-        return bad;
-    }
-    if line[at] != BLANK {
-        return bad;
-    }
-    let Field::Value(value) = frame::read_field(line, at + 1, width) else {
-        return bad;
-    };
-    Cursor {
-        good: c.good,
-        at: at + 1 + width,
-        value,
-    }
-}
-
-// The fields of a line, of these widths, which are all that stands behind its kind.
-fn fields(line: &[u8], a: usize, b: usize, c: usize, d: usize, e: usize) -> Numbers
-    requires { (a ≤ 16) × (b ≤ 16) × (c ≤ 16) × (d ≤ 16) × (e ≤ 16) }
-{
-    let start = Cursor {
-        good: true,
-        at: 2,
-        value: 0,
-    };
-    let first = next_field(line, start, a);
-    let second = next_field(line, first, b);
-    let third = next_field(line, second, c);
-    let fourth = next_field(line, third, d);
-    let fifth = next_field(line, fourth, e);
-    Numbers {
-        good: fifth.good & (fifth.at == line.len()),
-        a: first.value,
-        b: second.value,
-        c: third.value,
-        d: fourth.value,
-        e: fifth.value,
-    }
-}
-
-// What a line of a kind says.
-fn arguments(line: &[u8], kind: u64) -> Numbers {
-    match kind {
-        1 => fields(line, 8, 8, 8, 16, 16),
-        2 | 5 => fields(line, 2, 16, 0, 0, 0),
-        3 | 9 | 11 | 19 => fields(line, 16, 0, 0, 0, 0),
-        4 | 8 | 10 | 12 => fields(line, 8, 0, 0, 0, 0),
-        6 | 13 => fields(line, 16, 16, 0, 0, 0),
-        7 | 18 => fields(line, 16, 2, 16, 0, 0),
-        14 => fields(line, 2, 0, 0, 0, 0),
-        15 => fields(line, 4, 16, 0, 0, 0),
-        16 | 17 => fields(line, 0, 0, 0, 0, 0),
-        _ => Numbers {
-            good: false,
-            a: 0,
-            b: 0,
-            c: 0,
-            d: 0,
-            e: 0,
-        },
-    }
-}
-
-// The kind of a line, 0 where it has none.
-fn kind_of(line: &[u8]) -> u64 {
-    let Field::Value(kind) = frame::read_field(line, 0, 2) else {
-        return 0;
-    };
-    kind
-}
-
-// ---- kinds of lines
-fn put_factor(state: &[u64; 14]) {
-    put_field(2, state[0]);
-    put_field(16, state[4]);
-    put_field(16, state[5]);
-    put_field(8, state[6]);
-    put_field(8, state[7]);
-    put_field(8, state[8]);
-}
-
-fn set_up(state: &mut [u64; 14], n: Numbers) {
-    let scale = words::signed_half(words::low_half(n.c));
-    let number = exports::gusnalip_set_up(
-        words::low_half(n.a),
-        words::low_half(n.b),
-        scale,
-        n.d,
-        n.e,
-        state,
-    );
-    put_outcome(number);
-    if number == 0 {
-        put_factor(state);
-    }
-}
-
-fn change(state: &mut [u64; 14], number: u64, v: u64) {
-    if 13 < number {
-        not_a_line();
-        return;
-    }
-    put_outcome(0);
-    state[number as usize] = v;
-}
-
-fn put_product(out: &[u64; 4]) {
-    put_field(16, out[0]);
-    put_field(2, out[1]);
-    put_field(2, out[2]);
-    put_field(2, out[3]);
-}
-
-fn multiply(state: &[u64; 14], x: u64) {
-    let mut out = [0u64; 4];
-    let number = exports::gusnalip_multiply(state, x, &mut out);
-    put_outcome(number);
-    if number <= 3 {
-        put_product(&out);
-    }
-}
-
-fn wide(w: u32) -> u64 {
-    w as u64
-}
-
-fn put_words(list: &[u32]) {
-    let mut i: usize = 0;
-    while i < list.len() {
-        put_field(8, wide(list[i]));
-        i += 1;
-    }
-}
-
-fn put_reading(out: &[u32; 2]) {
-    put_field(8, wide(out[0]));
-    put_field(2, wide(out[1]));
-}
-
-fn read(state: &[u64; 14], reading: u32) {
-    let mut out = [0u32; 2];
-    let number = exports::gusnalip_read(state, reading, &mut out);
-    put_outcome(number);
-    if number <= 3 {
-        put_reading(&out);
-    }
-}
-
-fn put_quotient(out: &[u64; 4]) {
-    put_field(16, out[0]);
-    put_field(16, out[1]);
-    put_field(2, out[2]);
-    put_field(2, out[3]);
-}
-
-fn divide(state: &[u64; 14], x: u64) {
-    let mut out = [0u64; 4];
-    let number = exports::gusnalip_divide(state, x, &mut out);
-    put_outcome(number);
-    if number == 0 {
-        put_quotient(&out);
-    }
-}
-
-fn divide_reading(state: &[u64; 14], reading: u32) {
-    let mut out = [0u32; 2];
-    let number = exports::gusnalip_divide_reading(state, reading, &mut out);
-    put_outcome(number);
-    if number == 0 {
-        put_reading(&out);
-    }
-}
-
-fn multiply_once(state: &[u64; 14], x: u64) {
-    let mut out = [0u64; 4];
-    let number = exports::gusnalip_multiply_once(state, x, &mut out);
-    put_outcome(number);
-    if number <= 3 {
-        put_product(&out);
-    }
-}
-
-fn read_once(state: &[u64; 14], reading: u32) {
-    let mut out = [0u32; 2];
-    let number = exports::gusnalip_read_once(state, reading, &mut out);
-    put_outcome(number);
-    if number <= 3 {
-        put_reading(&out);
-    }
-}
-
-fn put_tally(out: &[u64; 3]) {
-    put_field(8, out[0]);
-    put_field(8, out[1]);
-    put_field(8, out[2]);
-}
-
-fn tally(state: &[u64; 14], first: u64, last: u64) {
-    let mut out = [0u64; 3];
-    let number = exports::gusnalip_tally(state, first, last, &mut out);
-    put_outcome(number);
-    if number == 0 {
-        put_tally(&out);
-    }
-}
-
-// The next suspect of a factor that was accepted.
-fn next(f: Factor, high: bool, x: u64) -> Found
-    requires { Sound f × (x ≤ half_word) }
-{
-    let windows = suspects::windows_of(f);
-    let low_half = windows.low;
-    let high_half = windows.high;
-    if high {
-        return suspects::next(high_half, x);
-    }
-    suspects::next(low_half, x)
-}
-
-fn put_found(found: Found) {
-    let place = found.place;
-    match place {
-        Place::At(k) => {
-            put_outcome(1);
-            put_field(16, k);
-        }
-        Place::Nowhere => put_outcome(0),
-    }
-    put_field(16, found.rounds);
-}
-
-fn search(f: Factor, high: bool, x: u64) {
-    if factor::is_intact(f) {
-        if 9223372036854775808 < x {
-            put_outcome(17);
-            return;
-        }
-        put_found(next(f, high, x));
-        return;
-    }
-    put_outcome(31);
-}
-
-fn search_half(state: &[u64; 14], half: u64, x: u64) {
-    if 1 < half {
-        not_a_line();
-        return;
-    }
-    match exports::take_factor(state, 10, 0, 0) {
-        TakenFactor::Accepted(f) => search(f, half == 1, x),
-        TakenFactor::Refused(number) => put_outcome(number),
-    }
-}
-
-fn new_sweep(given: [u64; 14], state: &mut [u64; 14], first: u64, last: u64) {
-    put_outcome(exports::gusnalip_new_sweep(&given, first, last, state));
-}
-
-fn put_counts(counts: &[u64; 3]) {
+fn put_counts(counts: [u64; 3]) {
     put_field(16, counts[0]);
     put_field(16, counts[1]);
     put_field(16, counts[2]);
 }
 
-fn put_state(state: &[u64; 14]) {
-    put_field(16, state[10]);
-    put_field(16, state[11]);
-    put_field(16, state[12]);
-    put_field(2, (state[13] != 0) as u64);
-}
-
-// A sweep call with what it answers, then the state and the list.
-fn call(state: &mut [u64; 14], cap: u64, list: &mut [u32], free: usize) {
-    let mut counts = [0u64; 3];
-    let number = exports::gusnalip_sweep(state, cap, list, free, &mut counts);
-    put_outcome(number);
-    if number == 0 {
-        put_counts(&counts);
+fn put_list(list: &[u32]) {
+    for word in list {
+        put_field(8, u64::from(*word));
     }
-    put_state(state);
-    put_words(list);
 }
 
-// The same on the list's first words.
-fn call_on(state: &mut [u64; 14], cap: u64, list: &mut [u32], n: usize, free: usize) {
-    if list.len() < n {
-        not_a_line();
-        return;
+fn put_found(found: Found) {
+    match found.place {
+        Some(place) => {
+            put_outcome(1);
+            put_field(16, place);
+        }
+        None => put_outcome(0),
     }
-    call(state, cap, &mut list[..n], free);
+    put_field(16, found.rounds);
 }
 
-fn fill(list: &mut [u32; 64], v: u32) {
-    *list = [v; 64];
-    put_outcome(0);
+// The next suspect of a half at or after a start.
+fn next(f: SoundFactor, half: Half, start: u64) -> Found
+    requires { start ≤ half_word }
+{
+    let windows = suspects::windows_of(f);
+    match half {
+        Half::Low => suspects::next(windows.low, start),
+        Half::High => suspects::next(windows.high, start),
+    }
 }
 
-// ---- kits
-// A word of the state comes to a word of the kit's state.
-fn copy_word(state: &[u64; 14], i: usize, kit: &mut [u64; 964], at: usize) {
-    if i < 14 {
-        if at < 964 {
-            kit[at] = state[i];
+// A word of a list becomes another, if there is one so far.
+fn change(words: &mut [u64], at: usize, value: u64) {
+    if at < words.len() {
+        put_outcome(0);
+        words[at] = value;
+    } else {
+        put_refusal(Refusal::NotAFrame);
+    }
+}
+
+// ---- the machine
+// What lines change: the state, which begins with the factor's words, the list, and the kit's state.
+#[derive(Drop)]
+struct Machine {
+    state: [u64; STATE_WORDS],
+    list: [u32; LIST_WORDS],
+    kit: [u64; KIT_WORDS],
+}
+
+impl Machine {
+    fn new() -> Machine {
+        Machine {
+            state: [0; STATE_WORDS],
+            list: [u32::MAX; LIST_WORDS],
+            kit: [0; KIT_WORDS],
         }
     }
-}
 
-// The ten words of the factor come to a place of the kit.
-fn place_factor(state: &[u64; 14], kit: &mut [u64; 964], place: u64) {
-    if 95 < place {
-        not_a_line();
-        return;
+    // The answer to a line.
+    fn answer(&mut self, line: Line) {
+        match line {
+            Line::SetUp(d) => self.set_up(d),
+            Line::Change { at, value } => change(&mut self.state, at, value),
+            Line::Multiply(device, x) => self.multiply(device, x),
+            Line::Read(device, reading) => self.read(device, reading),
+            Line::Divide(x) => self.divide(x),
+            Line::DivideReading(reading) => self.divide_reading(reading),
+            Line::Tally { first, last } => self.tally(first, last),
+            Line::Search { half, start } => self.search(half, start),
+            Line::NewSweep { first, last } => self.new_sweep(first, last),
+            Line::Sweep { cap, words, free } => self.sweep(cap, words, free),
+            Line::Fill(word) => self.fill(word),
+            Line::PlaceFactor { place } => self.place_factor(place),
+            Line::ChangeKit { at, value } => change(&mut self.kit, at, value),
+            Line::FormKit => put_outcome(exports::gusnalip_form_kit(&self.kit)),
+            Line::NewKitSweep => self.new_kit_sweep(),
+            Line::SweepKit { cap, words, free } => self.sweep_kit(cap, words, free),
+            Line::Clean { entries } => {
+                put_outcome(exports::gusnalip_kit_clean(&self.kit, entries));
+            }
+        }
     }
-    put_outcome(0);
-    let at = 10 * (place as usize);
-    let mut i: usize = 0;
-    while i < 10 {
-        copy_word(state, i, kit, at + i + 1);
-        i += 1;
+
+    fn set_up(&mut self, d: Description) {
+        let number = exports::gusnalip_set_up(
+            u32::from(d.minus),
+            d.precision,
+            d.scale,
+            d.lower,
+            d.upper,
+            &mut self.state,
+        );
+        put_outcome(number);
+        if number == 0 {
+            put_field(2, self.state[0]);
+            put_field(16, self.state[4]);
+            put_field(16, self.state[5]);
+            put_field(8, self.state[6]);
+            put_field(8, self.state[7]);
+            put_field(8, self.state[8]);
+        }
     }
-}
 
-fn change_kit(kit: &mut [u64; 964], number: u64, v: u64) {
-    if 963 < number {
-        not_a_line();
-        return;
+    fn multiply(&self, device: Device, x: u64) {
+        let mut answer = [0; 4];
+        let number = match device {
+            Device::TwoStep => exports::gusnalip_multiply(&self.state, x, &mut answer),
+            Device::OneStep => exports::gusnalip_multiply_once(&self.state, x, &mut answer),
+        };
+        put_outcome(number);
+        if number <= 3 {
+            put_field(16, answer[0]);
+            put_field(2, answer[1]);
+            put_field(2, answer[2]);
+            put_field(2, answer[3]);
+        }
     }
-    put_outcome(0);
-    kit[number as usize] = v;
-}
 
-fn form_kit(kit: &[u64; 964]) {
-    put_outcome(exports::gusnalip_form_kit(kit));
-}
-
-fn put_kit_state(kit: &[u64; 964]) {
-    put_field(16, kit[961]);
-    put_field(16, kit[962]);
-    put_field(2, (kit[963] != 0) as u64);
-}
-
-fn new_kit(given: [u64; 964], kit: &mut [u64; 964]) {
-    put_outcome(exports::gusnalip_new_kit_sweep(&given, kit));
-    put_kit_state(kit);
-}
-
-// A kit call with what it answers, then the kit's state and the list.
-fn kit_call(kit: &mut [u64; 964], cap: u64, list: &mut [u32], free: usize) {
-    let mut counts = [0u64; 3];
-    let number = exports::gusnalip_kit_sweep(kit, cap, list, free, &mut counts);
-    put_outcome(number);
-    if number == 0 {
-        put_counts(&counts);
+    fn read(&self, device: Device, reading: u32) {
+        let mut answer = [0; 2];
+        let number = match device {
+            Device::TwoStep => exports::gusnalip_read(&self.state, reading, &mut answer),
+            Device::OneStep => exports::gusnalip_read_once(&self.state, reading, &mut answer),
+        };
+        put_outcome(number);
+        if number <= 3 {
+            put_reading(answer);
+        }
     }
-    put_kit_state(kit);
-    put_words(list);
-}
 
-// The same on the list's first words.
-fn kit_call_on(kit: &mut [u64; 964], cap: u64, list: &mut [u32], n: usize, free: usize) {
-    if list.len() < n {
-        not_a_line();
-        return;
+    fn divide(&self, x: u64) {
+        let mut answer = [0; 4];
+        let number = exports::gusnalip_divide(&self.state, x, &mut answer);
+        put_outcome(number);
+        if number == 0 {
+            put_field(16, answer[0]);
+            put_field(16, answer[1]);
+            put_field(2, answer[2]);
+            put_field(2, answer[3]);
+        }
     }
-    kit_call(kit, cap, &mut list[..n], free);
-}
 
-fn kit_clean(kit: &[u64; 964], entries: u64) {
-    put_outcome(exports::gusnalip_kit_clean(kit, entries));
-}
-
-// The answer to a line of a kit's kind.
-fn answer_kit(
-    state: &[u64; 14],
-    list: &mut [u32; 64],
-    kit: &mut [u64; 964],
-    kind: u64,
-    n: Numbers,
-) {
-    match kind {
-        14 => place_factor(state, kit, n.a),
-        15 => change_kit(kit, n.a, n.b),
-        16 => form_kit(kit),
-        17 => new_kit(*kit, kit),
-        18 => kit_call_on(kit, n.a, list, n.b as usize, n.c as usize),
-        _ => kit_clean(kit, n.a),
+    fn divide_reading(&self, reading: u32) {
+        let mut answer = [0; 2];
+        let number = exports::gusnalip_divide_reading(&self.state, reading, &mut answer);
+        put_outcome(number);
+        if number == 0 {
+            put_reading(answer);
+        }
     }
-}
 
-// ---- lines
-// The answer to a line by its kind and what it says.
-fn answer(
-    state: &mut [u64; 14],
-    list: &mut [u32; 64],
-    kit: &mut [u64; 964],
-    kind: u64,
-    n: Numbers,
-) {
-    if !n.good {
-        not_a_line();
-        return;
+    fn tally(&self, first: u64, last: u64) {
+        let mut answer = [0; 3];
+        let number = exports::gusnalip_tally(&self.state, first, last, &mut answer);
+        put_outcome(number);
+        if number == 0 {
+            put_field(8, answer[0]);
+            put_field(8, answer[1]);
+            put_field(8, answer[2]);
+        }
     }
-    match kind {
-        1 => set_up(state, n),
-        2 => change(state, n.a, n.b),
-        3 => multiply(state, n.a),
-        4 => read(state, words::low_half(n.a)),
-        5 => search_half(state, n.a, n.b),
-        6 => new_sweep(*state, state, n.a, n.b),
-        7 => call_on(state, n.a, list, n.b as usize, n.c as usize),
-        8 => fill(list, words::low_half(n.a)),
-        9 => divide(state, n.a),
-        10 => divide_reading(state, words::low_half(n.a)),
-        11 => multiply_once(state, n.a),
-        12 => read_once(state, words::low_half(n.a)),
-        13 => tally(state, n.a, n.b),
-        _ => answer_kit(state, list, kit, kind, n),
+
+    // The factor that the state has, if it is sound.
+    fn factor(&self) -> Result<SoundFactor, Failure> {
+        let f = exports::take_factor(&self.state, FACTOR_WORDS, 0, 0)?;
+        Ok(SoundFactor::new(f)?)
     }
-}
 
-fn answer_line(state: &mut [u64; 14], list: &mut [u32; 64], kit: &mut [u64; 964], line: &[u8]) {
-    io::write_all(1, line);
-    let kind = kind_of(line);
-    answer(state, list, kit, kind, arguments(line, kind));
-    put_byte(LINE_FEED);
-}
+    fn search(&self, half: Half, start: u64) {
+        match self.factor() {
+            Ok(f) => {
+                if start <= 1 << 63 {
+                    put_found(next(f, half, start));
+                } else {
+                    put_refusal(Refusal::SignificandOutOfRange);
+                }
+            }
+            Err(failure) => put_outcome(u32::from(failure)),
+        }
+    }
 
-// A last line without its line feed is none.
-fn last_line(line: &[u8]) {
-    io::write_all(1, line);
-    not_a_line();
-    put_byte(LINE_FEED);
+    fn new_sweep(&mut self, first: u64, last: u64) {
+        let factor = self.state;
+        put_outcome(exports::gusnalip_new_sweep(&factor, first, last, &mut self.state));
+    }
+
+    // A sweep call on the list's first words, with what it answers; then the state and those words.
+    fn sweep(&mut self, cap: u64, words: usize, free: usize) {
+        if LIST_WORDS < words {
+            put_refusal(Refusal::NotAFrame);
+            return;
+        }
+        let mut list = self.list;
+        let mut counts = [0; 3];
+        let number = exports::gusnalip_sweep(
+            &mut self.state,
+            cap,
+            &mut list[..words],
+            free,
+            &mut counts,
+        );
+        self.list = list;
+        put_outcome(number);
+        if number == 0 {
+            put_counts(counts);
+        }
+        put_field(16, self.state[10]);
+        put_field(16, self.state[11]);
+        put_field(16, self.state[12]);
+        put_field(2, u64::from(self.state[13] != 0));
+        put_list(&self.list[..words]);
+    }
+
+    fn fill(&mut self, word: u32) {
+        self.list = [word; LIST_WORDS];
+        put_outcome(0);
+    }
+
+    // The words of the factor come to a place of the kit, behind the number of its factors.
+    fn place_factor(&mut self, place: usize) {
+        if place < KIT_PLACES {
+            put_outcome(0);
+            let at = 1 + FACTOR_WORDS * place;
+            self.kit[at..at + FACTOR_WORDS].copy_from_slice(&self.state[..FACTOR_WORDS]);
+        } else {
+            put_refusal(Refusal::NotAFrame);
+        }
+    }
+
+    fn put_kit_state(&self) {
+        put_field(16, self.kit[961]);
+        put_field(16, self.kit[962]);
+        put_field(2, u64::from(self.kit[963] != 0));
+    }
+
+    fn new_kit_sweep(&mut self) {
+        let kit = self.kit;
+        put_outcome(exports::gusnalip_new_kit_sweep(&kit, &mut self.kit));
+        self.put_kit_state();
+    }
+
+    // A kit call on the list's first words, with what it answers; then the kit's state and those words.
+    fn sweep_kit(&mut self, cap: u64, words: usize, free: usize) {
+        if LIST_WORDS < words {
+            put_refusal(Refusal::NotAFrame);
+            return;
+        }
+        let mut list = self.list;
+        let mut counts = [0; 3];
+        let number = exports::gusnalip_kit_sweep(
+            &mut self.kit,
+            cap,
+            &mut list[..words],
+            free,
+            &mut counts,
+        );
+        self.list = list;
+        put_outcome(number);
+        if number == 0 {
+            put_counts(counts);
+        }
+        self.put_kit_state();
+        put_list(&self.list[..words]);
+    }
 }
 
 fn run(input: &[u8]) {
-    let mut state = [0u64; 14];
-    let mut list = [4294967295u32; 64];
-    let mut kit = [0u64; 964];
-    let mut from: usize = 0;
-    let mut i: usize = 0;
-    while i < input.len() {
-        if input[i] == LINE_FEED {
-            answer_line(&mut state, &mut list, &mut kit, &input[from..i]);
-            from = i + 1;
+    let mut machine = Machine::new();
+    for bytes in input.split_inclusive(|b| *b == b'\n') {
+        // A last line without its line feed is none.
+        match bytes.strip_suffix(b"\n") {
+            Some(line) => {
+                io::write_all(1, line);
+                match Line::of(line) {
+                    Some(line) => machine.answer(line),
+                    None => put_refusal(Refusal::NotAFrame),
+                }
+            }
+            None => {
+                io::write_all(1, bytes);
+                put_refusal(Refusal::NotAFrame);
+            }
         }
-        i += 1;
-    }
-    if from < input.len() {
-        last_line(&input[from..]);
+        io::write_all(1, b"\n");
     }
 }
 

@@ -1,12 +1,12 @@
--- Demand 3 reaches callers who keep a sweep's state as words: calls on one list of words make the replies that demand 3 speaks of. Assumes nothing.
-use Rattle.std.specs.Prelude.{◌≡◌, refl, Bool, true, false, cond, List, [], ◌∷◌, ◌++◌, ℕ, ◌≤◌, ◌<◌, length, drop, ltb}
+-- What whole sweeps owe reaches callers who keep a sweep's state as words: calls on one list of words make the replies that `Demand3` of `sweep` speaks of. Assumes nothing.
+use Rattle.std.specs.Prelude.{◌≡◌, refl, Bool, true, false, cond, List, [], ◌∷◌, ◌++◌, ℕ, ◌≤◌, ◌<◌, length, drop, ltb, Result as Either, Ok, Err}
 use Rattle.std.proofs.Math.Path.{sym, ap}
 use Rattle.std.proofs.Common.{ap₂, ◌∙◌, subst, ltb-false, lt-ltb, le-ltb}
 use native.Mathlib.Omega.{arith}
 use Rattle.std.proofs.lemmas.List.Edits.{sets}
 use Rattle.std.proofs.Math.Seq.{sets-eq}
 use Rattle.std.proofs.lemmas.Bool.{not-false}
-use Rattle.marks.specs.Answers.{Refusal, number, none, judged, Outcome, refused, accepted, unless, answer, and_then}
+use Rattle.marks.specs.Answers.{Judgement, number, none, judged, Outcome, refused, accepted, unless, answer, and_then}
 use Rattle.marks.specs.AnswerLaws.{pass, stop, end, refuses, accepts, only_accepted}
 use Rattle.factor.specs.declared.Factor.{Factor}
 use Rattle.factor.specs.declared.Description.{Description}
@@ -16,12 +16,14 @@ use Rattle.calls.specs.State.{Range, State, Call, terms_of}
 use Rattle.calls.specs.Engine.{fresh}
 use Rattle.calls.specs.Call.{new_state, Result, Reply, Run, conditions, replied, run_of, sweep_call}
 use Rattle.calls.proofs.RefusalLaws.{over_kept}
-use Rattle.sweep.specs.declared.SweepAnswer.{SweepAnswer}
+use Rattle.sweep.specs.declared.Swept.{Swept}
+use Rattle.sweep.specs.declared.SweepRefusal.{SweepRefusal}
 use Rattle.sweep.specs.Engine.{range, engine}
 use Rattle.sweep.specs.Answers.{call_of, reply_of, code_of}
 use Rattle.sweep.proofs.Demand3.{set_up_begins, Made, reply_in, Kept, asked_in, last_in, Demand3, demand_3}
 use Rattle.exports.specs.Words.{factor_length, factor_from, factor_words, state_length, state_of, state_from, state_words}
 use Rattle.exports.specs.Answers.{unfit, taken, Answer, leaves, new_sweep_answer, new_sweep_to, SweepWords, refused_with, reply_words, reply_to, sweep_to}
+use Rattle.exports.proofs.Named.{refusal_at, Named, sweep_named}
 use Rattle.exports.proofs.WordLaws.{Writable, set_up_writable, read_writable, not_damaged, factor_back, state_not_damaged, state_back}
 
 -- ---- one call
@@ -48,7 +50,7 @@ pub words_left : (s : State (Range Factor)) (c : Call) (rest : List ℕ) → let
 unfolding sweep_call state_words
 words_left s c rest = go (judged (conditions engine s (terms_of c))) (run_of engine s c)
   where
-    go : (v : Refusal) (x : Run) → let r = replied engine s c v x in sets (state_words s ++ rest) 0 (reply_words r).state ≡ state_words r.state ++ rest
+    go : (v : Judgement) (x : Run) → let r = replied engine s c v x in sets (state_words s ++ rest) 0 (reply_words r).state ≡ state_words r.state ++ rest
     go (number n) x = refl
     go none x = refl
 
@@ -96,13 +98,13 @@ answers_in (m ∷ made) = reply_words (reply_in m) ∷ answers_in made
 -- ---- the calls that were made
 
 -- a reply as code gives it
-abbrev code_answer : Outcome Result → State (Range Factor) → SweepAnswer
-code_answer (accepted r) s = SweepAnswer.Accepted (record { state = code_of s; trials = r.trials; rounds = r.rounds; place = r.place })
-code_answer (refused n) s = SweepAnswer.Refused (record { state = code_of s; number = n })
+abbrev code_answer : Outcome Result → State (Range Factor) → Either Swept SweepRefusal
+code_answer (accepted r) s = Ok (record { state = code_of s; trials = r.trials; rounds = r.rounds; place = r.place })
+code_answer (refused n) s = Err (record { state = code_of s; refusal = refusal_at n })
 
-code_says : (o : Outcome Result) (s : State (Range Factor)) (list : List ℕ) → reply_of (code_answer o s) list ≡ record { answer = o; state = s; list = list }
-code_says (accepted r) s list = refl
-code_says (refused n) s list = refl
+code_says : (o : Outcome Result) (s : State (Range Factor)) (list : List ℕ) → Named o → reply_of (code_answer o s) list ≡ record { answer = o; state = s; list = list }
+code_says (accepted r) s list h = refl
+code_says (refused n) s list h = λ i. record { answer = refused (h i); state = s; list = list }
 
 -- the engine's calls on a state
 abbrev made_from : State (Range Factor) → List Asked → List Made
@@ -112,7 +114,7 @@ made_from s (a ∷ asked) =
     record { asked = call_in a; answer = code_answer r.answer r.state; left = r.list } ∷ made_from r.state asked
 
 says : (s : State (Range Factor)) (a : Asked) → let r = sweep_call engine s (call_in a) in reply_of (code_answer r.answer r.state) r.list ≡ r
-says s a = let r = sweep_call engine s (call_in a) in code_says r.answer r.state r.list
+says s a = let r = sweep_call engine s (call_in a) in code_says r.answer r.state r.list (sweep_named s (call_in a))
 
 kept : (s : State (Range Factor)) (asked : List Asked) → Kept s (made_from s asked)
 kept s [] = tt
@@ -168,7 +170,7 @@ accepted_at tell same (t ∷ l) p a zero = go t.1 zero (accepted_at tell same l 
     go false z ih = ih z
 
 -- over the words of every factor that set-up accepted, whatever stands behind them, and every range that 17 lets through, it is answered with 0
-pub begins_to : (d : Description) (f : Factor) → set_up d ≡ accepted f → (rest : List ℕ) (first last : ℕ) (out : List ℕ) → range_out f.precision.bits first last ≡ false → state_length ≤ length out
+pub begins_to : (d : Description) (f : Factor) → set_up d ≡ accepted f → (rest : List ℕ) (first last : ℕ) (out : List ℕ) → range_out f.precision first last ≡ false → state_length ≤ length out
     → (new_sweep_to (factor_words f ++ rest) first last out).number ≡ 0
 unfolding new_sweep_to taken factor_words
 begins_to d f e rest first last out inside room =
@@ -210,9 +212,9 @@ module _ (factor : List ℕ) (first last : ℕ) (out : List ℕ) (zero : (new_sw
       ∙ ap (λ (o : Outcome (State (Range Factor))). leaves (new_sweep_answer o) out) was_begun
       ∙ sets-eq (state_words s) out 0 (ltb-false (length out) state_length none.1.0)
 
--- ---- demand 3
+-- ---- what whole sweeps owe
 
--- The calls asked on the words that a new sweep left: they are answered as these calls are, the words left in the end are those of the last one's state, and of these calls demand 3 holds.
+-- The calls asked on the words that a new sweep left: they are answered as these calls are, the words left in the end are those of the last one's state, and of these calls `Demand3` holds.
 pub record Demand3To (factor : List ℕ) (first last : ℕ) (out : List ℕ) (asked : List Asked) : Type 0 where
   pub made : List Made
   pub calls : asked_in made ≡ calls_in asked

@@ -1,4 +1,4 @@
--- Figures of what is answered in words: 23/18 at 4 bits (document 01's P3) by its ten words, 9 multiplied on both devices, above and below what was rounded (request W4), with a plus and, the sign's word being any but 0, with a minus (request W5), and the tally of all its significands (request W2), 5 right, 2 wrong and 1 open; π by its words, whose low part is negative, and zeros of both signs, multiplied and divided (request W3), which are equal. All by computation. Assumes nothing.
+-- Figures of what is answered in words: 23/18 at 4 bits by its ten words, 9 multiplied on both devices, above and below what was rounded, with a plus and, the sign's word being any but 0, with a minus, and the tally of all its significands, 5 right, 2 wrong and 1 open; π by its words, whose low part is negative, and zeros of both signs, multiplied and divided, which are equal. All by computation. Assumes nothing.
 use Rattle.std.specs.Prelude.{◌≡◌, refl, List, [], ◌∷◌, ℕ}
 use Rattle.std.specs.Float.Ieee
 use Rattle.std.specs.Float.Ieee.{size}

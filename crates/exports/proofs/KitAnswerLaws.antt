@@ -1,12 +1,12 @@
--- What is known of a kit's words that were taken or not, and of the words that are left. Assumes nothing.
+-- What is known of a kit's words that were taken, and of the words that are left. Assumes nothing.
 use Rattle.std.specs.Prelude.{◌≡◌, List, [], ◌∷◌, ◌++◌, ℕ, ◌+◌, ◌≤◌, ◌<◌, length, take}
 use Rattle.std.proofs.Math.Path.{sym}
 use Rattle.std.proofs.Common.{ap, ap₂, ◌∙◌, arith, length-take-le, ltb-false}
 use Rattle.std.proofs.lemmas.List.Edits.{sets}
-use Rattle.marks.specs.declared.Judgement.{Judgement}
-use Rattle.marks.specs.Answers.{refusal_of, First, refused, accepted}
-use Rattle.marks.specs.AnswerLaws.{none_refuses, judged_passed, judged_refused}
-use Rattle.calls.specs.Kit.{place_size}
+use Rattle.marks.specs.Answers.{accepted}
+use Rattle.marks.specs.AnswerLaws.{only_accepted}
+use Rattle.factor.specs.declared.Factor.{Factor}
+use Rattle.calls.specs.Kit.{Kit, place_size}
 use Rattle.calls.proofs.KitLaws.{place_of, significand_of_lem}
 use Rattle.calls.proofs.ListLaws.{sets_append}
 use Rattle.kit.specs.declared.KitState.{KitState}
@@ -16,18 +16,13 @@ use Rattle.exports.specs.Answers.{SweepWords}
 use Rattle.exports.proofs.AnswerLaws.{Enough}
 use Rattle.exports.specs.Kits.{kit_from, behind_kit, kit_unfit, kit_taken}
 
--- ---- words that were taken, or not
-module _ (ws : List ℕ) (due room needed : ℕ) {v : Judgement} (is : First (kit_unfit ws due room needed) (refusal_of v)) where
-  pub kit_refused : {n : ℕ} → v ≡ Judgement.Refused n → kit_taken ws due room needed ≡ refused n
-  unfolding kit_taken
-  kit_refused e = sym (judged_refused is e (kit_from ws))
-
-  pub kit_passed : v ≡ Judgement.Passed → kit_taken ws due room needed ≡ accepted (kit_from ws)
-  unfolding kit_taken
-  kit_passed e = none_refuses (kit_unfit ws due room needed) (kit_from ws) (judged_passed is e)
-
-  pub kit_enough : v ≡ Judgement.Passed → Enough ws due room needed
-  kit_enough e = let none = judged_passed is e in record { long = ltb-false (length ws) due none.0; roomy = ltb-false room needed none.1.0 }
+-- ---- words that were taken
+-- the lists are long enough
+pub kit_enough : {ws : List ℕ} {due room needed : ℕ} {k : Kit Factor} → accepted k ≡ kit_taken ws due room needed → Enough ws due room needed
+unfolding kit_taken
+kit_enough {ws} {due} {room} {needed} {k} e =
+    let none = (only_accepted (kit_unfit ws due room needed) (kit_from ws) k (sym e)).0 in
+    record { long = ltb-false (length ws) due none.0; roomy = ltb-false room needed none.1.0 }
 
 -- ---- words that are left
 -- those behind a kit's are the state's place, next significand and finished mark

@@ -1,5 +1,6 @@
--- Demand 3 of kits reaches callers who keep a kit sweep's state as words: calls on one list of words make the replies that it speaks of. Assumes nothing.
-use Rattle.std.specs.Prelude.{◌≡◌, Bool, true, false, cond, not, ◌||◌, ◌↔◌}
+-- What whole sweeps of kits owe reaches callers who keep a kit sweep's state as words: calls on one list of words make the replies that `KitDemand3` of `kit` speaks of. Assumes nothing.
+use Rattle.std.specs.Prelude.{◌≡◌, Bool, true, false, cond, not, ◌||◌, ◌↔◌, Result as Either, Ok, Err}
+use Rattle.std.specs.List.{list_any}
 use Rattle.std.proofs.Math.Path.{refl, sym, ap, ap₂}
 use Rattle.std.proofs.Common.{◌∙◌, subst, get_or-take, take_at, drop_at, get_or-append-add}
 use mathlib.Core.List.{List, [], ◌∷◌, ◌++◌, append_assoc}
@@ -10,8 +11,8 @@ use Rattle.std.proofs.Math.ListN.{length, take, drop, length-append}
 use Rattle.std.proofs.Math.Seq.{sets, sets-eq, take-nil, length-take-le}
 use Rattle.std.proofs.Math.Dec.{eqb, ltb}
 use borrow.Author.Tests.{ltb-false, lt-ltb, le-ltb, ne_eqb}
-use Rattle.marks.specs.declared.Judgement.{Judgement}
-use Rattle.marks.specs.Answers.{Refusal, number, none, judged, NoneHolds, Outcome, refused, accepted, unless, answer, and_then}
+use Rattle.marks.specs.declared.Refusal.{Refusal}
+use Rattle.marks.specs.Answers.{Judgement, number, none, judged, NoneHolds, Outcome, refused, accepted, unless, answer, and_then}
 use Rattle.marks.specs.AnswerLaws.{pass, stop, end, refuses, accepts, none_refuses, only_accepted, or_false}
 use Rattle.factor.specs.declared.Description.{Description}
 use Rattle.factor.specs.declared.Factor.{Factor}
@@ -21,20 +22,22 @@ use Rattle.calls.specs.State.{State, Call, terms_of}
 use Rattle.calls.specs.Engine.{AllOf, fresh}
 use Rattle.calls.specs.Call.{new_state, Result, Reply, Run, conditions, replied, run_of, sweep_call}
 use Rattle.calls.proofs.RefusalLaws.{over_kept}
-use Rattle.calls.specs.Kit.{Kit, in_kit, any_of, two_alike, place_in, significand_in, position, first_in}
+use Rattle.calls.specs.Kit.{Kit, in_kit, two_alike, place_in, significand_in, position, first_in}
 use Rattle.calls.proofs.KitLaws.{position_is}
 use Rattle.calls.proofs.KitRows.{CleanKit}
 use Rattle.sweep.specs.Answers.{call_of}
 use Rattle.kit.specs.declared.KitState.{KitState}
-use Rattle.kit.specs.declared.NewKitSweep.{NewKitSweep}
+use Rattle.kit.specs.declared.KitCounts.{KitCounts}
 use Rattle.kit.specs.declared.KitReply.{KitReply}
-use Rattle.kit.specs.declared.KitAnswer.{KitAnswer}
+use Rattle.kit.specs.declared.Verdict.{Verdict}
+use Rattle.kit.specs.declared.Verdict.TheVariants.{Clean, NotClean, Unfinished}
 use Rattle.kit.specs.Engine.{faulty, alike, factors, kits}
-use Rattle.kit.specs.Answers.{reply_of, view_of, Told, clean, not_clean, unfinished, told, verdict_of}
+use Rattle.kit.specs.Answers.{reply_of, view_of, told, verdict_of}
 use Rattle.kit.specs.Demand3.{Made, reply_in, Kept, asked_in, last_in, entries_in, KitDemand3, kit_demand_3}
 use Rattle.exports.specs.Words.{word, flag_word, flag_from, factor_length, factor_from, factor_words, damaged}
 use Rattle.exports.specs.Answers.{Answer, leaves, SweepWords, refused_with}
 use Rattle.exports.proofs.WordLaws.{Writable, set_up_writable, flag_back, not_damaged, factor_back}
+use Rattle.exports.proofs.Named.{refusal_at, Named, kit_named}
 use Rattle.exports.proofs.Demand3.{Asked, call_in, calls_in, accepted_at}
 use Rattle.exports.specs.Kits.{kit_length, factors_from, any_damaged, kit_from, kit_state_length, kit_state_of, behind_kit, kit_unfit, kit_taken, form_answer, form_to, new_kit_answer, new_kit_to, kit_reply_words, kit_reply_to, kit_sweep_to, told_number, clean_answer, clean_to}
 
@@ -190,7 +193,7 @@ module _ (kit : List ℕ) (K : FitKit kit) (s : State (Kit Factor)) (over : s.ov
   unfolding sweep_call
   kit_words_left c = go (judged (conditions kits s (terms_of c))) (run_of kits s c)
     where
-      go : (v : Refusal) (x : Run) → let r = replied kits s c v x in sets ws kit_length (kit_reply_words r).state ≡ kit ++ behind_kit r.state ++ rest
+      go : (v : Judgement) (x : Run) → let r = replied kits s c v x in sets ws kit_length (kit_reply_words r).state ≡ kit ++ behind_kit r.state ++ rest
       go (number n) x = refl
       go none x = behind_written (replied kits s c none x).state
 
@@ -231,9 +234,9 @@ kit_answers_in (m ∷ made) = kit_reply_words (reply_in m) ∷ kit_answers_in ma
 abbrev code_of : State (Kit Factor) → KitState
 code_of s = record { kit = record { factors = s.over.factors; count = s.over.count }; place = place_in s.next; next = significand_in s.next; finished = s.finished }
 
-abbrev code_answer : Outcome Result → KitAnswer
-code_answer (accepted r) = KitAnswer.Accepted (record { trials = r.trials; rounds = r.rounds; place = r.place })
-code_answer (refused n) = KitAnswer.Refused n
+abbrev code_answer : Outcome Result → Either KitCounts Refusal
+code_answer (accepted r) = Ok (record { trials = r.trials; rounds = r.rounds; place = r.place })
+code_answer (refused n) = Err (refusal_at n)
 
 abbrev code_reply : Reply (Kit Factor) → KitReply
 code_reply r = record { state = code_of r.state; answer = code_answer r.answer }
@@ -241,9 +244,9 @@ code_reply r = record { state = code_of r.state; answer = code_answer r.answer }
 view_back : (s : State (Kit Factor)) → view_of (code_of s) ≡ s
 view_back s = λ i. record { over = s.over; next = position_is s.next i; finished = s.finished }
 
-code_says : (o : Outcome Result) (s : State (Kit Factor)) (list : List ℕ) → reply_of (record { state = code_of s; answer = code_answer o }) list ≡ record { answer = o; state = s; list = list }
-code_says (accepted r) s list = λ i. record { answer = accepted r; state = view_back s i; list = list }
-code_says (refused n) s list = λ i. record { answer = refused n; state = view_back s i; list = list }
+code_says : (o : Outcome Result) (s : State (Kit Factor)) (list : List ℕ) → Named o → reply_of (record { state = code_of s; answer = code_answer o }) list ≡ record { answer = o; state = s; list = list }
+code_says (accepted r) s list h = λ i. record { answer = accepted r; state = view_back s i; list = list }
+code_says (refused n) s list h = λ i. record { answer = refused (h i); state = view_back s i; list = list }
 
 -- the engine's calls on a state
 abbrev made_from : State (Kit Factor) → List Asked → List Made
@@ -253,7 +256,7 @@ made_from s (a ∷ asked) =
     record { asked = call_in a; reply = code_reply r; left = r.list } ∷ made_from r.state asked
 
 says : (s : State (Kit Factor)) (a : Asked) → let r = sweep_call kits s (call_in a) in reply_of (code_reply r) r.list ≡ r
-says s a = let r = sweep_call kits s (call_in a) in code_says r.answer r.state r.list
+says s a = let r = sweep_call kits s (call_in a) in code_says r.answer r.state r.list (kit_named s (call_in a))
 
 kept : (s : State (Kit Factor)) (asked : List Asked) → Kept s (made_from s asked)
 kept s [] = tt
@@ -356,36 +359,32 @@ module _ (kit out : List ℕ) (zero : (new_kit_to kit out).number ≡ 0) where
       ∙ ap (λ (n : ℕ). head ++ behind_kit s ++ drop n out) many
 
   -- the state as code gives it
-  abbrev code_new : NewKitSweep
-  code_new =
-      record {
-        state = record { kit = record { factors = k.factors; count = k.count }; place = 0; next = first_in factors (in_kit k); finished = false };
-        verdict = Judgement.Passed;
-      }
+  abbrev code_new : KitState
+  code_new = record { kit = record { factors = k.factors; count = k.count }; place = 0; next = first_in factors (in_kit k); finished = false }
 
   demand_of : (asked : List Asked) → KitDemand3 s (made_from s asked)
-  demand_of asked = kit_demand_3 code_new.state.kit code_new (sym was_begun) refl (made_from s asked) (kept s asked)
+  demand_of asked = kit_demand_3 code_new.kit (Ok code_new) (sym was_begun) code_new refl (made_from s asked) (kept s asked)
 
 -- ---- whether the kit is clean
 
 -- Where refusals have other numbers, what is told is known by its number.
-same_told : (t u : Told) → told_number t ≡ told_number u → t ≡ u
-same_told clean clean e = refl
-same_told clean not_clean e = absurd (omega arith)
-same_told clean unfinished e = absurd (omega arith)
-same_told not_clean clean e = absurd (omega arith)
-same_told not_clean not_clean e = refl
-same_told not_clean unfinished e = absurd (omega arith)
-same_told unfinished clean e = absurd (omega arith)
-same_told unfinished not_clean e = absurd (omega arith)
-same_told unfinished unfinished e = refl
+same_told : (t u : Verdict) → told_number t ≡ told_number u → t ≡ u
+same_told Clean Clean e = refl
+same_told Clean NotClean e = absurd (omega arith)
+same_told Clean Unfinished e = absurd (omega arith)
+same_told NotClean Clean e = absurd (omega arith)
+same_told NotClean NotClean e = refl
+same_told NotClean Unfinished e = absurd (omega arith)
+same_told Unfinished Clean e = absurd (omega arith)
+same_told Unfinished NotClean e = absurd (omega arith)
+same_told Unfinished Unfinished e = refl
 
-told_most : (t : Told) → told_number t ≤ 3
-told_most clean = omega arith
-told_most not_clean = omega arith
-told_most unfinished = omega arith
+told_most : (t : Verdict) → told_number t ≤ 3
+told_most Clean = omega arith
+told_most NotClean = omega arith
+told_most Unfinished = omega arith
 
-told_at : (l : List (ℕ × Bool)) → AllOf (λ t. 3 < t.0) l → (t u : Told) → (clean_answer (answer l t)).number ≡ told_number u → answer l t ≡ accepted u
+told_at : (l : List (ℕ × Bool)) → AllOf (λ t. 3 < t.0) l → (t u : Verdict) → (clean_answer (answer l t)).number ≡ told_number u → answer l t ≡ accepted u
 unfolding answer judged
 told_at [] p t u e = ap accepted (same_told t u e)
 told_at (c ∷ l) p t u e = go c.1 e (told_at l p.1 t u)
@@ -395,11 +394,11 @@ told_at (c ∷ l) p t u e = go c.1 e (told_at l p.1 t u)
     go true z ih = absurd (omega (arith, p.0, z, told_most u))
     go false z ih = ih z
 
-told_is : (s : State (Kit Factor)) (n : ℕ) (u : Told) → ((clean_answer (verdict_of s n)).number ≡ told_number u) ↔ (verdict_of s n ≡ accepted u)
+told_is : (s : State (Kit Factor)) (n : ℕ) (u : Verdict) → ((clean_answer (verdict_of s n)).number ≡ told_number u) ↔ (verdict_of s n ≡ accepted u)
 unfolding verdict_of
 told_is s n u = (
   told_at (kits.faults s) (omega arith, (omega arith, (omega arith, (omega arith, tt)))) (told s.finished n) u,
-  λ e. ap (λ (o : Outcome Told). (clean_answer o).number) e,
+  λ e. ap (λ (o : Outcome Verdict). (clean_answer o).number) e,
 )
 
 -- On the words of a state, whatever stands behind them, it is told what `kit` tells of that state.
@@ -411,9 +410,9 @@ clean_to_lem kit K s e rest n =
     ap (λ (o : Outcome (Kit Factor)). (clean_answer (and_then o (λ k. verdict_of (kit_state_of k ws) n))).number) (state_taken kit K s e rest 0 0 (omega arith))
     ∙ ap (λ (t : State (Kit Factor)). (clean_answer (verdict_of t n)).number) (kit_state_back kit K.long s e rest)
 
--- ---- demand 3
+-- ---- what whole sweeps of kits owe
 
--- The calls asked on the words that a new kit sweep left: they are answered as these calls are, the words left in the end are those of the last one's state and are read as it, and of these calls demand 3 of kits holds.
+-- The calls asked on the words that a new kit sweep left: they are answered as these calls are, the words left in the end are those of the last one's state and are read as it, and of these calls `KitDemand3` holds.
 -- With the number of their entries, 1 is told of those words at the finish exactly if the kit is clean, and 2 exactly if it is not; before the finish, 3.
 pub record KitDemand3To (kit out : List ℕ) (asked : List Asked) : Type 0 where
   pub made : List Made
@@ -456,7 +455,7 @@ module _ (kit out : List ℕ) (zero : (new_kit_to kit out).number ≡ 0) (asked 
   told_to : (n : ℕ) → clean_to words n ≡ (clean_answer (verdict_of last n)).number
   told_to n = ap (λ (ws : List ℕ). clean_to ws n) words_are ∙ clean_to_lem (take kit_length kit) K last over_last rest n
 
-  says_to : (n : ℕ) (u : Told) → (clean_to words n ≡ told_number u) ↔ (verdict_of last n ≡ accepted u)
+  says_to : (n : ℕ) (u : Verdict) → (clean_to words n ≡ told_number u) ↔ (verdict_of last n ≡ accepted u)
   says_to n u = let is = told_is last n u in ((λ e. is.0 (sym (told_to n) ∙ e)), (λ e. told_to n ∙ is.1 e))
 
   pub kit_demand_3_to : KitDemand3To kit out asked
@@ -471,14 +470,14 @@ module _ (kit out : List ℕ) (zero : (new_kit_to kit out).number ≡ 0) (asked 
         back = ap (λ (ws : List ℕ). kit_state_of (kit_from ws) ws) words_are ∙ kit_state_back (take kit_length kit) K.long last over_last rest;
         demand = demand;
         told_clean = λ h.
-            let to = says_to (entries_in made) clean in
+            let to = says_to (entries_in made) Clean in
             let is = demand.told_clean h in
             ((λ e. is.0 (to.0 e)), (λ c. to.1 (is.1 c)));
         told_not_clean = λ h.
-            let to = says_to (entries_in made) not_clean in
+            let to = says_to (entries_in made) NotClean in
             let is = demand.told_not_clean h in
             ((λ e. is.0 (to.0 e)), (λ c. to.1 (is.1 c)));
-        told_unfinished = λ h n. (says_to n unfinished).1 (demand.told_unfinished h n);
+        told_unfinished = λ h n. (says_to n Unfinished).1 (demand.told_unfinished h n);
       }
 
 -- ---- where calls begin
@@ -525,8 +524,7 @@ module _ (past : List ℕ) where
       ∙ ap₂ (λ (g : Factor) (ws : List ℕ). g ∷ take (length fs) (factors_from n ws)) (factor_back f (words_writable f a.0) rest) (past_factor f rest)
       ∙ ap (λ (l : List Factor). f ∷ l) (factors_back n fs a.1 (omega arith))
 
-none_faulty : (fs : List Factor) → AllOf SetUp fs → any_of faulty fs ≡ false
-unfolding any_of
+none_faulty : (fs : List Factor) → AllOf SetUp fs → list_any faulty fs ≡ false
 none_faulty [] a = refl
 none_faulty (f ∷ fs) a = ap₂ ◌||◌ (ap not (accepted_intact a.0.description f a.0.given)) (none_faulty fs a.1)
 
@@ -549,7 +547,7 @@ module _ (fs : List Factor) (a : AllOf SetUp fs) (some : 0 < length fs) (few : l
   no_fault =
       let same = kit_factors fs a few past in (
         ap (λ (l : List Factor). eqb (length l) 0 || ltb 96 (length fs)) same ∙ counted,
-        (ap (any_of faulty) same ∙ none_faulty fs a, (ap (two_alike alike) same ∙ apart, tt)),
+        (ap (list_any faulty) same ∙ none_faulty fs a, (ap (two_alike alike) same ∙ apart, tt)),
       )
 
   -- They are formed,

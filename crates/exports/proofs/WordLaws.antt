@@ -68,9 +68,9 @@ module _ (f : Factor) (W : Writable f) where
     where
       go : Dec (nat_abs f.parts.low ≤ 0) → mag f.parts.low < 2 ^ 24
       go (yes y) = omega (arith, size_most f.parts.low, y)
-      go (no y) = omega (arith, size_most f.parts.low, (stored.low.some (lt_of_not-le y)).most, pow_mono {i = f.precision.bits} {j = 24} W.sound.precision.most)
+      go (no y) = omega (arith, size_most f.parts.low, (stored.low.some (lt_of_not-le y)).most, pow_mono {i = f.precision} {j = 24} W.sound.precision.most)
 
-  bits_narrow : f.precision.bits < 2 ^ 32
+  bits_narrow : f.precision < 2 ^ 32
   bits_narrow = omega (arith, W.sound.precision.most)
 
   places_narrow : f.parts.places < 2 ^ 32
@@ -87,7 +87,7 @@ module _ (f : Factor) (W : Writable f) where
   unfolding damaged factor_words
   not_damaged rest =
       rw (
-        not_past f.precision.bits bits_narrow,
+        not_past f.precision bits_narrow,
         not_past f.parts.places places_narrow,
         not_past (to_bits binary32 f.applied.high) (to_bits-lt binary32 f.applied.high W.high),
         not_past (to_bits binary32 f.applied.low) (to_bits-lt binary32 f.applied.low W.low),
@@ -101,7 +101,7 @@ module _ (f : Factor) (W : Writable f) where
   pub factor_back : (rest : List ℕ) → factor_from (factor_words f ++ rest) ≡ f
   unfolding factor_from factor_words
   factor_back rest =
-      let bits = low_all f.precision.bits bits_narrow in
+      let bits = low_all f.precision bits_narrow in
       let low = signed_unsigned 64 (omega arith) f.parts.low (omega (arith, low_small)) in
       let places = low_all f.parts.places places_narrow in
       let high_float = float_back f.applied.high W.high in
@@ -109,7 +109,7 @@ module _ (f : Factor) (W : Writable f) where
       let scale = ap (signed 32) (low_all (unsigned 32 f.applied.scale) scale_narrow) ∙ signed_unsigned 32 (omega arith) f.applied.scale scale_held in
       λ i. record {
         minus = flag_back f.minus i;
-        precision = record { bits = bits i };
+        precision = bits i;
         lower = f.lower;
         upper = f.upper;
         parts = record { high = f.parts.high; low = low i; places = places i };

@@ -1,20 +1,23 @@
 -- What an exported function returns and what it leaves in the caller's lists, by the engine's own answers. Definitions only. Assumes nothing.
-use Rattle.std.specs.Prelude.{Bool, List, [], ◌∷◌, ℕ, ltb, length}
+use Rattle.std.specs.Prelude.{Bool, Float, List, [], ◌∷◌, ℕ, ltb, length}
 use Rattle.std.proofs.lemmas.List.Edits.{sets}
 use Rattle.std.specs.Float.{binary32}
 use Rattle.std.specs.Float.Ieee.{to_bits, of_bits}
 use Rattle.marks.specs.declared.Mark.{Mark}
-use Rattle.marks.specs.Answers.{Outcome, refused, accepted, answer, and_then, Marked}
+use Rattle.marks.specs.declared.Marked.{Marked}
+use Rattle.marks.specs.Answers.{Outcome, refused, accepted, answer, and_then}
 use Rattle.rounding.specs.declared.Direction.{Direction}
 use Rattle.factor.specs.declared.Description.{Description}
 use Rattle.factor.specs.declared.Factor.{Factor}
 use Rattle.factor.specs.SetUp.{set_up}
 use Rattle.product.specs.declared.Device.{Device}
-use Rattle.product.specs.declared.SignedProduct.{SignedProduct}
+use Rattle.rounding.specs.declared.Directed.{Directed}
+use Rattle.rounding.specs.declared.Signed.{Signed}
+use Rattle.product.specs.declared.Product.{Product}
 use Rattle.product.specs.Answer.{multiplied}
-use Rattle.quotient.specs.declared.SignedQuotient.{SignedQuotient}
+use Rattle.quotient.specs.declared.Quotient.{Quotient}
 use Rattle.quotient.specs.Answer.{divided}
-use Rattle.reading.specs.Reading.{DirectedNumber, applied}
+use Rattle.reading.specs.Reading.{applied}
 use Rattle.reading.specs.Divided.{divided_reading}
 use Rattle.words.specs.Words.{unsigned}
 use Rattle.calls.specs.State.{Range, State}
@@ -23,7 +26,6 @@ use Rattle.sweep.specs.Engine.{range, engine}
 use Rattle.sweep.specs.Answers.{call_of}
 use Rattle.tally.specs.declared.Counts.{Counts}
 use Rattle.tally.specs.Tally.{tallied}
-use Rattle.exports.specs.declared.TakenFactor.{TakenFactor}
 use Rattle.exports.specs.Words.{flag_word, factor_length, factor_from, factor_words, damaged, state_length, state_of, state_words}
 
 -- ---- what is taken from a caller's lists
@@ -38,11 +40,6 @@ unfit words due room needed = too_short (length words) due ∷ too_short room ne
 -- the factor in such words
 unfoldable pub taken : (words : List ℕ) (due room needed : ℕ) → Outcome Factor
 taken words due room needed = answer (unfit words due room needed) (factor_from words)
-
--- what each case of its answer says
-abbrev pub taken_of : TakenFactor → Outcome Factor
-taken_of (TakenFactor.Accepted f) = accepted f
-taken_of (TakenFactor.Refused k) = refused k
 
 -- ---- what is answered
 -- the number returned, and the words written from the list's first place on
@@ -65,7 +62,7 @@ mark_number Mark.Right = 1
 mark_number Mark.Open = 2
 mark_number Mark.Wrong = 3
 
--- a direction's number (request W4)
+-- a direction's number
 abbrev pub direction_number : Direction → ℕ
 direction_number Direction.Below = 1
 direction_number Direction.Equal = 2
@@ -88,8 +85,8 @@ unfolding set_up factor_words
 set_up_to d out = set_up_answer (and_then (answer (too_short (length out) factor_length ∷ []) d) set_up)
 
 -- ---- a product: 1 right, 2 open, 3 wrong, with significand, binade, direction and sign, or the refusal
-abbrev pub product_words : SignedProduct → List ℕ
-product_words v = v.product.significand ∷ v.product.binade ∷ direction_number v.direction ∷ flag_word v.minus ∷ []
+abbrev pub product_words : Signed Product → List ℕ
+product_words v = v.value.significand ∷ v.value.binade ∷ direction_number v.direction ∷ flag_word v.minus ∷ []
 
 -- on a device
 unfoldable pub multiply_to : Device → (factor : List ℕ) (X : ℕ) (out : List ℕ) → Answer
@@ -97,10 +94,10 @@ unfolding multiplied taken
 multiply_to d factor X out = marked_answer product_words (and_then (taken factor factor_length (length out) 4) (λ f. multiplied d f X))
 
 -- ---- a reading: 1 right, 2 open, 3 wrong, with the product's bits and direction, or the refusal
-abbrev pub reading_words : DirectedNumber → List ℕ
-reading_words y = to_bits binary32 y.number ∷ direction_number y.direction ∷ []
+abbrev pub reading_words : Directed Float → List ℕ
+reading_words y = to_bits binary32 y.value ∷ direction_number y.direction ∷ []
 
-abbrev pub reading_answer : Outcome (Marked DirectedNumber) → Answer
+abbrev pub reading_answer : Outcome (Marked (Directed Float)) → Answer
 reading_answer o = marked_answer reading_words o
 
 -- on a device
@@ -117,8 +114,8 @@ unfolding tallied taken
 tally_to factor first last out = plain_answer tally_words (and_then (taken factor factor_length (length out) 3) (λ f. tallied f first last))
 
 -- ---- a quotient: 0 with significand, binade, which is a word in two's complement, direction and sign, or the refusal
-abbrev pub quotient_words : SignedQuotient → List ℕ
-quotient_words v = v.quotient.significand ∷ unsigned 64 v.quotient.binade ∷ direction_number v.direction ∷ flag_word v.minus ∷ []
+abbrev pub quotient_words : Signed Quotient → List ℕ
+quotient_words v = v.value.significand ∷ unsigned 64 v.value.binade ∷ direction_number v.direction ∷ flag_word v.minus ∷ []
 
 unfoldable pub divide_to : (factor : List ℕ) (X : ℕ) (out : List ℕ) → Answer
 unfolding divided taken

@@ -1,4 +1,4 @@
--- Kits and their states as lists of words, for callers in other languages, and what the exported functions of kits return and leave (request W6). Definitions only. Assumes nothing.
+-- Kits and their states as lists of words, for callers in other languages, and what the exported functions of kits return and leave. Definitions only. Assumes nothing.
 use Rattle.std.specs.Prelude.{Bool, false, ◌||◌, List, [], ◌∷◌, ◌++◌, ℕ, zero, suc, eqb, ltb, length, take, drop}
 use Rattle.marks.specs.Answers.{Outcome, refused, accepted, answer, and_then}
 use Rattle.factor.specs.declared.Factor.{Factor}
@@ -7,7 +7,9 @@ use Rattle.calls.specs.Call.{new_state, Result, Reply, sweep_call}
 use Rattle.calls.specs.Kit.{Kit, position, place_in, significand_in}
 use Rattle.sweep.specs.Answers.{call_of}
 use Rattle.kit.specs.Engine.{kits}
-use Rattle.kit.specs.Answers.{Told, clean, not_clean, unfinished, verdict_of}
+use Rattle.kit.specs.declared.Verdict.{Verdict}
+use Rattle.kit.specs.declared.Verdict.TheVariants.{Clean, NotClean, Unfinished}
+use Rattle.kit.specs.Answers.{verdict_of}
 use Rattle.exports.specs.Words.{word, flag_word, flag_from, factor_length, factor_from, damaged}
 use Rattle.exports.specs.Answers.{too_short, Answer, to_words, plain_answer, SweepWords, refused_with}
 
@@ -89,12 +91,12 @@ unfolding kit_taken
 kit_sweep_to state cap list free counts = kit_reply_to list (kit_taken state kit_state_length (length counts) 3) (λ k. sweep_call kits (kit_state_of k state) (call_of cap list free))
 
 -- ---- whether a kit is clean: 1 clean, 2 not clean, 3 not finished, or the refusal
-abbrev pub told_number : Told → ℕ
-told_number clean = 1
-told_number not_clean = 2
-told_number unfinished = 3
+abbrev pub told_number : Verdict → ℕ
+told_number Clean = 1
+told_number NotClean = 2
+told_number Unfinished = 3
 
-abbrev pub clean_answer : Outcome Told → Answer
+abbrev pub clean_answer : Outcome Verdict → Answer
 clean_answer o = to_words told_number (λ t. []) o
 
 unfoldable pub clean_to : (state : List ℕ) (entries : ℕ) → ℕ

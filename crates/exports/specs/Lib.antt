@@ -1,4 +1,5 @@
 -- What the exported functions answer and write, in words, what callers may rely on, and figures.
+pub mod Failures
 pub mod Words
 pub mod Answers
 pub mod Kits

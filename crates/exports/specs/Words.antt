@@ -28,7 +28,7 @@ unfolding of_bits
 factor_from ws =
     record {
       minus = flag_from (word ws 0);
-      precision = record { bits = low32 (word ws 1) };
+      precision = low32 (word ws 1);
       lower = word ws 2;
       upper = word ws 3;
       parts = record { high = word ws 4; low = signed 64 (word ws 5); places = low32 (word ws 6) };
@@ -39,7 +39,7 @@ unfoldable pub factor_words : Factor → List ℕ
 unfolding to_bits
 factor_words f =
     flag_word f.minus
-    ∷ f.precision.bits
+    ∷ f.precision
     ∷ f.lower
     ∷ f.upper
     ∷ f.parts.high

@@ -1,4 +1,4 @@
--- The figures P1 to P9 of document 01 as one table, with directions (request W4), and the theorem that every row holds.
+-- The figures P1 to P9 as one table, with directions, and the theorem that every row holds.
 use Rattle.std.specs.Prelude.{refl, false, List, [], ◌∷◌, ℕ, ◌+◌, ◌-◌, ◌*◌, ◌^◌, ℤ, pos, negsuc}
 use Rattle.std.specs.Float.Ieee
 use Rattle.marks.specs.declared.Mark.TheVariants.{Right, Open, Wrong}

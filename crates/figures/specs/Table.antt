@@ -13,7 +13,7 @@ use Rattle.product.specs.Answer.{multiplied}
 use Rattle.suspects.specs.Suspects.{is_suspect}
 use Rattle.calls.specs.Plain.{row}
 
--- a significand X with its product (S, b), its mark, and its direction (request W4)
+-- a significand X with its product (S, b), its mark, and its direction
 pub record Multiplied : Type 0 where
   pub X : ℕ
   pub S : ℕ
@@ -41,7 +41,7 @@ Gives d given = and_then (set_up d) (λ f. accepted f.parts) ≡ given
 
 -- what a multiplication with the factor that is set up answers, with its sign
 abbrev pub Multiplies : Description → Multiplied → Type 0
-Multiplies d m = and_then (set_up d) (λ f. multiplied Device.TwoStep f m.X) ≡ accepted (record { mark = m.mark; value = record { minus = d.minus; product = record { significand = m.S; binade = m.b }; direction = m.direction } })
+Multiplies d m = and_then (set_up d) (λ f. multiplied Device.TwoStep f m.X) ≡ accepted (record { mark = m.mark; value = record { minus = d.minus; value = record { significand = m.S; binade = m.b }; direction = m.direction } })
 
 abbrev pub Suspects : Description → Suspected → Type 0
 Suspects d unsaid = Unit {0}

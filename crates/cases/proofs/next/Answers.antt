@@ -6,7 +6,7 @@ use Rattle.suspects.proofs.WindowLaws.{low_askable, high_askable}
 use Rattle.cases.proofs.next.Goals as goal
 
 pub next-requires : goal.next-requires
-next-requires c = (subst (λ (h : Windows). Askable h.high) (sym c.windows_of-windows.ensures) (high_askable c.args.f c.requires.0), c.requires.1)
+next-requires c = (subst (λ (h : Windows). Askable h.low) (sym c.windows_of-windows.ensures) (low_askable c.args.f.factor c.args.f.sound), c.requires)
 
-pub next-requires-2 : goal.next-requires-2
-next-requires-2 c = (subst (λ (h : Windows). Askable h.low) (sym c.windows_of-windows.ensures) (low_askable c.args.f c.requires.0), c.requires.1)
+pub next-requires-in-High : goal.next-requires-in-High
+next-requires-in-High c = (subst (λ (h : Windows). Askable h.high) (sym c.windows_of-windows.ensures) (high_askable c.args.f.factor c.args.f.sound), c.requires)

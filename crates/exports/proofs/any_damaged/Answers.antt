@@ -1,13 +1,18 @@
--- Each turn looks at a factor's words; past the last, none was damaged.
-use Rattle.std.proofs.Common.{arith}
-use Rattle.exports.proofs.KitWordLaws.{look_hit, look_miss, look_end}
+-- Each factor's words are looked at, and one of them is damaged or none is.
+use Rattle.std.proofs.Common.{◌≡◌, sym, ap, ◌∙◌, ◌+◌, ◌-◌, ◌*◌, length, take, rules, arith, tests}
+use Rattle.std.specs.List.{list_any, range_with_len}
+use Rattle.std.proofs.lemmas.Iterator.{YieldsList-from_range}
+use Rattle.std.proofs.lemmas.Iterator.Search.{any_from_yields_List}
+use Rattle.exports.specs.Words.{damaged}
+use Rattle.exports.proofs.KitWordLaws.{lent_from, place_words, damages_each}
 use Rattle.exports.proofs.any_damaged.Goals as goal
 
-pub returns-then-is_damaged : goal.returns-then-is_damaged
-returns-then-is_damaged c = look_hit c.loop-i.invariant (omega arith) c.is_damaged.ensures c.if-is_damaged.true
-
-pub loop-i-preserved : goal.loop-i-preserved
-loop-i-preserved c = look_miss c.loop-i.invariant (omega arith) c.is_damaged.ensures c.if-is_damaged.false
-
 pub returns : goal.returns
-returns c = look_end c.loop-i.invariant (omega arith)
+returns c =
+    let ws = c.args.words.now in
+    let n = c.args.count in
+    let by_call : c.any.result ≡ list_any (λ i. damaged (place_words ws i)) (range_with_len 0 n) =
+    any_from_yields_List (λ i. damaged (place_words ws i)) _ _ c.any.result c.any.ensures.ran (YieldsList-from_range 0 n n (search rules) (omega arith)) (λ i b q k.
+    let e : b ≡ damaged (take (length ws - (1 + 10 * i)) (place_words ws i)) = search (rules, tests) in
+    (search (rules, tests), e ∙ ap damaged (lent_from ws (1 + 10 * i)))) in
+    by_call ∙ sym (damages_each ws n 0)

@@ -4,14 +4,15 @@ use Rattle.marks.specs.Answers.{accepted}
 use Rattle.marks.specs.AnswerLaws.{pass, stop, end, refuses, accepts}
 use Rattle.exports.specs.Answers.{taken}
 use Rattle.exports.proofs.take_factor.Goals as goal
+use Rattle.exports.proofs.take_factor.Goals.{then-words-due-via-then-words-due, then-words-due-via-else-words-due+then-room-needed}
 
 pub returns-then-words-due : goal.returns-then-words-due
 unfolding taken
-returns-then-words-due c = refuses (stop (lt-ltb _ _ c.if-words-due.true)) _
-
-pub returns-then-room-needed : goal.returns-then-room-needed
-unfolding taken
-returns-then-room-needed c = refuses (pass (le-ltb _ _ c.if-words-due.false) (stop (lt-ltb _ _ c.if-room-needed.true))) _
+returns-then-words-due c =
+    elim c.then-words-due.branch [
+      | then-words-due-via-then-words-due w ↦ refuses (stop (lt-ltb _ _ w.if-words-due.true)) _
+      | then-words-due-via-else-words-due+then-room-needed w ↦ refuses (pass (le-ltb _ _ w.if-words-due.false) (stop (lt-ltb _ _ w.if-room-needed.true))) _
+    ]
 
 pub returns-then-is_damaged : goal.returns-then-is_damaged
 unfolding taken

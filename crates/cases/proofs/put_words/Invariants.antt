@@ -1,6 +1,0 @@
--- The words that are left to write.
-use Rattle.std.proofs.Common.{◌-◌, length}
-use Rattle.cases.proofs.put_words.Given as goal
-
-abbrev pub decreases-loop-i : goal.decreases-loop-i
-decreases-loop-i l = length l.list - l.i
