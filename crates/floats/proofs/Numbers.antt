@@ -1,10 +1,21 @@
 -- Laws: which floats are numbers, and which one is not; floats with the same bits are the same. Assumes nothing.
-use Rattle.std.specs.Prelude.{◌≡◌, refl, Bool, true, not, ℕ, ◌*◌, ◌%◌, ◌≤◌, ◌<◌, T, Float}
-use Rattle.std.proofs.Common.{sym, ap, ◌∙◌, subst, lt-ltb, le-ltb}
+use Rattle.std.specs.Prelude.{◌≡◌, refl, Bool, true, false, not, ℕ, ◌*◌, ◌%◌, ◌≤◌, ◌<◌, T, Float}
+use Rattle.std.proofs.Common.{sym, ap, ◌∙◌, subst, true≢false, lt-ltb, le-ltb}
 use Rattle.std.specs.Float.{nan, inf, fin, Format}
-use Rattle.std.specs.Float.Ieee.{fits, to_bits, of_bits, is_nan, nan_bits, hid, ones, top}
+use Rattle.std.specs.Float.Ieee.{fits, to_bits, of_bits, is_nan, nan_bits, ne, hid, ones, top}
+use Rattle.std.specs.Float.Ieee.Compare.{differs_from_itself, nan_differs}
 use Rattle.std.specs.Float.Ieee.Bits.{of_bits-to_bits, nan_bits_is, nan_bits_above}
 use Rattle.std.specs.Float.Ieee.Exact.{HasValue}
+
+-- a number is what is not different from itself
+pub no_nan : (x : Float) → ne x x ≡ false → T (not (is_nan x))
+unfolding is_nan
+no_nan nan h = absurd (true≢false (sym nan_differs ∙ h))
+no_nan (inf s) h = tt
+no_nan (fin s m e) h = tt
+
+pub is_nan_lem : (x : Float) → ne x x ≡ true → x ≡ nan
+is_nan_lem x h = differs_from_itself x (rw h tt)
 
 -- what has a value is a number
 pub value_number : (x : Float) (s : Bool) (a c : ℕ) → HasValue x s a c → T (not (is_nan x))

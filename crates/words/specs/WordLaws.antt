@@ -4,6 +4,11 @@ use Rattle.std.proofs.Common.{refl, true, ap, ◌∙◌, arith, mod-eq_of_lt, lt
 use Rattle.std.proofs.Math.Nat.{pow-succ'}
 use Rattle.std.specs.Int.Signed.{mag}
 use Rattle.std.proofs.lemmas.Bool.{lt-leb}
+use mathlib.Core.Bool.{true≢false}
+use native.Mathlib.Nat.{not-suc-le-zero}
+use lib.IntN.{nat_abs}
+use lib.Signed.{lt_z}
+use borrow.Author.Tests.{ltb-true}
 use mir.Syntax.{Width, w8, w16, w32, w64, w128}
 use mir.Val.{bits, hbits, sel}
 use Rattle.words.specs.Words.{unsigned, signed, low32, past_half}
@@ -25,6 +30,19 @@ module _ (w : ℕ) (some : 0 < w) where
       let least : 2 ^ (w - 1) ≤ v = omega (arith, half) in
       let e : 2 ^ w - suc v ≡ m = omega (arith, half) in
       ap (λ (t : Bool). cond t (pos v) (negsuc (2 ^ w - suc v))) (le-ltb v (2 ^ (w - 1)) least) ∙ ap negsuc e
+
+-- ---- a word by the size of its number: below zero the size, which is then not 0, is taken off 2 ^ w
+pub word_below : (w : ℕ) (z : ℤ) → lt_z z (pos 0) ≡ true → unsigned w z ≡ 2 ^ w - nat_abs z
+word_below w (pos n) h = absurd (not-suc-le-zero (ltb-true n 0 h))
+word_below w (negsuc m) h = refl
+
+pub word_above : (w : ℕ) (z : ℤ) → lt_z z (pos 0) ≡ false → unsigned w z ≡ nat_abs z
+word_above w (pos n) h = refl
+word_above w (negsuc m) h = absurd (true≢false h)
+
+pub size_below : (z : ℤ) → lt_z z (pos 0) ≡ true → 0 < nat_abs z
+size_below (pos n) h = absurd (not-suc-le-zero (ltb-true n 0 h))
+size_below (negsuc m) h = omega arith
 
 -- ---- core's `cast_unsigned` and `cast_signed`, at each width
 pub cast_unsigned_is : (w : Width) (z : ℤ) → of_z w z ≡ unsigned (bits w) z
