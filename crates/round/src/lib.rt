@@ -186,7 +186,11 @@ pub fn cut_word(x: u64, k: u32) -> Cut
     requires { k < word_bits }
     ensures { result ≡ cut_at k x }
 {
-    cut_wide(Wide::from(x), k)
+    let step = wide::power(k);
+    Cut {
+        kept: x / step,
+        rest: x % step,
+    }
 }
 
 // A number of two words cut so, where what is kept is one.
