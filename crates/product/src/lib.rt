@@ -91,7 +91,10 @@ pub fn compared(a: u64, b: u64, v: u64) -> Mark
     if a == v && b == v {
         return Mark::Right;
     }
-    if v < a || b < v {
+    if v < a {
+        return Mark::Wrong;
+    }
+    if b < v {
         return Mark::Wrong;
     }
     Mark::Open
@@ -259,6 +262,79 @@ impl Operands {
             value: round::to_signed(self.factor.minus, v),
         }
     }
+}
+
+// ---- the same of a factor and a significand, where both facts are shown at the call
+// The second step, where u1 is known.
+pub fn second_step(f: Factor, x: u64, u1: u64) -> Directed<Product>
+    requires { Sound f × HasBits f.precision x × (u1 ≡ first_units (context_of f) (unit_parts_of (context_of f) f.parts) x) }
+    ensures { result ≡ directed_on Device.TwoStep f x }
+{
+    Operands {
+        factor: f,
+        significand: x,
+    }
+    .second_step(u1)
+}
+
+// RN(Ch * x).
+pub fn one_step(f: Factor, x: u64) -> Directed<Product>
+    requires { Sound f × HasBits f.precision x }
+    ensures { result ≡ directed_on Device.OneStep f x }
+{
+    Operands {
+        factor: f,
+        significand: x,
+    }
+    .one_step()
+}
+
+// The product on a device in steps of binade 0.
+pub fn steps_on(d: Device, f: Factor, x: u64) -> u64
+    requires { Sound f × HasBits f.precision x }
+    ensures { result ≡ steps_of (product_on d f x) }
+{
+    Operands {
+        factor: f,
+        significand: x,
+    }
+    .steps_on(d)
+}
+
+// The mark of a value, whoever made it.
+pub fn mark_of(f: Factor, x: u64, v: Product) -> Mark
+    requires { Sound f × HasBits f.precision x × HasBits f.precision v.significand × (v.binade ≤ 1) }
+    ensures { result ≡ mark_by f x v }
+{
+    Operands {
+        factor: f,
+        significand: x,
+    }
+    .mark_of(v)
+}
+
+// The mark of the two-step product.
+pub fn trial(f: Factor, x: u64) -> Mark
+    requires { Sound f × HasBits f.precision x }
+    ensures { result ≡ mark_by f x (product_by f x) }
+{
+    Operands {
+        factor: f,
+        significand: x,
+    }
+    .trial()
+}
+
+// A value, whoever made it, with its mark, and with the factor's sign put on.
+pub fn marked(f: Factor, x: u64, v: Directed<Product>) -> Marked<Signed<Product>>
+    requires { Sound f × HasBits f.precision x × HasBits f.precision v.value.significand × (v.value.binade ≤ 1) }
+    ensures { result ≡ answered f (markedBy f x v) }
+{
+    Operands {
+        factor: f,
+        significand: x,
+    }
+    .marked(v)
 }
 
 // Multiplies a significand on a device: the product with its sign and its mark, or refusal 31 for the factor, or 17 for the significand.

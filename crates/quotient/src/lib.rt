@@ -4,6 +4,8 @@
 
 ghost use Rattle.std.specs.Prelude.{◌≡◌};
 ghost use Rattle.marks.specs.Answers.{said};
+ghost use Rattle.rounding.specs.Round.{HasBits};
+ghost use Rattle.factor.specs.SetUp.{Sound};
 ghost use Rattle.quotient.specs.Quotient.{directed_by};
 ghost use Rattle.quotient.specs.Answer.{divided};
 
@@ -20,12 +22,13 @@ pub struct Quotient {
 }
 
 // RN(x / Ch) and its direction. It lies one binade below 1 where the significand is below the high part, and has one digit more behind the point there, so that n digits come out of the one division.
-pub fn quotient_of(o: Operands) -> Directed<Quotient>
-    ensures { result ≡ directed_by o.factor o.significand }
+pub fn quotient_of(f: Factor, x: u64) -> Directed<Quotient>
+    requires { Sound f × HasBits f.precision x }
+    ensures { result ≡ directed_by f x }
 {
-    let high = o.factor.parts.high;
-    let below = (o.significand < high) as u32;
-    let scaled = o.significand << (o.factor.precision - 1 + below);
+    let high = f.parts.high;
+    let below = (x < high) as u32;
+    let scaled = x << (f.precision - 1 + below);
     let near = round::nearest_quotient(scaled, high, TieRule::ToEven);
     let value = Quotient {
         significand: near.value,
@@ -42,5 +45,5 @@ pub fn divide(f: Factor, x: u64) -> Result<Signed<Quotient>, Refusal>
     ensures { said result ≡ divided f x }
 {
     let o = Operands::new(f, x)?;
-    Ok(round::to_signed(o.factor.minus, quotient_of(o)))
+    Ok(round::to_signed(o.factor.minus, quotient_of(o.factor, o.significand)))
 }

@@ -199,7 +199,8 @@ impl Taken {
     fn divided(self) -> Result<Directed<f32>, Refusal>
         ensures { said result ≡ placed_quotient self.factor self.bits (directed_by self.factor (significand_of binary32 self.bits)) }
     {
-        let v = quotient::quotient_of(self.operands());
+        let o = self.operands();
+        let v = quotient::quotient_of(o.factor, o.significand);
         self.place(
             v.value.binade - self.factor.applied.scale,
             v.value.significand,

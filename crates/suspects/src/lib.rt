@@ -4,6 +4,7 @@
 
 ghost use Rattle.std.specs.Prelude.{◌≡◌, ◌+◌, ◌-◌, ◌*◌, ◌%◌, ◌≤◌, ◌<◌, ◌^◌};
 ghost use Rattle.factor.specs.Context.{context_of, lower_of, upper_of};
+ghost use Rattle.factor.specs.SetUp.{Sound};
 ghost use Rattle.wide.specs.Value.{word_bits, half_word};
 ghost use Rattle.suspects.specs.Next.{window_near, window_in, next_in, first_high, windows, Askable};
 
@@ -28,11 +29,12 @@ pub struct Windows {
 }
 
 // The first high significand: 2 ^ (E + n) over the lower end, rounded up.
-pub fn first_high(f: SoundFactor) -> u64
-    ensures { result ≡ first_high (context_of f.factor) (lower_of f.factor) }
+pub fn first_high(f: Factor) -> u64
+    requires { Sound f }
+    ensures { result ≡ first_high (context_of f) (lower_of f) }
 {
-    let p = f.precision();
-    let divided = wide::wide_power(p.scale() + p.bits).divide(f.factor.lower);
+    let p = SoundFactor { factor: f }.precision();
+    let divided = wide::wide_power(p.scale() + p.bits).divide(f.lower);
     if divided.remainder == 0 {
         return divided.quotient;
     }
@@ -66,14 +68,16 @@ fn window_in(f: SoundFactor, dropped: u32) -> Window
 }
 
 // The windows of a factor.
-pub fn windows_of(f: SoundFactor) -> Windows
-    ensures { result ≡ windows (context_of f.factor) (lower_of f.factor) (upper_of f.factor) }
+pub fn windows_of(f: Factor) -> Windows
+    requires { Sound f }
+    ensures { result ≡ windows (context_of f) (lower_of f) (upper_of f) }
 {
+    let f = SoundFactor { factor: f };
     let p = f.precision();
     Windows {
         low: window_in(f, p.low_dropped()),
         high: window_in(f, p.high_dropped()),
-        first_high: first_high(f),
+        first_high: first_high(f.factor),
     }
 }
 

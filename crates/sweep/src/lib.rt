@@ -317,7 +317,7 @@ pub fn steps_on(
     requires { Partible s cap room lead (length tail.old) done }
     ensures { Parted (part_run s cap room done) done result × (tail.new ≡ part_written (part_list lead) done (part_run s cap room done) tail.old) }
 {
-    let windows = suspects::windows_of(SoundFactor { factor: s.factor });
+    let windows = suspects::windows_of(s.factor);
     let mut w = done;
     loop {
         match step(s, windows, cap, room, w) {

@@ -53,19 +53,19 @@ module _ (f : Factor) (sound : Sound f) {bits scale u : ℕ} (is : bits ≡ f.pr
         le_trans (le_of_mul-le-mul_right {k = 2 ^ E} few (pow_pos E)) (pow_mono {i = n} {j = 32} (omega (arith, sound.precision)))
 
 pub divide-divided-requires : goal.divide-divided-requires
-divide-divided-requires c = omega (arith, divides c.args.f.factor c.args.f.sound c.precision-p.ensures c.scale.ensures c.wide_power.ensures)
+divide-divided-requires c = omega (arith, divides c.args.f c.requires c.precision-p.ensures c.scale.ensures c.wide_power.ensures)
 
 pub returns-then-divided-eq0 : goal.returns-then-divided-eq0
 returns-then-divided-eq0 c =
     let d = c.divide-divided.ensures in
-    exact c.args.f.factor c.args.f.sound c.precision-p.ensures c.scale.ensures c.wide_power.ensures d.quotient d.remainder c.if-divided-eq0.true
+    exact c.args.f c.requires c.precision-p.ensures c.scale.ensures c.wide_power.ensures d.quotient d.remainder c.if-divided-eq0.true
 
 pub overflow_add-result : goal.overflow_add-result
 overflow_add-result c =
     let d = c.divide-divided.ensures in
-    omega (arith, short c.args.f.factor c.args.f.sound c.precision-p.ensures c.scale.ensures c.wide_power.ensures d.quotient d.remainder)
+    omega (arith, short c.args.f c.requires c.precision-p.ensures c.scale.ensures c.wide_power.ensures d.quotient d.remainder)
 
 pub returns : goal.returns
 returns c =
     let d = c.divide-divided.ensures in
-    inexact c.args.f.factor c.args.f.sound c.precision-p.ensures c.scale.ensures c.wide_power.ensures d.quotient d.remainder c.if-divided-eq0.false
+    inexact c.args.f c.requires c.precision-p.ensures c.scale.ensures c.wide_power.ensures d.quotient d.remainder c.if-divided-eq0.false

@@ -3,8 +3,8 @@ use Rattle.sweep.proofs.EngineLaws.{sound_of}
 use Rattle.sweep.proofs.LoopLaws.{part_steps, part_stepped}
 use Rattle.sweep.proofs.steps_on.Goals as goal
 
-pub invariant_of-windows_of : goal.invariant_of-windows_of
-invariant_of-windows_of c = record { sound = sound_of c.args.s.factor c.requires.sound.0 }
+pub windows_of-windows-requires : goal.windows_of-windows-requires
+windows_of-windows-requires c = sound_of c.args.s.factor c.requires.sound.0
 
 pub step-requires : goal.step-requires
 step-requires c = part_steps c.loop-next.invariant c.windows_of-windows.ensures

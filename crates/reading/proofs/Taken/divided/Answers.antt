@@ -52,16 +52,16 @@ module _ (f : Factor) (b : ℕ) (r : Ready f b) (w : Directed Quotient) (is : w 
 pub overflow_sub-v : goal.overflow_sub-v
 overflow_sub-v c =
     let a = c.args.self in
-    (is_kept a.factor a.bits (ready _ _ a.readable) _ (c.quotient_of-v.ensures ∙ ap₂ directed_by c.operands.ensures.factor c.operands.ensures.significand)).0
+    (is_kept a.factor a.bits (ready _ _ a.readable) _ (c.quotient_of-v.ensures ∙ ap₂ directed_by c.operands-o.ensures.factor c.operands-o.ensures.significand)).0
 
 pub place-requires : goal.place-requires
 place-requires c =
     let a = c.args.self in
     let r = ready _ _ a.readable in
-    let is = c.quotient_of-v.ensures ∙ ap₂ directed_by c.operands.ensures.factor c.operands.ensures.significand in
+    let is = c.quotient_of-v.ensures ∙ ap₂ directed_by c.operands-o.ensures.factor c.operands-o.ensures.significand in
     (put a.factor a.bits r _ is, v_bits a.factor a.bits r _ is)
 
 pub returns : goal.returns
 returns c =
     let a = c.args.self in
-    c.place.ensures ∙ placed_is a.factor a.bits (ready _ _ a.readable) _ (c.quotient_of-v.ensures ∙ ap₂ directed_by c.operands.ensures.factor c.operands.ensures.significand)
+    c.place.ensures ∙ placed_is a.factor a.bits (ready _ _ a.readable) _ (c.quotient_of-v.ensures ∙ ap₂ directed_by c.operands-o.ensures.factor c.operands-o.ensures.significand)
