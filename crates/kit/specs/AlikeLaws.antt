@@ -1,4 +1,4 @@
--- Laws: two factors are alike exactly if they are described alike, and of a kit's that none are; and as code tests it, by their descriptions. Assumes nothing.
+-- Laws: two factors are alike exactly if they are described alike, and of a kit's that none are; and as code tests it, the lower ends first, then the upper ones, then their descriptions. Assumes nothing.
 use Rattle.std.specs.Prelude.{◌≡◌, refl, Bool, false, ◌&&◌, ◌≢◌, ◌↔◌, List, eqb, ℤ}
 use Rattle.std.proofs.Common.{sym, ap, ◌∙◌, subst, true≢false, int_eq}
 use Rattle.std.proofs.Math.Bool.{true, and-false, not-eq-not}
@@ -74,10 +74,21 @@ module _ (f g : Factor) where
   unfolding alike
   alike_rest {scales} l s = rw (l, s)
 
-  -- where they are not, the factors are not alike
+  -- where they are not, or the upper ends are not, the factors are not alike
   pub alike_apart : eqb f.lower g.lower ≡ false → false ≡ alike f g
   unfolding alike
   alike_apart l = rw (l, and-false (same_z f.applied.scale g.applied.scale), and-false (eqb f.precision g.precision), and-false (beq f.minus g.minus))
+
+  pub alike_apart_above : eqb f.upper g.upper ≡ false → false ≡ alike f g
+  unfolding alike
+  alike_apart_above u =
+      rw (
+        u,
+        and-false (eqb f.lower g.lower),
+        and-false (same_z f.applied.scale g.applied.scale),
+        and-false (eqb f.precision g.precision),
+        and-false (beq f.minus g.minus),
+      )
 
 -- ---- of a list of factors
 

@@ -60,11 +60,11 @@ pub enum Verdict {
     Unfinished,
 }
 
-// Whether two factors are alike in sign, precision, scale and ends.
+// Whether two factors are alike in sign, precision, scale and ends. The ends, and of these the lower ones, are read first: they differ most often.
 fn is_alike(f: Factor, g: Factor) -> bool
     ensures { result ≡ alike f g }
 {
-    Description::from(f) == Description::from(g)
+    f.lower == g.lower && (f.upper == g.upper && Description::from(f) == Description::from(g))
 }
 
 // Whether 31 refuses one of a list of factors.
