@@ -4,16 +4,16 @@
 
 ghost use Rattle.std.specs.Prelude.{◌≡◌, ◌+◌, ◌≤◌, length, take, drop, [], ◌∷◌};
 ghost use Rattle.std.proofs.lemmas.List.Edits.{sets};
-ghost use Rattle.marks.specs.Answers.{each};
+ghost use Rattle.marks.specs.Answers.{First};
 ghost use Rattle.product.specs.declared.Device.{Device};
 ghost use Rattle.reading.specs.Reading.{outcome_of as readingSays};
 ghost use Rattle.sweep.specs.Answers.{view_of};
 ghost use Rattle.kit.specs.Answers.{kit_of, view_of as kitView};
 ghost use Rattle.exports.specs.declared.Failure.TheVariants.{Refused};
-ghost use Rattle.exports.specs.Failures.{failure_number, told, returned};
+ghost use Rattle.exports.specs.Failures.{failure_number, failure_of, told, returned};
 ghost use Rattle.exports.specs.Words.{flag_word, flag_from, factor_from, factor_words, damaged, state_of, state_words};
 ghost use Rattle.exports.specs.Answers.{taken, leaves, set_up_to, mark_number, direction_number, product_words, quotient_words, reading_words, reading_answer, multiply_to, read_to, tally_words, tally_to, divide_to, divide_reading_to, new_sweep_to, sweep_to};
-ghost use Rattle.exports.specs.Kits.{any_damaged, kit_from, kit_state_of, kit_taken, form_to, new_kit_to, kit_sweep_to, told_number, clean_to};
+ghost use Rattle.exports.specs.Kits.{any_damaged, kit_from, kit_state_of, kit_unfit, form_to, new_kit_to, kit_sweep_to, told_number, clean_to};
 
 use factor::{Applied, Description, Factor, Parts};
 use kit::{Kit, KitState, Verdict};
@@ -470,7 +470,8 @@ pub fn gusnalip_sweep(
     returned(sweep_to(state, cap, list, free, counts))
 }
 
-// A kit from its words: the number, and every place, be it counted or not.
+// A kit from its words: the number, and every place, be it counted or not. Kept apart, since each caller would else hold the kit, 6 KB, twice on its stack.
+#[inline(never)]
 fn kit_from(words: &[u64]) -> Kit
     requires { 961 ≤ length words.now }
     ensures { kit_of result ≡ kit_from words.now }
@@ -489,10 +490,10 @@ fn any_damaged(words: &[u64], count: usize) -> bool
     (0..count).any(|i| is_damaged(&words[1 + FACTOR_WORDS * i..]))
 }
 
-// The kit in a caller's words, of which so many are due, for an answer that needs so much room: 255 where either is too short, 42 by the number, 31 where words of a factor that is counted are damaged.
-fn take_kit(words: &[u64], due: usize, room: usize, needed: usize) -> Result<Kit, Failure>
+// Whether a kit in a caller's words, of which so many are due, is taken, for an answer that needs so much room: 255 where either is too short, 42 by the number, 31 where words of a factor that is counted are damaged. It only judges: the kit, 6 KB, would be copied once more if it were handed back in the result.
+fn take_kit(words: &[u64], due: usize, room: usize, needed: usize) -> Result<(), Failure>
     requires { 961 ≤ due }
-    ensures { each kit_of (told result) ≡ kit_taken words.now due room needed }
+    ensures { First (kit_unfit words.now due room needed) (failure_of result) }
 {
     if words.len() < due || room < needed {
         return Err(Failure::TooShort);
@@ -504,7 +505,7 @@ fn take_kit(words: &[u64], due: usize, room: usize, needed: usize) -> Result<Kit
     if any_damaged(words, count) {
         return Err(Failure::Refused(Refusal::FactorDamaged));
     }
-    Ok(kit_from(words))
+    Ok(())
 }
 
 // A kit sweep's state over a kit, from the words behind the kit's.
@@ -520,6 +521,16 @@ fn kit_state_of(kit: Kit, words: &[u64]) -> KitState
     }
 }
 
+// Writes the words of a kit as they were given. A loop, since the compiler makes memmove of `copy_from_slice` here, which the archive for C then needs from outside.
+fn copy_kit(kit: &[u64], out: &mut [u64])
+    requires { (961 ≤ length kit.now) × (961 ≤ length out.old) }
+    ensures { out.new ≡ sets out.old 0 (take 961 kit.now) }
+{
+    for i in 0..KIT_WORDS {
+        out[i] = kit[i];
+    }
+}
+
 // The words behind a kit's: place, next significand and finished mark.
 fn words_behind(s: KitState) -> [u64; 3]
     ensures { result ≡ s.place ∷ s.next ∷ flag_word s.finished ∷ [] }
@@ -531,8 +542,8 @@ fn words_behind(s: KitState) -> [u64; 3]
 fn form_to(kit: &[u64]) -> Result<u32, Failure>
     ensures { returned result ≡ form_to kit.now }
 {
-    let k = take_kit(kit, KIT_WORDS, 0, 0)?;
-    kit::kit_check(k)?;
+    take_kit(kit, KIT_WORDS, 0, 0)?;
+    kit::kit_check(kit_from(kit))?;
     Ok(0)
 }
 
@@ -541,9 +552,9 @@ fn new_kit_to(kit: &[u64], out: &mut [u64]) -> Result<u32, Failure>
     ensures value { returned result ≡ (new_kit_to kit.now out.old).number }
     ensures out_after { out.new ≡ leaves (new_kit_to kit.now out.old) out.old }
 {
-    let k = take_kit(kit, KIT_WORDS, out.len(), KIT_STATE_WORDS)?;
-    let s = kit::new_state(k)?;
-    put(&kit[..KIT_WORDS], out, 0);
+    take_kit(kit, KIT_WORDS, out.len(), KIT_STATE_WORDS)?;
+    let s = kit::new_state(kit_from(kit))?;
+    copy_kit(kit, out);
     put(&words_behind(s), out, KIT_WORDS);
     Ok(0)
 }
@@ -561,8 +572,8 @@ fn kit_sweep_to(
     ensures list_after { list.new ≡ (kit_sweep_to state.old cap list.old free counts.old).list }
     ensures counts_after { counts.new ≡ sets counts.old 0 (kit_sweep_to state.old cap list.old free counts.old).counts }
 {
-    let k = take_kit(state, KIT_STATE_WORDS, counts.len(), COUNT_WORDS)?;
-    let r = kit::kit_call(kit_state_of(k, state), cap, list, free);
+    take_kit(state, KIT_STATE_WORDS, counts.len(), COUNT_WORDS)?;
+    let r = kit::kit_call(kit_state_of(kit_from(state), state), cap, list, free);
     let c = r.answer?;
     put(&words_behind(r.state), state, KIT_WORDS);
     put(&[c.trials, c.rounds, c.place as u64], counts, 0);
@@ -584,8 +595,8 @@ fn told_number(verdict: Verdict) -> u32
 fn clean_to(state: &[u64], entries: u64) -> Result<u32, Failure>
     ensures { returned result ≡ clean_to state.now entries }
 {
-    let k = take_kit(state, KIT_STATE_WORDS, 0, 0)?;
-    let verdict = kit::kit_verdict(kit_state_of(k, state), entries)?;
+    take_kit(state, KIT_STATE_WORDS, 0, 0)?;
+    let verdict = kit::kit_verdict(kit_state_of(kit_from(state), state), entries)?;
     Ok(told_number(verdict))
 }
 
