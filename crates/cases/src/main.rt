@@ -77,7 +77,7 @@ enum Line {
 }
 
 // What of a line is not read yet.
-#[derive(Drop)]
+#[derive(Clone, Copy)]
 struct Fields<'a> {
     rest: &'a [u8],
 }
@@ -193,13 +193,14 @@ impl Line {
 }
 
 // ---- answers
-// A field: a blank, then a number of `width` digits in a base.
+// A field: a blank, then a number of `width` digits in a base. Each is a write of its own, so that of a write that fails just one of them is lost.
 fn put_number(width: usize, base: u64, v: u64)
     requires { (width ≤ 16) × (0 < base) × (base ≤ 16) }
 {
-    let mut text = [b' '; 17];
-    frame::put_digits(&mut text, 1, width, base, v);
-    io::write_all(1, &text[..width + 1]);
+    io::write_all(1, b" ");
+    let mut text = [0; 16];
+    frame::put_digits(&mut text, 0, width, base, v);
+    io::write_all(1, &text[..width]);
 }
 
 fn put_field(width: usize, v: u64)
@@ -249,7 +250,7 @@ fn put_found(found: Found) {
 fn next(f: SoundFactor, half: Half, start: u64) -> Found
     requires { start ≤ half_word }
 {
-    let windows = suspects::windows_of(f);
+    let windows = suspects::windows_of(f.factor);
     match half {
         Half::Low => suspects::next(windows.low, start),
         Half::High => suspects::next(windows.high, start),
@@ -268,7 +269,7 @@ fn change(words: &mut [u64], at: usize, value: u64) {
 
 // ---- the machine
 // What lines change: the state, which begins with the factor's words, the list, and the kit's state.
-#[derive(Drop)]
+#[derive(Clone, Copy)]
 struct Machine {
     state: [u64; STATE_WORDS],
     list: [u32; LIST_WORDS],
