@@ -4,6 +4,7 @@
 
 ghost use Rattle.std.specs.Prelude.{◌≡◌, ◌+◌, ◌≤◌, length, take, drop, [], ◌∷◌};
 ghost use Rattle.std.proofs.lemmas.List.Edits.{sets};
+ghost use Rattle.words.specs.Words.{signed, unsigned};
 ghost use Rattle.marks.specs.Answers.{First};
 ghost use Rattle.product.specs.declared.Device.{Device};
 ghost use Rattle.reading.specs.Reading.{outcome_of as readingSays};
@@ -101,6 +102,13 @@ fn put<T: Copy>(words: &[T], out: &mut [T], at: usize)
     out[at..at + words.len()].copy_from_slice(words);
 }
 
+// A low significand from its word, in two's complement of 64 bits.
+fn low_from(word: u64) -> i64
+    ensures { result ≡ signed 64 word }
+{
+    word.cast_signed()
+}
+
 // A factor from its words; the sign is minus where its word is not 0.
 fn factor_from(words: &[u64]) -> Factor
     requires { 10 ≤ length words.now }
@@ -113,7 +121,7 @@ fn factor_from(words: &[u64]) -> Factor
         upper: words[3],
         parts: Parts {
             high: words[4],
-            low: words[5].cast_signed(),
+            low: low_from(words[5]),
             places: words::low_half(words[6]),
         },
         applied: Applied {
@@ -150,6 +158,13 @@ pub fn take_factor(words: &[u64], due: usize, room: usize, needed: usize) -> Res
     Ok(factor_from(words))
 }
 
+// The word of a scale, in two's complement of 32 bits.
+fn scale_word(scale: i32) -> u64
+    ensures { result ≡ unsigned 32 scale }
+{
+    u64::from(scale.cast_unsigned())
+}
+
 // The words of a factor.
 fn factor_words(f: Factor) -> [u64; 10]
     ensures { result ≡ factor_words f }
@@ -164,7 +179,7 @@ fn factor_words(f: Factor) -> [u64; 10]
         u64::from(f.parts.places),
         u64::from(floats::bits_of(f.applied.high)),
         u64::from(floats::bits_of(f.applied.low)),
-        u64::from(f.applied.scale.cast_unsigned()),
+        scale_word(f.applied.scale),
     ]
 }
 

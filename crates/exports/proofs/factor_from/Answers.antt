@@ -9,20 +9,19 @@ pub returns : goal.returns
 unfolding factor_from
 returns c =
     let ws = c.args.words.now in
-    let low : to_z w64 (of_z w64 c.cast_signed.result) ≡ c.cast_signed.result = search rules in
-    let scale : to_z w32 (of_z w32 c.cast_signed-2.result) ≡ c.cast_signed-2.result = search rules in
+    let low : to_z w64 (of_z w64 c.low_from.result) ≡ c.low_from.result = search rules in
+    let scale : to_z w32 (of_z w32 c.cast_signed.result) ≡ c.cast_signed.result = search rules in
     rw (
       low,
       scale,
       c.low_half.ensures,
-      c.cast_signed.ensures,
-      cast_signed_is w64 (word ws 5),
+      c.low_from.ensures,
       c.low_half-2.ensures,
       c.float_from.ensures,
       c.low_half-3.ensures,
       c.float_from-2.ensures,
       c.low_half-4.ensures,
-      c.cast_signed-2.ensures,
+      c.cast_signed.ensures,
       c.low_half-5.ensures,
       cast_signed_is w32 (low32 (word ws 9)),
     )

@@ -21,4 +21,4 @@ returns c =
     c.from-3.ensures
     (c.from-4.ensures ∙ c.bits_of.ensures)
     (c.from-5.ensures ∙ c.bits_of-2.ensures)
-    (rw (c.from-6.ensures, c.cast_unsigned-2.ensures, scale) (cast_unsigned_is w32 f.applied.scale))
+    (rw (c.scale_word.ensures, scale))
