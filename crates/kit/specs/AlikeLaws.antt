@@ -1,4 +1,4 @@
--- Laws: two factors are alike exactly if they are described alike, and of a kit's that none are; and as code tests it, the lower ends first, then the upper ones, then their descriptions. Assumes nothing.
+-- Laws: two factors are alike exactly if they are described alike, and of a kit's that none are; and as code tests it, the lower ends first, then upper ends and scales, then their descriptions. Assumes nothing.
 use Rattle.std.specs.Prelude.{◌≡◌, refl, Bool, false, ◌&&◌, ◌≢◌, ◌↔◌, List, eqb, ℤ}
 use Rattle.std.proofs.Common.{sym, ap, ◌∙◌, subst, true≢false, int_eq}
 use Rattle.std.proofs.Math.Bool.{true, and-false, not-eq-not}
@@ -74,21 +74,18 @@ module _ (f g : Factor) where
   unfolding alike
   alike_rest {scales} l s = rw (l, s)
 
-  -- where they are not, or the upper ends are not, the factors are not alike
+  -- where they are not, the factors are not alike
   pub alike_apart : eqb f.lower g.lower ≡ false → false ≡ alike f g
   unfolding alike
   alike_apart l = rw (l, and-false (same_z f.applied.scale g.applied.scale), and-false (eqb f.precision g.precision), and-false (beq f.minus g.minus))
 
-  pub alike_apart_above : eqb f.upper g.upper ≡ false → false ≡ alike f g
-  unfolding alike
-  alike_apart_above u =
-      rw (
-        u,
-        and-false (eqb f.lower g.lower),
-        and-false (same_z f.applied.scale g.applied.scale),
-        and-false (eqb f.precision g.precision),
-        and-false (beq f.minus g.minus),
-      )
+  -- nor are they where any test fails that factors described alike pass
+  pub alike_unless : {passed : Bool} → passed ≡ false → (described f ≡ described g → passed ≡ true) → false ≡ alike f g
+  alike_unless {passed} failed passes = decided (alike f g) (λ e. true≢false (sym (passes ((alike_described f g).0 e)) ∙ failed))
+    where
+      decided : (t : Bool) → (t ≡ true → ⊥) → false ≡ t
+      decided true h = absurd (h refl)
+      decided false h = refl
 
 -- ---- of a list of factors
 

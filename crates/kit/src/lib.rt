@@ -60,11 +60,13 @@ pub enum Verdict {
     Unfinished,
 }
 
-// Whether two factors are alike in sign, precision, scale and ends. The ends, and of these the lower ones, are read first: they differ most often.
+// Whether two factors are alike in sign, precision, scale and ends. What differs most often is tested first: the lower ends, and then, both at once, the upper ends and the scales.
 fn is_alike(f: Factor, g: Factor) -> bool
     ensures { result ≡ alike f g }
 {
-    f.lower == g.lower && (f.upper == g.upper && Description::from(f) == Description::from(g))
+    f.lower == g.lower
+        && ((f.upper == g.upper) & (f.applied.scale == g.applied.scale)
+            && Description::from(f) == Description::from(g))
 }
 
 // Whether 31 refuses one of a list of factors.
