@@ -1,4 +1,4 @@
--- Laws: two factors are alike exactly if they are described alike, and of a kit's that none are; and as code tests it, the lower ends first, then upper ends and scales, then their descriptions. Assumes nothing.
+-- Laws: two factors are alike exactly if they are described alike, and of a kit's that none are; and as code tests it, the lower ends first, then precisions, scales and upper ends, then their descriptions. Assumes nothing.
 use Rattle.std.specs.Prelude.{◌≡◌, refl, Bool, false, ◌&&◌, ◌≢◌, ◌↔◌, List, eqb, ℤ}
 use Rattle.std.proofs.Common.{sym, ap, ◌∙◌, subst, true≢false, int_eq}
 use Rattle.std.proofs.Math.Bool.{true, and-false, not-eq-not}

@@ -60,12 +60,13 @@ pub enum Verdict {
     Unfinished,
 }
 
-// Whether two factors are alike in sign, precision, scale and ends. What differs most often is tested first: the lower ends, and then, both at once, the upper ends and the scales.
+// Whether two factors are alike in sign, precision, scale and ends. Their descriptions tell; what differs most often is tested before: the lower ends, and then precisions, scales and upper ends.
 fn is_alike(f: Factor, g: Factor) -> bool
     ensures { result ≡ alike f g }
 {
     f.lower == g.lower
-        && ((f.upper == g.upper) & (f.applied.scale == g.applied.scale)
+        && ((f.precision == g.precision)
+            & ((f.applied.scale == g.applied.scale) & (f.upper == g.upper))
             && Description::from(f) == Description::from(g))
 }
 

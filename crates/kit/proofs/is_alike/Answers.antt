@@ -1,4 +1,4 @@
--- Where lower end, upper end and scale are the same the descriptions are compared; where one of them is not, the factors are not alike.
+-- Where lower end, precision, scale and upper end are the same the descriptions are compared; where one of them is not, the factors are not alike.
 use Rattle.std.proofs.Common.{◌≡◌, ap, ◌∙◌, ne_eqb, w32, of_z}
 use borrow.Author.Tests.{eq-eqb}
 use Rattle.factor.specs.declared.Description.{Description}
@@ -14,8 +14,9 @@ returns-else-f-g-2 c =
     let g = c.args.g in
     c.if-f-g-2.false
     ∙ alike_unless f g c.if-f-g-2.false (λ e. rw (
-      eq-eqb f.upper g.upper (ap (λ (d : Description). d.upper) e),
+      eq-eqb f.precision g.precision (ap (λ (d : Description). d.precision) e),
       eq-eqb (of_z w32 f.applied.scale) (of_z w32 g.applied.scale) (ap (λ (d : Description). of_z w32 d.scale) e),
+      eq-eqb f.upper g.upper (ap (λ (d : Description). d.upper) e),
     ))
 
 pub returns-else-f-g : goal.returns-else-f-g
